@@ -1,0 +1,18 @@
+-- The texts of client operations.
+use Rattle.std.specs.Prelude.{ℕ, List, [], ◌∷◌, ◌++◌, Option, Some, None, codes}
+use Rattle.std.specs.Fmt.{decimal}
+use Rattle.nats_wire.specs.declared.op.ClientOp.{ClientOp}
+use Rattle.nats_wire.specs.declared.op.ClientOp.TheVariants.{Subscribe}
+
+-- the end of each line
+abbrev pub crlf : List ℕ
+crlf = 13 ∷ 10 ∷ []
+
+abbrev pub word_and_space : Option (List ℕ) → List ℕ
+word_and_space None = []
+word_and_space (Some word) = word ++ codes " "
+
+-- what the client writes for an operation: `SUB s sid`, or `SUB s g sid` in a queue group
+abbrev pub command_text : ClientOp → List ℕ
+command_text (Subscribe sid subject queue_group) =
+    codes "SUB " ++ subject ++ codes " " ++ word_and_space queue_group ++ decimal sid ++ crlf

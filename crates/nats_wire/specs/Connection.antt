@@ -1,0 +1,27 @@
+-- What a connection keeps, and what its calls make of it.
+use Rattle.std.specs.Prelude.{◌≡◌, ℕ, List, [], ◌++◌, drop, Option, Some, None, Result, Ok, Err}
+use Rattle.nats_wire.specs.declared.op.ServerOp.{ServerOp}
+use Rattle.nats_wire.specs.declared.op.ClientOp.{ClientOp}
+use Rattle.nats_wire.specs.declared.op.WireError.{WireError}
+use Rattle.nats_wire.specs.declared.op.WireError.TheVariants as refused
+use Rattle.nats_wire.specs.declared.connection.Peeked.{Peeked}
+use Rattle.nats_wire.specs.Operations.{Front, unfinished, got, fault, op_view, without_front}
+use Rattle.nats_wire.specs.Commands.{command_text}
+use Rattle.nats_wire.specs.Wire.{Wire}
+
+-- a look at the front of the unread bytes tells what stands there, or memory was wanting
+abbrev pub Looks : Front → Result (Option Peeked) WireError → Type 0
+Looks (got operation n) (Ok (Some peeked)) = (op_view peeked.op ≡ operation) × (peeked.len ≡ n)
+Looks unfinished (Ok None) = Unit {0}
+Looks (fault n) (Err refused.ReadFault) = Unit {0}
+Looks front (Err refused.NoMemory) = Unit {0}
+Looks front result = ⊥
+
+-- a read answers what stands at the front of the unread bytes and takes exactly its bytes, or memory was wanting and
+-- it takes none
+abbrev pub Reads : Front → Wire → Result (Option ServerOp) WireError → Wire → Type 0
+Reads (got operation n) old (Ok (Some op)) new = (op_view op ≡ operation) × (new ≡ record old { unread = drop n old.unread })
+Reads unfinished old (Ok None) new = new ≡ old
+Reads (fault n) old (Err refused.ReadFault) new = new ≡ record old { unread = drop n old.unread }
+Reads front old (Err refused.NoMemory) new = new ≡ old
+Reads front old result new = ⊥

@@ -1,0 +1,5 @@
+pub mod Commands
+pub mod Connection
+pub mod Info
+pub mod Operations
+pub mod Wire

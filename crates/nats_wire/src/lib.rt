@@ -1,0 +1,13 @@
+//! The wire of the NATS protocol: bytes to server operations, client operations to bytes.
+#![tactic(auto)]
+
+mod connection;
+mod info;
+mod message;
+mod op;
+
+pub use connection::{Connection, Peeked, WRITE_BUF_LIMIT};
+pub use info::ServerInfo;
+pub use message::{Message, OutboundMessage};
+pub use nats_names::{Bytes, NoMemory, Seq, Subject, Text};
+pub use op::{ClientOp, ServerOp, WireError};

@@ -1,0 +1,30 @@
+//! Operations: what a server sends, and what a client sends.
+use crate::message::Message;
+use nats_names::Subject;
+
+/// An operation read from the server. The crate's `ServerOp`.
+#[derive(Drop)]
+pub enum ServerOp {
+    /// A message delivered to the subscription `sid`.
+    Message { sid: u64, message: Message },
+}
+
+/// An operation for the server. The crate's `ClientOp`.
+#[derive(Drop)]
+pub enum ClientOp {
+    /// Asks for the messages of `subject`, under the number `sid`, shared with the others of the queue group.
+    Subscribe {
+        sid: u64,
+        subject: Subject,
+        queue_group: Option<Subject>,
+    },
+}
+
+/// Why no operation was read.
+#[derive(Clone, Copy, Debug, PartialEq, Eq)]
+pub enum WireError {
+    /// The bytes at the front are no operation.
+    ReadFault,
+    /// Want of memory: nothing was read.
+    NoMemory,
+}
