@@ -4,13 +4,13 @@
 
 mod call;
 mod config;
-mod run;
+mod play;
 mod transcript;
 mod turn;
 
 pub use call::{Call, CallReply, TakeReply};
 pub use config::Config;
 pub use nats_wire::{Bytes, Event, Message, NoMemory, Seq, ServerInfo, Subject, Token};
-pub use run::run;
+pub use play::run;
 pub use transcript::{LinkRow, LinkWord, RunError, SubRow, Transcript};
 pub use turn::{Due, Turn};
