@@ -1,0 +1,3 @@
+pub mod Refines
+pub mod Tables
+pub mod Words

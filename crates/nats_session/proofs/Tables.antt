@@ -1,0 +1,108 @@
+-- A table of numbered things, each told by its number: the table after one of them changed, and after one more came.
+use Rattle.std.proofs.Common.{◌≡◌, ℕ, zero, suc, ◌+◌, ◌-◌, ◌<◌, ◌≤◌, Bool, true, false, cond, eqb, ltb, ◌&&◌, List, [], ◌∷◌, ◌++◌, length, map, Option, Some, None, refl, sym, ◌∙◌, ap, arith}
+use Rattle.std.specs.Prelude.{slice_get}
+use Rattle.std.proofs.lemmas.List.{length-map, map-append}
+use Rattle.std.proofs.lemmas.Bool.{ne_eqb, eq-eqb, ltb-false}
+use Rattle.nats_session.specs.History.{count_from}
+use Rattle.nats_session.specs.Parts.{at_index, at_number, item_of}
+
+pub same_cons : {A : Type 0} (x y : A) (xs ys : List A) → x ≡ y → xs ≡ ys → x ∷ xs ≡ y ∷ ys
+same_cons x y xs ys e d = cc
+
+pub length-count_from : (first n : ℕ) → length (count_from first n) ≡ n
+length-count_from first zero = refl
+length-count_from first (suc n) = ap suc (length-count_from (suc first) n)
+
+pub count_from_last : (first n : ℕ) → count_from first (suc n) ≡ count_from first n ++ (first + n) ∷ []
+count_from_last first zero = let e : first ≡ first + 0 = omega arith in ap (λ k. k ∷ []) e
+count_from_last first (suc n) =
+    let e : suc first + n ≡ first + suc n = omega arith in
+    ap (λ xs. first ∷ xs) (count_from_last (suc first) n ∙ ap (λ k. count_from (suc first) n ++ k ∷ []) e)
+
+pub length-at_index : {A : Type 0} (i : ℕ) (f : A → A) (xs : List A) → length (at_index i f xs) ≡ length xs
+length-at_index i f [] = refl
+length-at_index zero f (x ∷ xs) = refl
+length-at_index (suc i) f (x ∷ xs) = ap suc (length-at_index i f xs)
+
+pub length-at_number : {A : Type 0} (k : ℕ) (f : A → A) (xs : List A) → length (at_number k f xs) ≡ length xs
+length-at_number zero f xs = refl
+length-at_number (suc i) f xs = length-at_index i f xs
+
+-- past the end nothing changes
+pub at_index_past : {A : Type 0} (i : ℕ) (f : A → A) (xs : List A) → length xs ≤ i → at_index i f xs ≡ xs
+at_index_past i f [] past = refl
+at_index_past zero f (x ∷ xs) past = absurd (omega arith)
+at_index_past (suc i) f (x ∷ xs) past = ap (λ ys. x ∷ ys) (at_index_past i f xs (omega arith))
+
+-- ---- the numbers that a change leaves alone
+
+pub above : {A B : Type 0} (view : A → B) (new old : ℕ → A) (n first k : ℕ) → k < first
+  → map (λ s. view (cond (eqb s k) (new s) (old s))) (count_from first n) ≡ map (λ s. view (old s)) (count_from first n)
+above view new old zero first k less = refl
+above view new old (suc n) first k less =
+    same_cons _ _ _ _ (ap (λ b. view (cond b (new first) (old first))) (ne_eqb first k (λ e. omega arith))) (above view new old n (suc first) k (omega arith))
+
+pub below : {A B : Type 0} (view : A → B) (new old : ℕ → A) (n first k : ℕ) → first + n ≤ k
+  → map (λ s. view (cond (eqb s k) (new s) (old s))) (count_from first n) ≡ map (λ s. view (old s)) (count_from first n)
+below view new old zero first k less = refl
+below view new old (suc n) first k less =
+    same_cons _ _ _ _ (ap (λ b. view (cond b (new first) (old first))) (ne_eqb first k (λ e. omega arith))) (below view new old n (suc first) k (omega arith))
+
+-- ---- the table after the thing of one number changed
+
+numbered_from : {A B : Type 0} (view : A → B) (f : B → B) (new old : ℕ → A) → ((s : ℕ) → view (new s) ≡ f (view (old s))) → (n i first k : ℕ) → k ≡ first + i
+  → map (λ s. view (cond (eqb s k) (new s) (old s))) (count_from first n) ≡ at_index i f (map (λ s. view (old s)) (count_from first n))
+numbered_from view f new old changed zero i first k e = refl
+numbered_from view f new old changed (suc n) zero first k e =
+    same_cons _ _ _ _ (ap (λ b. view (cond b (new first) (old first))) (eq-eqb first k (omega arith)) ∙ changed first) (above view new old n (suc first) k (omega arith))
+numbered_from view f new old changed (suc n) (suc i) first k e =
+    same_cons _ _ _ _ (ap (λ b. view (cond b (new first) (old first))) (ne_eqb first k (λ d. omega arith))) (numbered_from view f new old changed n i (suc first) k (omega arith))
+
+pub numbered : {A B : Type 0} (view : A → B) (f : B → B) (new old : ℕ → A) → ((s : ℕ) → view (new s) ≡ f (view (old s))) → (n k : ℕ)
+  → map (λ s. view (cond (eqb s k) (new s) (old s))) (count_from 1 n) ≡ at_number k f (map (λ s. view (old s)) (count_from 1 n))
+numbered view f new old changed n zero = above view new old n 1 zero (omega arith)
+numbered view f new old changed n (suc i) = numbered_from view f new old changed n i 1 (suc i) (omega arith)
+
+-- the same under a condition that does not hang on the number, and that holds where there is such a number
+pub numbered_if : {A B : Type 0} (view : A → B) (f : B → B) (new old : ℕ → A) → ((s : ℕ) → view (new s) ≡ f (view (old s))) → (n i : ℕ) (b : Bool) → b ≡ ltb i n
+  → map (λ s. view (cond (b && eqb s (suc i)) (new s) (old s))) (count_from 1 n) ≡ at_number (suc i) f (map (λ s. view (old s)) (count_from 1 n))
+numbered_if view f new old changed n i true e = numbered view f new old changed n (suc i)
+numbered_if view f new old changed n i false e =
+    let past = ltb-false i n (sym e) in
+    sym (at_index_past i f (map (λ s. view (old s)) (count_from 1 n)) (rw (length-map (count_from 1 n) (λ s. view (old s)), length-count_from 1 n) past))
+
+-- ---- the table after one more thing came, of the next number
+
+pub one_more : {A B : Type 0} (view : A → B) (new old : ℕ → A) (n : ℕ) (last : B) → view (new (suc n)) ≡ last
+  → map (λ s. view (cond (eqb s (suc n)) (new s) (old s))) (count_from 1 (suc n)) ≡ map (λ s. view (old s)) (count_from 1 n) ++ last ∷ []
+one_more view new old n last e =
+    let told = λ (s : ℕ). view (cond (eqb s (suc n)) (new s) (old s)) in
+    let next : 1 + n ≡ suc n = omega arith in
+    let here : told (1 + n) ≡ last =
+          ap told next ∙ (ap (λ b. view (cond b (new (suc n)) (old (suc n)))) (eq-eqb (suc n) (suc n) refl) ∙ e)
+    in
+    ap (map told) (count_from_last 1 n) ∙ (map-append told (count_from 1 n) ((1 + n) ∷ []) ∙ (ap (λ xs. xs ++ told (1 + n) ∷ []) (below view new old n 1 (suc n) (omega arith)) ∙ ap (λ x. map (λ s. view (old s)) (count_from 1 n) ++ x ∷ []) here))
+
+-- ---- an item of the table
+
+item_from : {B : Type 0} (g : ℕ → B) (n i first : ℕ) → i < n → slice_get (map g (count_from first n)) i ≡ Some (g (first + i))
+item_from g zero i first less = absurd (omega arith)
+item_from g (suc n) zero first less = let e : first ≡ first + 0 = omega arith in ap (λ k. Some (g k)) e
+item_from g (suc n) (suc i) first less =
+    let e : suc first + i ≡ first + suc i = omega arith in
+    item_from g n i (suc first) (omega arith) ∙ ap (λ k. Some (g k)) e
+
+none_from : {B : Type 0} (g : ℕ → B) (n i first : ℕ) → n ≤ i → slice_get (map g (count_from first n)) i ≡ None
+none_from g zero i first past = refl
+none_from g (suc n) zero first past = absurd (omega arith)
+none_from g (suc n) (suc i) first past = none_from g n i (suc first) (omega arith)
+
+pub item_there : {B : Type 0} (g : ℕ → B) (n k : ℕ) → 0 < k → k ≤ n → item_of k (map g (count_from 1 n)) ≡ Some (g k)
+item_there g n zero low high = absurd (omega arith)
+item_there g n (suc i) low high =
+    let e : 1 + i ≡ suc i = omega arith in
+    item_from g n i 1 (omega arith) ∙ ap (λ j. Some (g j)) e
+
+pub item_missing : {B : Type 0} (g : ℕ → B) (n k : ℕ) → n < k → item_of k (map g (count_from 1 n)) ≡ None
+item_missing g n zero past = absurd (omega arith)
+item_missing g n (suc i) past = none_from g n i 1 (omega arith)
