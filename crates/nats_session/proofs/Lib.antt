@@ -1,3 +1,4 @@
+pub mod Ends
 pub mod Refines
 pub mod Tables
 pub mod Words

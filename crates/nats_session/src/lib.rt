@@ -4,12 +4,16 @@
 
 mod call;
 mod config;
+mod handler;
 mod play;
+mod queue;
+mod subs;
 mod transcript;
 mod turn;
 
 pub use call::{Call, CallReply, TakeReply};
 pub use config::Config;
+pub use handler::ConnectionHandler;
 pub use nats_wire::{Bytes, Event, Message, NoMemory, Seq, ServerInfo, Subject, Token};
 pub use play::run;
 pub use transcript::{LinkRow, LinkWord, RunError, SubRow, Transcript};

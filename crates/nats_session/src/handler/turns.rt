@@ -1,0 +1,1 @@
+//! The own steps of turns.
