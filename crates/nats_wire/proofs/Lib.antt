@@ -1,2 +1,5 @@
 pub mod Fronts
 mod Infos
+mod Lines
+mod Numbers
+mod Pieces

@@ -1,7 +1,9 @@
 //! The wire of the NATS protocol: bytes to server operations, client operations to bytes.
 #![tactic(auto)]
 
+mod command;
 mod connection;
+mod decode;
 mod info;
 mod message;
 mod op;
