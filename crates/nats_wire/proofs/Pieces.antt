@@ -2,7 +2,8 @@
 use Rattle.std.proofs.Common.{◌≡◌, ℕ, zero, suc, ◌+◌, ◌≤◌, Bool, true, false, not, List, [], ◌∷◌, length, Option, Some, None, refl, ap, sym, ◌∙◌, arith, rules}
 use Rattle.std.specs.Prelude.{◌==◌, if◌then◌else◌}
 use Rattle.std.specs.List.{filter, slice_split, onto_first}
-use Rattle.std.specs.Str.{is_utf8}
+use Rattle.std.specs.Str.{is_utf8, IsUtf8}
+use Rattle.std.proofs.lemmas.Str.{IsUtf8-from_is_utf8, is_utf8-from_IsUtf8}
 use Rattle.nats_wire.specs.Operations.{Head, number_of, pieces_of, head_with, head_of_pieces, head_of, bytes_of}
 
 -- the bytes of some texts
@@ -59,3 +60,19 @@ head_short_by false text head is = cc
 -- the subject and the reply of a message are no longer than its line
 pub head_short : (text : List ℕ) (head : Head) → head_of text ≡ Some head → length head.subject + bytes_of head.reply ≤ length text
 head_short text head is = head_short_by (is_utf8 text) text head is
+
+utf8_step : (test : Bool) (text : List ℕ) → test ≡ true → (if test then head_of_pieces (pieces_of text) else None) ≡ head_of_pieces (pieces_of text)
+utf8_step true text is = refl
+utf8_step false text is = cc
+
+-- what a line says where it is text
+pub head_of_text : (text : List ℕ) → IsUtf8 text → head_of text ≡ head_of_pieces (pieces_of text)
+head_of_text text utf8 = utf8_step (is_utf8 text) text (is_utf8-from_IsUtf8 text utf8)
+
+other_step : (test : Bool) (text : List ℕ) → is_utf8 text ≡ test → ¬ (IsUtf8 text) → None ≡ (if test then head_of_pieces (pieces_of text) else None)
+other_step true text is never = absurd (never (IsUtf8-from_is_utf8 text is))
+other_step false text is never = refl
+
+-- and where it is none
+pub no_head : (text : List ℕ) → ¬ (IsUtf8 text) → None ≡ head_of text
+no_head text never = other_step (is_utf8 text) text refl never

@@ -139,8 +139,9 @@ fn read_head(alloc: Global, text: &[u8]) -> Result<Option<Head<'_>>, AllocError>
 
 // The payload at the front of `rest`, where the two bytes behind it are there too.
 fn payload_of(rest: &[u8], count: usize) -> Option<&[u8]>
-    ensures { option_map (λ payload. payload.now) result
+    ensures payload { option_map (λ payload. payload.now) result
         ≡ (if nat_lt (length rest.now) (count + 2) then None else Some (take count rest.now)) }
+    ensures fits { IfSome result (λ _. count + 2 ≤ length rest.now) }
 {
     let room = rest.len().checked_sub(2)?;
     if count <= room {
