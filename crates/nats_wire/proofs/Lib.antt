@@ -4,3 +4,4 @@ mod Lines
 mod Looked
 mod Numbers
 mod Pieces
+pub mod Reading

@@ -5,6 +5,7 @@ mod command;
 mod connection;
 mod decode;
 mod info;
+pub mod laws;
 mod message;
 mod op;
 
@@ -13,3 +14,6 @@ pub use info::ServerInfo;
 pub use message::{Message, OutboundMessage};
 pub use nats_names::{Bytes, NoMemory, Seq, Subject, Text};
 pub use op::{ClientOp, ServerOp, WireError};
+
+#[cfg(test)]
+mod tests;
