@@ -197,3 +197,8 @@ there_more (suc count) bytes more there = (
 pub there_next : (count : ℕ) (bytes : List ℕ) → AllThere count bytes → IsGot (front (behind count bytes)) → AllThere (suc count) bytes
 there_next zero bytes there next = (next, there)
 there_next (suc count) bytes there next = (there.0, there_next count (past (front bytes) bytes) there.1 next)
+
+-- what stands at the front of a text, by its cut
+pub front_by_cut : (bytes : List ℕ) (found : Option Cut) → found ≡ cut_line bytes → front bytes ≡ front_of_cut found
+unfolding front
+front_by_cut bytes found is = ap front_of_cut (sym is)

@@ -1,2 +1,7 @@
 pub mod Fronts
 mod Infos
+mod Lines
+mod Looked
+mod Numbers
+mod Pieces
+pub mod Reading

@@ -16,3 +16,8 @@ word_and_space (Some word) = word ++ codes " "
 abbrev pub command_text : ClientOp → List ℕ
 command_text (Subscribe sid subject queue_group) =
     codes "SUB " ++ subject ++ codes " " ++ word_and_space queue_group ++ decimal sid ++ crlf
+
+-- some bytes as the pieces that hold them: one, or none where there are none
+abbrev pub one_piece : List ℕ → List (List ℕ)
+one_piece [] = []
+one_piece (byte ∷ bytes) = (byte ∷ bytes) ∷ []

@@ -1,10 +1,12 @@
 //! A connection to a server: bytes in, operations out; commands in, bytes out. It reads and writes nothing itself.
-ghost use Rattle.std.specs.Prelude.{◌≡◌, ◌≤◌, ◌++◌, [], length, take, drop, map, OnOk, OnErr, IfOk, nat_le};
+ghost use Rattle.std.specs.Prelude.{◌≡◌, ◌≤◌, ◌++◌, [], length, drop, OnOk, OnErr, IfOk, IfSome, nat_le};
 ghost use Rattle.nats_wire.specs.Wire.{fresh};
 ghost use Rattle.nats_wire.specs.Operations.{front};
-ghost use Rattle.nats_wire.specs.Commands.{command_text};
+ghost use Rattle.nats_wire.specs.Commands.{command_text, one_piece};
 ghost use Rattle.nats_wire.specs.Connection.{Looks, Reads};
 
+use crate::command;
+use crate::decode::{self, Look};
 use crate::op::{ClientOp, ServerOp, WireError};
 use bytes::BytesMut;
 use nats_names::{Bytes, NoMemory};
@@ -54,5 +56,106 @@ impl Connection {
     {
         self.read_buf.extend_from_slice(bytes)?;
         Ok(())
+    }
+
+    /// What stands at the front of the unread bytes, copied; `None` where that is less than an operation. Nothing is
+    /// consumed: it is for a caller that must be able to put the operation somewhere first, and then calls `consume`
+    /// with the answer's `len`. Own call.
+    ///
+    /// # Errors
+    ///
+    /// `ReadFault` where the bytes at the front are no operation that is known, and `NoMemory`.
+    pub fn peek_op(&self, alloc: Global) -> Result<Option<Peeked>, WireError>
+        ensures looks { Looks (front self.now.unread) result }
+        ensures fits { IfOk result (λ peeked. IfSome peeked (λ p. p.len ≤ length self.now.unread)) }
+    {
+        match decode::look_at(alloc, self.read_buf.as_slice())? {
+            Look::Unfinished => Ok(None),
+            Look::Got(peeked) => Ok(Some(peeked)),
+            Look::Fault(_) => Err(WireError::ReadFault),
+        }
+    }
+
+    /// Takes the first `n` unread bytes away. Own call, for use after `peek_op`.
+    pub fn consume(&mut self, n: usize)
+        requires { n ≤ length self.old.unread }
+        ensures { self.new ≡ record self.old { unread = drop n self.old.unread } }
+    {
+        self.read_buf.advance(n);
+    }
+
+    /// Takes the operation at the front of the unread bytes, `None` where that is less than an operation. The crate's
+    /// `try_read_op`.
+    ///
+    /// # Errors
+    ///
+    /// `ReadFault` where the bytes at the front are no operation that is known: a line that begins with no word of the
+    /// protocol is taken away, and else nothing is. `NoMemory`, and nothing is taken.
+    pub fn try_read_op(&mut self, alloc: Global) -> Result<Option<ServerOp>, WireError>
+        ensures { Reads (front self.old.unread) self.old result self.new }
+    {
+        match decode::look_at(alloc, self.read_buf.as_slice())? {
+            Look::Unfinished => Ok(None),
+            Look::Got(peeked) => {
+                self.consume(peeked.len);
+                Ok(Some(peeked.op))
+            }
+            Look::Fault(n) => {
+                self.consume(n);
+                Err(WireError::ReadFault)
+            }
+        }
+    }
+
+    /// Puts the text of an operation behind the bytes that wait to be written. The crate's `enqueue_write_op`.
+    pub fn enqueue_write_op(&mut self, alloc: Global, op: &ClientOp) -> Result<(), NoMemory>
+        ensures ok { OnOk result (self.new ≡ record self.old { waiting = self.old.waiting ++ command_text op.now }) }
+        ensures err { OnErr result (self.new ≡ self.old) }
+    {
+        let text = command::text(alloc, op)?;
+        self.write_buf.extend_from_slice(text.as_bytes())?;
+        Ok(())
+    }
+
+    /// The number of bytes that wait to be written.
+    pub fn pending(&self) -> usize
+        ensures { result ≡ length self.now.waiting }
+    {
+        self.write_buf.len()
+    }
+
+    /// Whether `WRITE_BUF_LIMIT` bytes or more wait to be written. The crate's call.
+    pub fn is_write_buf_full(&self) -> bool
+        ensures { result ≡ nat_le 65535 (length self.now.waiting) }
+    {
+        self.pending() >= WRITE_BUF_LIMIT
+    }
+
+    /// The bytes that wait to be written. Own call.
+    pub fn waiting(&self) -> &[u8]
+        ensures { result.now ≡ self.now.waiting }
+    {
+        self.write_buf.as_slice()
+    }
+
+    /// Takes the first `n` waiting bytes away, which were written. Own call.
+    pub fn written(&mut self, n: usize)
+        requires { n ≤ length self.old.waiting }
+        ensures { self.new ≡ record self.old { waiting = drop n self.old.waiting } }
+    {
+        self.write_buf.advance(n);
+    }
+
+    /// The waiting bytes as pieces to be written in order: one, or none where nothing waits. They stay until `written`
+    /// takes them. Own call.
+    pub fn pending_pieces(&mut self, alloc: Global) -> Result<Vec<Bytes>, NoMemory>
+        ensures pieces { IfOk result (λ pieces. pieces.items ≡ one_piece self.old.waiting) }
+        ensures stays { self.new ≡ self.old }
+    {
+        let mut pieces = Vec::new(alloc);
+        if !self.write_buf.is_empty() {
+            pieces.push(Bytes::copy_from_slice(alloc, self.waiting())?)?;
+        }
+        Ok(pieces)
     }
 }

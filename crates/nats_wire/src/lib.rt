@@ -1,8 +1,11 @@
 //! The wire of the NATS protocol: bytes to server operations, client operations to bytes.
 #![tactic(auto)]
 
+mod command;
 mod connection;
+mod decode;
 mod info;
+pub mod laws;
 mod message;
 mod op;
 
@@ -11,3 +14,6 @@ pub use info::ServerInfo;
 pub use message::{Message, OutboundMessage, copy_subject};
 pub use nats_names::{Bytes, Event, NoMemory, Seq, Subject, Text, Token};
 pub use op::{ClientOp, ServerOp, WireError};
+
+#[cfg(test)]
+mod tests;

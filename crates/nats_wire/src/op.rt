@@ -1,6 +1,9 @@
 //! Operations: what a server sends, and what a client sends.
+ghost use Rattle.std.specs.Prelude.{◌≡◌};
+ghost use Rattle.nats_wire.specs.declared.op.WireError.TheVariants as refused;
+
 use crate::message::Message;
-use nats_names::Subject;
+use nats_names::{NoMemory, Subject};
 
 /// An operation read from the server. The crate's `ServerOp`.
 #[derive(Drop)]
@@ -27,4 +30,12 @@ pub enum WireError {
     ReadFault,
     /// Want of memory: nothing was read.
     NoMemory,
+}
+
+impl From<NoMemory> for WireError {
+    ghost from_gives = { λ _ e. e ≡ refused.NoMemory };
+
+    fn from(_refused: NoMemory) -> WireError {
+        WireError::NoMemory
+    }
 }

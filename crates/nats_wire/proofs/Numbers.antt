@@ -1,0 +1,53 @@
+-- What `parse` reads is the grammar's number.
+use Rattle.std.proofs.Common.{◌≡◌, ℕ, ◌+◌, ◌^◌, ◌<◌, ◌≤◌, Bool, true, false, List, length, Option, Some, None, Result, Ok, Err, refl, ap, sym, ◌∙◌, arith, rules, tests, not}
+use Rattle.std.specs.Prelude.{◌==◌, ◌&&◌, nat_lt, if◌then◌else◌}
+use Rattle.std.specs.Result.{result_ok, OkIff}
+use Rattle.std.specs.Str.{all_ascii_digits}
+use Rattle.std.specs.Str.Parse.{ParsesUnsigned, digits_value, without_leading_plus, IsNumeral, AllDigits}
+use Rattle.std.proofs.lemmas.Str.Parse.{IsNumeralModel, numerals_by_value, tells_all_ascii_digits}
+use Rattle.std.proofs.lemmas.Bool.{lt-ltb, ltb-true}
+use Rattle.nats_wire.specs.Operations.{number_of}
+
+own : IsNumeralModel (λ ds. all_ascii_digits ds ≡ true) (digits_value 10)
+own = numerals_by_value _ tells_all_ascii_digits
+
+-- the grammar's test of a number
+abbrev is_number : List ℕ → Bool
+is_number digits = not (length digits == 0) && all_ascii_digits digits && nat_lt (digits_value 10 digits) (2 ^ 64)
+
+abbrev IsNumber : List ℕ → Type 0
+IsNumber digits = IsNumeral 10 digits × (digits_value 10 digits < 2 ^ 64)
+
+all_three : (a b c : Bool) → a ≡ true → b ≡ true → c ≡ true → (a && b && c) ≡ true
+all_three a b c p q r = rw (p, q, r) refl
+
+each_of_three : (a b c : Bool) → (a && b && c) ≡ true → (a ≡ true) × (b ≡ true) × (c ≡ true)
+each_of_three true true true h = (refl, refl, refl)
+each_of_three true true false h = cc
+each_of_three true false c h = cc
+each_of_three false b c h = cc
+
+is_number_holds : (digits : List ℕ) → IsNumber digits → is_number digits ≡ true
+is_number_holds digits h =
+    let some : 0 < length digits = h.0.0 in
+    all_three _ _ _ (search (rules, tests)) (own.from digits h.0.1) (lt-ltb _ _ h.1)
+
+is_number_tells : (digits : List ℕ) → is_number digits ≡ true → IsNumber digits
+is_number_tells digits h =
+    let parts = each_of_three (not (length digits == 0)) (all_ascii_digits digits) (nat_lt (digits_value 10 digits) (2 ^ 64)) h in
+    let some : 0 < length digits = grind (arith, tests, parts.0) in
+    ((some, own.to digits parts.1), ltb-true _ _ parts.2)
+
+refused : (digits : List ℕ) (test : Bool) → is_number digits ≡ test → ¬ (IsNumber digits)
+  → None ≡ (if test then Some (digits_value 10 digits) else None)
+refused digits true is never = absurd (never (is_number_tells digits is))
+refused digits false is never = refl
+
+read_by : {E : Type 0} (digits : List ℕ) (r : Result ℕ E) → OkIff r (IsNumber digits) (digits_value 10 digits)
+  → result_ok r ≡ (if is_number digits then Some (digits_value 10 digits) else None)
+read_by digits (Ok x) iff = rw (is_number_holds digits iff.0) (ap Some iff.1)
+read_by digits (Err e) iff = refused digits (is_number digits) refl iff
+
+-- `parse` reads the grammar's number, and fails where it has none
+pub number_read : {E : Type 0} (text : List ℕ) (r : Result ℕ E) → ParsesUnsigned 64 10 text r → result_ok r ≡ number_of text
+number_read text r iff = read_by (without_leading_plus text) r iff

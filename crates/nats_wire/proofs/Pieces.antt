@@ -1,0 +1,78 @@
+-- The words of a line are no longer than the line.
+use Rattle.std.proofs.Common.{◌≡◌, ℕ, zero, suc, ◌+◌, ◌≤◌, Bool, true, false, not, List, [], ◌∷◌, length, Option, Some, None, refl, ap, sym, ◌∙◌, arith, rules}
+use Rattle.std.specs.Prelude.{◌==◌, if◌then◌else◌}
+use Rattle.std.specs.List.{filter, slice_split, onto_first}
+use Rattle.std.specs.Str.{is_utf8, IsUtf8}
+use Rattle.std.proofs.lemmas.Str.{IsUtf8-from_is_utf8, is_utf8-from_IsUtf8}
+use Rattle.nats_wire.specs.Operations.{Head, number_of, pieces_of, head_with, head_of_pieces, head_of, bytes_of}
+
+-- the bytes of some texts
+abbrev total : List (List ℕ) → ℕ
+total [] = 0
+total (text ∷ texts) = length text + total texts
+
+total_onto : (x : ℕ) (texts : List (List ℕ)) → total (onto_first x texts) ≤ suc (total texts)
+total_onto x [] = omega arith
+total_onto x (text ∷ texts) = omega arith
+
+split_step : (test : Bool) (x : ℕ) (texts : List (List ℕ)) (n : ℕ) → total texts ≤ n
+  → total (if test then [] ∷ texts else onto_first x texts) ≤ suc n
+split_step true x texts n h = omega arith
+split_step false x texts n h = omega (arith, total_onto x texts)
+
+total_split : (p : ℕ → Bool) (bytes : List ℕ) → total (slice_split p bytes) ≤ length bytes
+total_split p [] = omega arith
+total_split p (x ∷ bytes) = split_step (p x) x (slice_split p bytes) (length bytes) (total_split p bytes)
+
+filter_step : (test : Bool) (text : List ℕ) (kept texts : List (List ℕ)) → total kept ≤ total texts
+  → total (if test then text ∷ kept else kept) ≤ length text + total texts
+filter_step true text kept texts h = omega arith
+filter_step false text kept texts h = omega arith
+
+total_filter : (p : List ℕ → Bool) (texts : List (List ℕ)) → total (filter p texts) ≤ total texts
+total_filter p [] = omega arith
+total_filter p (text ∷ texts) = filter_step (p text) text (filter p texts) texts (total_filter p texts)
+
+with_short : (subject : List ℕ) (reply : Option (List ℕ)) (sid count : Option ℕ) (head : Head)
+  → head_with subject reply sid count ≡ Some head → length head.subject + bytes_of head.reply ≡ length subject + bytes_of reply
+with_short subject reply None count head is = cc
+with_short subject reply (Some sid) None head is = cc
+with_short subject reply (Some sid) (Some count) head is =
+    let e : record { subject = subject; sid = sid; reply = reply; count = count } ≡ head = cc in
+    sym (ap (λ (h : Head). length h.subject + bytes_of h.reply) e)
+
+pieces_short : (pieces : List (List ℕ)) (head : Head) → head_of_pieces pieces ≡ Some head
+  → length head.subject + bytes_of head.reply ≤ total pieces
+pieces_short [] head is = cc
+pieces_short (a ∷ []) head is = cc
+pieces_short (a ∷ b ∷ []) head is = cc
+pieces_short (a ∷ b ∷ c ∷ []) head is = omega (arith, with_short a None (number_of b) (number_of c) head is)
+pieces_short (a ∷ b ∷ c ∷ d ∷ []) head is = omega (arith, with_short a (Some c) (number_of b) (number_of d) head is)
+pieces_short (a ∷ b ∷ c ∷ d ∷ e ∷ more) head is = cc
+
+head_short_by : (test : Bool) (text : List ℕ) (head : Head)
+  → (if test then head_of_pieces (pieces_of text) else None) ≡ Some head
+  → length head.subject + bytes_of head.reply ≤ length text
+head_short_by true text head is =
+    omega (arith, pieces_short (pieces_of text) head is, total_filter (λ piece. not (length piece == 0)) (slice_split (λ b. b == 32) text), total_split (λ b. b == 32) text)
+head_short_by false text head is = cc
+
+-- the subject and the reply of a message are no longer than its line
+pub head_short : (text : List ℕ) (head : Head) → head_of text ≡ Some head → length head.subject + bytes_of head.reply ≤ length text
+head_short text head is = head_short_by (is_utf8 text) text head is
+
+utf8_step : (test : Bool) (text : List ℕ) → test ≡ true → (if test then head_of_pieces (pieces_of text) else None) ≡ head_of_pieces (pieces_of text)
+utf8_step true text is = refl
+utf8_step false text is = cc
+
+-- what a line says where it is text
+pub head_of_text : (text : List ℕ) → IsUtf8 text → head_of text ≡ head_of_pieces (pieces_of text)
+head_of_text text utf8 = utf8_step (is_utf8 text) text (is_utf8-from_IsUtf8 text utf8)
+
+other_step : (test : Bool) (text : List ℕ) → is_utf8 text ≡ test → ¬ (IsUtf8 text) → None ≡ (if test then head_of_pieces (pieces_of text) else None)
+other_step true text is never = absurd (never (IsUtf8-from_is_utf8 text is))
+other_step false text is never = refl
+
+-- and where it is none
+pub no_head : (text : List ℕ) → ¬ (IsUtf8 text) → None ≡ head_of text
+no_head text never = other_step (is_utf8 text) text refl never

@@ -1,0 +1,11 @@
+-- The chain gives the pieces between spaces that aren't empty.
+use Rattle.std.proofs.Common.{lit<, rules, tests, not, length}
+use Rattle.std.specs.Prelude.{◌==◌}
+use Rattle.std.proofs.lemmas.Iterator.Consumers.{map_from_collect, YieldsList-at, YieldsList-from_filter}
+use Rattle.std.proofs.lemmas.Iterator.Splits.{YieldsList-from_str_split}
+use Rattle.nats_wire.proofs.decode.pieces.Goals as goal
+
+pub returns : goal.returns
+returns c = map_from_collect _ c.collect.ensures.ran
+    (YieldsList-from_filter _ (λ piece. not (length piece == 0)) (YieldsList-at c.filter.ensures.source (YieldsList-from_str_split 32 c.args.text.now (lit< tt) c.split.ensures.text c.split.ensures.has_more c.split.ensures.pattern))
+        c.filter.ensures.closure (λ x r q k. search (rules, tests)))

@@ -1,0 +1,129 @@
+//! What no clause says: texts of the protocol with what they mean, and each call once with ample memory.
+use crate::{ClientOp, Connection, ServerOp, Subject, WireError};
+use nats_names::NoMemory;
+use std::alloc::Global;
+use std::test::Fail;
+
+fn fed(alloc: Global, text: &[u8]) -> Result<Connection, NoMemory> {
+    let mut connection = Connection::new(alloc);
+    connection.feed(text)?;
+    Ok(connection)
+}
+
+fn subscribe(alloc: Global, queue_group: Option<&str>, sid: u64) -> Result<ClientOp, NoMemory> {
+    let queue_group = match queue_group {
+        Some(group) => Some(Subject::from_text(alloc, group)?),
+        None => None,
+    };
+    Ok(ClientOp::Subscribe {
+        sid,
+        subject: Subject::from_text(alloc, "FOO.BAR")?,
+        queue_group,
+    })
+}
+
+#[test]
+fn a_message_is_read_at_its_last_byte(rt: HostRuntime) -> Result<(), Fail> {
+    let mut connection = Connection::new(rt.alloc());
+    for byte in b"MSG a 1 2\r\nhi\r" {
+        connection.feed(&[*byte])?;
+        assert!(rt; connection.try_read_op(rt.alloc())?.is_none());
+    }
+    connection.feed(b"\n")?;
+    assert!(rt; connection.try_read_op(rt.alloc())?.is_some());
+    assert!(rt; connection.try_read_op(rt.alloc())?.is_none());
+    Ok(())
+}
+
+#[test]
+fn messages_are_read_as_sent(rt: HostRuntime) -> Result<(), Fail> {
+    for (text, number, reply, payload, length) in [
+        ("MSG a 1 2\r\nhi\r\n", 1, "", "hi", 3),
+        ("MSG a +1 +2\r\nhi\r\n", 1, "", "hi", 3),
+        ("MSG  a  7  b  0 \r\n\r\n", 7, "b", "", 2),
+        ("MSG FOO.BAR 9 INBOX.34 11\r\nHello World\r\n", 9, "INBOX.34", "Hello World", 26),
+    ] {
+        let mut connection = fed(rt.alloc(), text.as_bytes())?;
+        let Some(ServerOp::Message { sid, message }) = connection.try_read_op(rt.alloc())? else {
+            panic!(rt; "no message: {text}");
+        };
+        assert_eq!(rt; sid, number);
+        assert_eq!(rt; message.length, length);
+        assert_eq!(rt; message.payload.as_slice(), payload.as_bytes());
+        assert_eq!(rt; message.reply.is_some(), reply != "");
+        if let Some(subject) = &message.reply {
+            assert_eq!(rt; subject.as_str(), reply);
+        }
+    }
+    Ok(())
+}
+
+#[test]
+fn a_payload_may_be_any_length_below_two_to_64(rt: HostRuntime) -> Result<(), Fail> {
+    let mut connection = fed(rt.alloc(), b"MSG a 1 18446744073709551615\r\n")?;
+    assert!(rt; connection.try_read_op(rt.alloc())?.is_none());
+    Ok(())
+}
+
+#[test]
+fn a_bad_line_of_a_message_is_a_fault_and_stays(rt: HostRuntime) -> Result<(), Fail> {
+    for text in [
+        b"MSG a 1 184467440737095516150\r\n".as_slice(),
+        b"MSG balance.\xff 1 2\r\nhi\r\n".as_slice(),
+        b"MSG a 1\r\n".as_slice(),
+    ] {
+        let mut connection = fed(rt.alloc(), text)?;
+        assert_eq!(rt; connection.try_read_op(rt.alloc()).err(), Some(WireError::ReadFault));
+        assert_eq!(rt; connection.try_read_op(rt.alloc()).err(), Some(WireError::ReadFault));
+    }
+    Ok(())
+}
+
+#[test]
+fn an_unknown_line_is_a_fault_and_taken(rt: HostRuntime) -> Result<(), Fail> {
+    let mut connection = fed(rt.alloc(), b"ONE\r\nMSG a 1 2\r\nhi\r\n")?;
+    assert_eq!(rt; connection.try_read_op(rt.alloc()).err(), Some(WireError::ReadFault));
+    assert!(rt; connection.try_read_op(rt.alloc())?.is_some());
+    Ok(())
+}
+
+#[test]
+fn a_peek_takes_nothing(rt: HostRuntime) -> Result<(), Fail> {
+    let mut connection = fed(rt.alloc(), b"MSG a 1 2\r\nhi\r\nMSG")?;
+    let first = connection.peek_op(rt.alloc())?.ok_or("no message")?;
+    assert_eq!(rt; first.len, 15);
+    let again = connection.peek_op(rt.alloc())?.ok_or("no message")?;
+    connection.consume(again.len);
+    assert!(rt; connection.peek_op(rt.alloc())?.is_none());
+    Ok(())
+}
+
+#[test]
+fn a_subscription_is_written_as_its_line(rt: HostRuntime) -> Result<(), Fail> {
+    for (group, number, line) in [
+        (None, 1, "SUB FOO.BAR 1\r\n"),
+        (Some("g"), 7, "SUB FOO.BAR g 7\r\n"),
+    ] {
+        let mut connection = Connection::new(rt.alloc());
+        let op = subscribe(rt.alloc(), group, number)?;
+        connection.enqueue_write_op(rt.alloc(), &op)?;
+        assert_eq!(rt; connection.waiting(), line.as_bytes());
+    }
+    Ok(())
+}
+
+#[test]
+fn what_was_written_no_longer_waits(rt: HostRuntime) -> Result<(), Fail> {
+    let mut connection = Connection::new(rt.alloc());
+    assert_eq!(rt; connection.pending_pieces(rt.alloc())?.len(), 0);
+    let op = subscribe(rt.alloc(), None, 1)?;
+    connection.enqueue_write_op(rt.alloc(), &op)?;
+    assert_eq!(rt; connection.pending(), 15);
+    assert!(rt; !connection.is_write_buf_full());
+    let pieces = connection.pending_pieces(rt.alloc())?;
+    assert_eq!(rt; pieces.len(), 1);
+    assert_eq!(rt; pieces[0].as_slice(), b"SUB FOO.BAR 1\r\n".as_slice());
+    connection.written(4);
+    assert_eq!(rt; connection.waiting(), b"FOO.BAR 1\r\n".as_slice());
+    Ok(())
+}
