@@ -1,4 +1,5 @@
 pub mod Ends
+pub mod Handlers
 pub mod Refines
 pub mod Tables
 pub mod Words

@@ -81,7 +81,7 @@ drop-map f zero xs = refl
 drop-map f (suc n) [] = refl
 drop-map f (suc n) (x ∷ xs) = drop-map f n xs
 
-abbrev sub_with : Bool → List Message → Sub
+abbrev pub sub_with : Bool → List Message → Sub
 sub_with is_open waiting = record { is_open = is_open; waiting = waiting }
 
 -- a message makes of a subscription what the machine makes of it

@@ -75,3 +75,12 @@ impl<T> Queue<T> {
         self.items.pop_back()
     }
 }
+
+impl<T: Drop> Queue<T> {
+    /// Lets the oldest item go.
+    pub fn discard(&mut self)
+        ensures { self.new ≡ drop 1 self.old }
+    {
+        let _ = self.pop();
+    }
+}
