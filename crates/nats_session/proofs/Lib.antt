@@ -1,5 +1,7 @@
+pub mod Dues
 pub mod Ends
 pub mod Handlers
 pub mod Refines
+pub mod Sheets
 pub mod Tables
 pub mod Words

@@ -106,28 +106,28 @@ sub_opened c place subject group t =
 
 subs_delivered : (c : Config) (place sid : ℕ) (m : Message) (h : History) → subs_of c ((place, read (message sid m)) ∷ h) ≡ at_number sid (deliver c m) (subs_of c h)
 subs_delivered c place sid m h =
-    numbered sub_of (deliver c m) (λ s. told_after c place (read (message sid m)) (told c s h)) (λ s. told c s h) (λ s. sub_delivered c place sid m (told c s h) (takes_fit c s h)) (given h) sid
+    numbered (λ s. sub_of) (deliver c m) (λ s. told_after c place (read (message sid m)) (told c s h)) (λ s. told c s h) (given h) sid (sub_delivered c place sid m (told c sid h) (takes_fit c sid h))
 
 subs_taken : (c : Config) (place sid : ℕ) (h : History) → subs_of c ((place, took sid) ∷ h) ≡ at_number sid take_from (subs_of c h)
 subs_taken c place sid h =
-    numbered sub_of take_from (λ s. told_after c place (took sid) (told c s h)) (λ s. told c s h) (λ s. sub_taken c place sid (told c s h)) (given h) sid
+    numbered (λ s. sub_of) take_from (λ s. told_after c place (took sid) (told c s h)) (λ s. told c s h) (given h) sid (sub_taken c place sid (told c sid h))
 
 subs_opened : (c : Config) (place : ℕ) (subject : List ℕ) (group : Option (List ℕ)) (h : History) → subs_of c ((place, handled (Subscribe subject group)) ∷ h) ≡ at_number (suc (subscribed h)) open_sub (subs_of c h)
 subs_opened c place subject group h =
-    numbered_if sub_of open_sub (λ s. told_after c place (handled (Subscribe subject group)) (told c s h)) (λ s. told c s h) (λ s. sub_opened c place subject group (told c s h)) (given h) (subscribed h) (ltb (subscribed h) (given h)) refl
+    numbered_if (λ s. sub_of) open_sub (λ s. told_after c place (handled (Subscribe subject group)) (told c s h)) (λ s. told c s h) (given h) (subscribed h) (ltb (subscribed h) (given h)) (sub_opened c place subject group (told c (suc (subscribed h)) h)) refl
 
 subs_accepted : (c : Config) (place : ℕ) (subject : List ℕ) (group : Option (List ℕ)) (h : History) → subs_of c ((place, accepted (Subscribe subject group)) ∷ h) ≡ subs_of c h ++ new_sub ∷ []
 subs_accepted c place subject group h =
     let step = accepted (Subscribe subject group) in
     let less : given h < suc (given h) = omega arith in
-    one_more sub_of (λ s. told_after c place step (told c s h)) (λ s. told c s h) (given h) new_sub (ap (λ t. sub_of (told_after c place step t)) (told_nothing c (suc (given h)) h (inr less)))
+    one_more (λ s. sub_of) (λ s. told_after c place step (told c s h)) (λ s. told c s h) (given h) new_sub (ap (λ t. sub_of (told_after c place step t)) (told_nothing c (suc (given h)) h (inr less)))
 
 pub length-subs : (c : Config) (h : History) → length (subs_of c h) ≡ given h
 length-subs c h = length-map (numbers h) (λ s. sub_of (told c s h)) ∙ length-count_from 1 (given h)
 
 -- ---- events
 
-range_of : (k n : ℕ) → ((k ≡ 0) ⊎ (n < k)) ⊎ ((0 < k) × (k ≤ n))
+pub range_of : (k n : ℕ) → ((k ≡ 0) ⊎ (n < k)) ⊎ ((0 < k) × (k ≤ n))
 range_of zero n = inl (inl refl)
 range_of (suc i) n = by_test (ltb i n) refl
   where

@@ -1,5 +1,5 @@
 -- A table of numbered things, each told by its number: the table after one of them changed, and after one more came.
-use Rattle.std.proofs.Common.{◌≡◌, ℕ, zero, suc, ◌+◌, ◌-◌, ◌<◌, ◌≤◌, Bool, true, false, cond, eqb, ltb, ◌&&◌, List, [], ◌∷◌, ◌++◌, length, get_or, set, map, Option, Some, None, refl, sym, ◌∙◌, ap, arith, ◌⊎◌, inl, inr}
+use Rattle.std.proofs.Common.{◌≡◌, ℕ, zero, suc, ◌+◌, ◌-◌, ◌<◌, ◌≤◌, Bool, true, false, cond, eqb, ltb, ◌&&◌, List, [], ◌∷◌, ◌++◌, length, get_or, set, map, Option, Some, None, refl, sym, ◌∙◌, ap, subst, arith, ◌⊎◌, inl, inr}
 use Rattle.std.specs.Prelude.{slice_get}
 use Rattle.std.proofs.lemmas.List.{length-map, map-append}
 use Rattle.std.proofs.lemmas.Option.{slice_get_read, slice_get_past}
@@ -37,52 +37,68 @@ at_index_past (suc i) f (x ∷ xs) past = ap (λ ys. x ∷ ys) (at_index_past i 
 
 -- ---- the numbers that a change leaves alone
 
-pub above : {A B : Type 0} (view : A → B) (new old : ℕ → A) (n first k : ℕ) → k < first
-  → map (λ s. view (cond (eqb s k) (new s) (old s))) (count_from first n) ≡ map (λ s. view (old s)) (count_from first n)
+pub above : {A B : Type 0} (view : ℕ → A → B) (new old : ℕ → A) (n first k : ℕ) → k < first
+  → map (λ s. view s (cond (eqb s k) (new s) (old s))) (count_from first n) ≡ map (λ s. view s (old s)) (count_from first n)
 above view new old zero first k less = refl
 above view new old (suc n) first k less =
-    same_cons _ _ _ _ (ap (λ b. view (cond b (new first) (old first))) (ne_eqb first k (λ e. omega arith))) (above view new old n (suc first) k (omega arith))
+    same_cons _ _ _ _ (ap (λ b. view first (cond b (new first) (old first))) (ne_eqb first k (λ e. omega arith))) (above view new old n (suc first) k (omega arith))
 
-pub below : {A B : Type 0} (view : A → B) (new old : ℕ → A) (n first k : ℕ) → first + n ≤ k
-  → map (λ s. view (cond (eqb s k) (new s) (old s))) (count_from first n) ≡ map (λ s. view (old s)) (count_from first n)
+pub below : {A B : Type 0} (view : ℕ → A → B) (new old : ℕ → A) (n first k : ℕ) → first + n ≤ k
+  → map (λ s. view s (cond (eqb s k) (new s) (old s))) (count_from first n) ≡ map (λ s. view s (old s)) (count_from first n)
 below view new old zero first k less = refl
 below view new old (suc n) first k less =
-    same_cons _ _ _ _ (ap (λ b. view (cond b (new first) (old first))) (ne_eqb first k (λ e. omega arith))) (below view new old n (suc first) k (omega arith))
+    same_cons _ _ _ _ (ap (λ b. view first (cond b (new first) (old first))) (ne_eqb first k (λ e. omega arith))) (below view new old n (suc first) k (omega arith))
 
 -- ---- the table after the thing of one number changed
 
-numbered_from : {A B : Type 0} (view : A → B) (f : B → B) (new old : ℕ → A) → ((s : ℕ) → view (new s) ≡ f (view (old s))) → (n i first k : ℕ) → k ≡ first + i
-  → map (λ s. view (cond (eqb s k) (new s) (old s))) (count_from first n) ≡ at_index i f (map (λ s. view (old s)) (count_from first n))
-numbered_from view f new old changed zero i first k e = refl
-numbered_from view f new old changed (suc n) zero first k e =
-    same_cons _ _ _ _ (ap (λ b. view (cond b (new first) (old first))) (eq-eqb first k (omega arith)) ∙ changed first) (above view new old n (suc first) k (omega arith))
-numbered_from view f new old changed (suc n) (suc i) first k e =
-    same_cons _ _ _ _ (ap (λ b. view (cond b (new first) (old first))) (ne_eqb first k (λ d. omega arith))) (numbered_from view f new old changed n i (suc first) k (omega arith))
+numbered_from : {A B : Type 0} (view : ℕ → A → B) (f : B → B) (new old : ℕ → A) (n i first k : ℕ) → view k (new k) ≡ f (view k (old k)) → k ≡ first + i
+  → map (λ s. view s (cond (eqb s k) (new s) (old s))) (count_from first n) ≡ at_index i f (map (λ s. view s (old s)) (count_from first n))
+numbered_from view f new old zero i first k changed e = refl
+numbered_from view f new old (suc n) zero first k changed e =
+    let here : k ≡ first = omega arith in
+    same_cons _ _ _ _ (ap (λ b. view first (cond b (new first) (old first))) (eq-eqb first k (sym here)) ∙ subst (λ s. view s (new s) ≡ f (view s (old s))) here changed) (above view new old n (suc first) k (omega arith))
+numbered_from view f new old (suc n) (suc i) first k changed e =
+    same_cons _ _ _ _ (ap (λ b. view first (cond b (new first) (old first))) (ne_eqb first k (λ d. omega arith))) (numbered_from view f new old n i (suc first) k changed (omega arith))
 
-pub numbered : {A B : Type 0} (view : A → B) (f : B → B) (new old : ℕ → A) → ((s : ℕ) → view (new s) ≡ f (view (old s))) → (n k : ℕ)
-  → map (λ s. view (cond (eqb s k) (new s) (old s))) (count_from 1 n) ≡ at_number k f (map (λ s. view (old s)) (count_from 1 n))
-numbered view f new old changed n zero = above view new old n 1 zero (omega arith)
-numbered view f new old changed n (suc i) = numbered_from view f new old changed n i 1 (suc i) (omega arith)
+pub numbered : {A B : Type 0} (view : ℕ → A → B) (f : B → B) (new old : ℕ → A) (n k : ℕ) → view k (new k) ≡ f (view k (old k))
+  → map (λ s. view s (cond (eqb s k) (new s) (old s))) (count_from 1 n) ≡ at_number k f (map (λ s. view s (old s)) (count_from 1 n))
+numbered view f new old n zero changed = above view new old n 1 zero (omega arith)
+numbered view f new old n (suc i) changed = numbered_from view f new old n i 1 (suc i) changed (omega arith)
 
 -- the same under a condition that does not hang on the number, and that holds where there is such a number
-pub numbered_if : {A B : Type 0} (view : A → B) (f : B → B) (new old : ℕ → A) → ((s : ℕ) → view (new s) ≡ f (view (old s))) → (n i : ℕ) (b : Bool) → b ≡ ltb i n
-  → map (λ s. view (cond (b && eqb s (suc i)) (new s) (old s))) (count_from 1 n) ≡ at_number (suc i) f (map (λ s. view (old s)) (count_from 1 n))
-numbered_if view f new old changed n i true e = numbered view f new old changed n (suc i)
-numbered_if view f new old changed n i false e =
+pub numbered_if : {A B : Type 0} (view : ℕ → A → B) (f : B → B) (new old : ℕ → A) (n i : ℕ) (b : Bool) → view (suc i) (new (suc i)) ≡ f (view (suc i) (old (suc i))) → b ≡ ltb i n
+  → map (λ s. view s (cond (b && eqb s (suc i)) (new s) (old s))) (count_from 1 n) ≡ at_number (suc i) f (map (λ s. view s (old s)) (count_from 1 n))
+numbered_if view f new old n i true changed e = numbered view f new old n (suc i) changed
+numbered_if view f new old n i false changed e =
     let past = ltb-false i n (sym e) in
-    sym (at_index_past i f (map (λ s. view (old s)) (count_from 1 n)) (rw (length-map (count_from 1 n) (λ s. view (old s)), length-count_from 1 n) past))
+    sym (at_index_past i f (map (λ s. view s (old s)) (count_from 1 n)) (rw (length-map (count_from 1 n) (λ s. view s (old s)), length-count_from 1 n) past))
 
 -- ---- the table after one more thing came, of the next number
 
-pub one_more : {A B : Type 0} (view : A → B) (new old : ℕ → A) (n : ℕ) (last : B) → view (new (suc n)) ≡ last
-  → map (λ s. view (cond (eqb s (suc n)) (new s) (old s))) (count_from 1 (suc n)) ≡ map (λ s. view (old s)) (count_from 1 n) ++ last ∷ []
+pub one_more : {A B : Type 0} (view : ℕ → A → B) (new old : ℕ → A) (n : ℕ) (last : B) → view (suc n) (new (suc n)) ≡ last
+  → map (λ s. view s (cond (eqb s (suc n)) (new s) (old s))) (count_from 1 (suc n)) ≡ map (λ s. view s (old s)) (count_from 1 n) ++ last ∷ []
 one_more view new old n last e =
-    let told = λ (s : ℕ). view (cond (eqb s (suc n)) (new s) (old s)) in
+    let told = λ (s : ℕ). view s (cond (eqb s (suc n)) (new s) (old s)) in
     let next : 1 + n ≡ suc n = omega arith in
     let here : told (1 + n) ≡ last =
-          ap told next ∙ (ap (λ b. view (cond b (new (suc n)) (old (suc n)))) (eq-eqb (suc n) (suc n) refl) ∙ e)
+          ap told next ∙ (ap (λ b. view (suc n) (cond b (new (suc n)) (old (suc n)))) (eq-eqb (suc n) (suc n) refl) ∙ e)
     in
-    ap (map told) (count_from_last 1 n) ∙ (map-append told (count_from 1 n) ((1 + n) ∷ []) ∙ (ap (λ xs. xs ++ told (1 + n) ∷ []) (below view new old n 1 (suc n) (omega arith)) ∙ ap (λ x. map (λ s. view (old s)) (count_from 1 n) ++ x ∷ []) here))
+    ap (map told) (count_from_last 1 n) ∙ (map-append told (count_from 1 n) ((1 + n) ∷ []) ∙ (ap (λ xs. xs ++ told (1 + n) ∷ []) (below view new old n 1 (suc n) (omega arith)) ∙ ap (λ x. map (λ s. view s (old s)) (count_from 1 n) ++ x ∷ []) here))
+
+-- tables whose things look alike are one
+pub same_table : {B : Type 0} (f g : ℕ → B) (numbers : List ℕ) → ((s : ℕ) → f s ≡ g s) → map f numbers ≡ map g numbers
+same_table f g [] same = refl
+same_table f g (s ∷ numbers) same = same_cons _ _ _ _ (same s) (same_table f g numbers same)
+
+-- a change that changes nothing
+pub at_number_same : {A : Type 0} (k : ℕ) (xs : List A) → at_number k (λ x. x) xs ≡ xs
+at_number_same zero xs = refl
+at_number_same (suc i) xs = by_place i xs
+  where
+    by_place : {A : Type 0} (i : ℕ) (xs : List A) → at_index i (λ x. x) xs ≡ xs
+    by_place i [] = refl
+    by_place zero (x ∷ xs) = refl
+    by_place (suc i) (x ∷ xs) = ap (λ ys. x ∷ ys) (by_place i xs)
 
 -- ---- an item of the table
 
