@@ -10,6 +10,7 @@ use Rattle.nats_session.specs.declared.call.Call.TheVariants.{Subscribe}
 use Rattle.nats_session.specs.declared.transcript.LinkWord.TheVariants as word
 use Rattle.nats_session.specs.History.{Step, opened, fed, read, taken, accepted, handled, took, link_end}
 use Rattle.nats_session.specs.Parts.{Parts, after}
+use Rattle.nats_session.specs.Machine.{with_events}
 use Rattle.nats_session.specs.Schedule.{due_call, due_by, due, due_bound, due_steps_within, due_steps, after_all}
 
 -- ---- each due step brings the end nearer
@@ -74,9 +75,6 @@ one_due p step e =
     ap (λ next. due_steps_within (due_bound p) next p) e ∙ (ap (λ n. due_steps_within n (Some step) p) some ∙ ap (λ steps. step ∷ steps) (enough (due_bound p - 1) (due_bound (after p step)) (due (after p step)) (after p step) refl (omega arith) (omega arith)))
 
 -- ---- events that wait make no difference
-
-abbrev pub with_events : List Event → Parts → Parts
-with_events events p = record p { events = events }
 
 -- the events that wait after a step, where these waited before it
 abbrev pub events_after : List Event → Parts → Step → List Event

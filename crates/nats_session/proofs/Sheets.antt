@@ -25,7 +25,7 @@ use Rattle.nats_session.proofs.Words.{taken_fits}
 use Rattle.nats_session.proofs.Tables.{numbered, one_more, same_table, at_number_same, item_there, item_missing}
 use Rattle.nats_session.proofs.Refines.{told_nothing, range_of, length-subs, events_more, parts_after}
 use Rattle.nats_session.proofs.Handlers.{stands_after}
-use Rattle.nats_session.proofs.Dues.{with_events}
+use Rattle.nats_session.specs.Machine.{with_events}
 use Rattle.nats_session.specs.Handler.{idle}
 use Rattle.std.proofs.lemmas.Bool.{ne_eqb}
 
@@ -150,7 +150,7 @@ step_events c h place step =
     let fits : length (events c h) ≤ length (events c h) = omega arith in
     sym (ap (λ (p : Parts). p.events) (parts_after c (length (events c h)) h place step fits)) ∙ (events_more (length (events c h)) (events c h) place (events_by c h step) fits ∙ ap (λ es. es ++ events_by c h step) (none_left (events c h)))
 
-given_grows : (h : History) (place : ℕ) (step : Step) → given h ≤ given ((place, step) ∷ h)
+pub given_grows : (h : History) (place : ℕ) (step : Step) → given h ≤ given ((place, step) ∷ h)
 given_grows h place (accepted (Subscribe subject group)) = omega arith
 given_grows h place step = omega arith
 
