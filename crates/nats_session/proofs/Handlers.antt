@@ -1,5 +1,5 @@
 -- Laws on the parts of a handler.
-use Rattle.std.proofs.Common.{◌≡◌, ℕ, zero, suc, ◌+◌, ◌≤◌, ◌<◌, Bool, true, false, cond, ◌&&◌, min, List, [], ◌∷◌, ◌++◌, length, drop, map, nat_le, nat_lt, Option, Some, None, Result, Ok, Err, OnErr, refl, sym, ◌∙◌, ap, subst, arith}
+use Rattle.std.proofs.Common.{◌≡◌, ℕ, zero, suc, ◌+◌, ◌≤◌, ◌<◌, Bool, true, false, cond, ◌&&◌, min, List, [], ◌∷◌, ◌++◌, length, drop, map, nat_le, nat_lt, Option, Some, None, Result, Ok, Err, OnOk, OnErr, refl, sym, ◌∙◌, ap, subst, arith}
 use Rattle.std.specs.Prelude.{slice_get}
 use Rattle.std.proofs.lemmas.Bool.{false≢true, lt-ltb, leb-false}
 use Rattle.std.proofs.lemmas.Option.{none-some, same_Some}
@@ -116,3 +116,7 @@ lead_to old (step ∷ steps) c handed h place stands =
 pub leads : (old : Parts) (steps : List Step) (new : Parts) → new ≡ after_all old steps → LeadTo old steps new
 leads old steps new e c handed h place stands =
     subst (λ p. StandsFor c handed (put_steps place steps h) p) (sym e) (lead_to old steps c handed h place stands)
+
+pub on_ok_of : {T E P : Type 0} (r : Result T E) → P → OnOk r P
+on_ok_of (Ok x) p = p
+on_ok_of (Err e) p = tt

@@ -3,6 +3,8 @@ pub mod Ends
 pub mod Handlers
 pub mod Plays
 pub mod Refines
+pub mod Runs
+pub mod Settles
 pub mod Sheets
 pub mod Tables
 pub mod Words

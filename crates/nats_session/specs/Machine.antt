@@ -1,14 +1,20 @@
 -- Turns over parts and a sheet alone: what playing leaves, with each event handed out as it comes.
-use Rattle.std.specs.Prelude.{◌≡◌, ℕ, zero, suc, List, [], ◌∷◌, ◌++◌, length, Option, Some, None, Result, Ok, Err, if◌then◌else◌, min, take}
+use Rattle.std.specs.Prelude.{◌≡◌, ℕ, zero, suc, Bool, true, false, List, [], ◌∷◌, ◌++◌, length, Option, Some, None, Result, Ok, Err, if◌then◌else◌, min, take}
 use Rattle.nats_names.specs.declared.event.Event.{Event}
 use Rattle.nats_session.specs.declared.call.Call.{Call}
 use Rattle.nats_session.specs.declared.turn.Turn.{Turn}
 use Rattle.nats_session.specs.declared.turn.Turn.TheVariants.{Up, Piece, Write, Do, Take}
+use Rattle.nats_wire.specs.declared.message.Message.{Message}
+use Rattle.nats_session.specs.declared.handler.due.Played.{Played}
+use Rattle.nats_session.specs.declared.handler.due.Played.TheVariants as played
+use Rattle.nats_session.specs.declared.subs.subscription.Delivery.TheVariants.{Put, Dropped, Ignored}
+use Rattle.nats_session.specs.declared.transcript.LinkWord.TheVariants.{Fault}
 use Rattle.nats_session.specs.History.{Step}
-use Rattle.nats_session.specs.Parts.{Parts, after}
+use Rattle.nats_session.specs.Parts.{Parts, at_number, item_of, after}
+use Rattle.nats_session.specs.Delivery.{youngest}
 use Rattle.nats_session.specs.Schedule.{is_valid_turn, own_steps, due_steps, call_reply, take_reply}
 use Rattle.nats_session.specs.Transcripts.{Answer, nothing, called, asked}
-use Rattle.nats_session.specs.Sheet.{Sheet, write_step, write_answer, write_events}
+use Rattle.nats_session.specs.Sheet.{Sheet, write_put, write_drop, row_with, write_step, write_answer, write_events}
 
 abbrev pub with_events : List Event → Parts → Parts
 with_events events p = record p { events = events }
@@ -73,3 +79,29 @@ abbrev pub first_out_of_turn : ℕ → List Turn → Parts → Option ℕ
 first_out_of_turn place [] p = None
 first_out_of_turn place (turn ∷ turns) p =
     if is_valid_turn p turn then first_out_of_turn (suc place) turns (turn_parts turn p) else Some place
+
+-- ---- a due step as the handler tells of it
+
+abbrev pub write_message : ℕ → ℕ → Option Message → Sheet → Sheet
+write_message place sid None sheet = sheet
+write_message place sid (Some m) sheet = record sheet { subs = at_number sid (write_put place m) sheet.subs }
+
+-- what is written of a step that was played, where these are the parts after it
+abbrev pub write_played : ℕ → Parts → Played → Sheet → Sheet
+write_played place p played.Nothing sheet = sheet
+write_played place p (played.Delivered sid Put) sheet = write_message place sid (youngest (item_of sid p.subs)) sheet
+write_played place p (played.Delivered sid (Dropped m)) sheet = record sheet { subs = at_number sid (write_drop place m) sheet.subs }
+write_played place p (played.Delivered sid Ignored) sheet = sheet
+write_played place p played.Handled sheet = sheet
+write_played place p (played.Ended wire) sheet = record sheet { links = sheet.links ++ row_with Fault sheet.taken wire.waiting ∷ []; taken = [] }
+
+abbrev pub is_nothing : Played → Bool
+is_nothing played.Nothing = true
+is_nothing (played.Delivered sid delivery) = false
+is_nothing played.Handled = false
+is_nothing (played.Ended wire) = false
+
+-- the step that is due was played and written, or none is due
+abbrev pub NotesDue : Option Step → ℕ → Parts → Sheet → Bool → Parts → Sheet → Type 0
+NotesDue None place p sheet more p' sheet' = (more ≡ false) × (p' ≡ p) × (sheet' ≡ sheet)
+NotesDue (Some step) place p sheet more p' sheet' = (more ≡ true) × (p' ≡ parts_noted step p) × (sheet' ≡ sheet_noted place step p sheet)

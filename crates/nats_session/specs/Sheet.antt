@@ -1,5 +1,5 @@
 -- The transcript as it is written turn by turn.
-use Rattle.std.specs.Prelude.{◌≡◌, ℕ, suc, ◌≤◌, ◌<◌, Bool, true, List, [], ◌∷◌, ◌++◌, length, take, drop, map, Option, Some, None, if◌then◌else◌, IsTrue}
+use Rattle.std.specs.Prelude.{◌≡◌, ℕ, suc, ◌≤◌, ◌<◌, ◌⊎◌, Bool, true, List, [], ◌∷◌, ◌++◌, length, take, drop, map, Option, Some, None, if◌then◌else◌, IsTrue}
 use Rattle.nats_names.specs.declared.event.Event.{Event}
 use Rattle.nats_wire.specs.declared.message.Message.{Message}
 use Rattle.nats_wire.specs.Operations.{message}
@@ -13,6 +13,8 @@ use Rattle.nats_session.specs.declared.transcript.LinkWord.TheVariants as word
 use Rattle.nats_session.specs.declared.transcript.LinkRow.{LinkRow}
 use Rattle.nats_session.specs.declared.transcript.SubRow.{SubRow}
 use Rattle.nats_session.specs.declared.transcript.Transcript.{Transcript}
+use Rattle.nats_session.specs.declared.draft.Note.{Note}
+use Rattle.nats_session.specs.declared.draft.Note.TheVariants as notes
 use Rattle.nats_session.specs.declared.subs.subscription.Delivery.{Delivery}
 use Rattle.nats_session.specs.declared.subs.subscription.Delivery.TheVariants.{Put, Dropped, Ignored}
 use Rattle.nats_session.specs.History.{Step, opened, fed, read, taken, accepted, handled, took, link_end, History, is_up, link_text, taken_count, end_events, at_place, given, events}
@@ -111,3 +113,17 @@ pub record Tells (c : Config) (h : History) (answers : List (ℕ × Answer)) (p 
   pub stands : StandsFor c (length (events c h)) h p
   pub written : sheet ≡ sheet_of c h answers
   pub given_numbers : AreGiven h answers
+
+abbrev pub row_with : LinkWord → List ℕ → List ℕ → LinkRow
+row_with end bytes left = record { end = end; taken = bytes; left = left }
+
+-- where the thing of a number stands in a table of that many things, if it does
+abbrev pub IsPlaceOf : ℕ → ℕ → Option ℕ → Type 0
+IsPlaceOf sid count None = (sid ≡ 0) ⊎ (count < sid)
+IsPlaceOf sid count (Some index) = (sid ≡ suc index) × (index < count)
+
+-- what a note writes into a row
+abbrev pub write_note : ℕ → Note → SubRow → SubRow
+write_note place (notes.Put m) row = write_put place m row
+write_note place (notes.Drop m) row = write_drop place m row
+write_note place (notes.Take reply) row = write_take place reply row

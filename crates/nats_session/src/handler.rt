@@ -7,6 +7,8 @@ mod accessors;
 mod due;
 mod turns;
 
+pub use due::Played;
+
 use crate::call::Call;
 use crate::config::Config;
 use crate::queue::Queue;

@@ -4,6 +4,7 @@
 
 mod call;
 mod config;
+mod draft;
 mod handler;
 mod play;
 mod queue;

@@ -30,6 +30,13 @@ impl ConnectionHandler {
         self.connection.pending() as u64
     }
 
+    /// The bytes that wait to be taken.
+    pub(crate) fn waiting(&self) -> &[u8]
+        ensures { result.now ≡ self.now.wire.waiting }
+    {
+        self.connection.waiting()
+    }
+
     /// The youngest waiting message of the subscription of number `s`.
     pub fn last_put(&self, s: u64) -> Option<&Message>
         ensures { option_copied result ≡ youngest (item_of s self.now.subs) }

@@ -6,6 +6,7 @@ ghost use Rattle.nats_session.specs.History.{link_end, read, handled};
 ghost use Rattle.nats_session.specs.Parts.{after, at_number, deliver, drop_events, item_of};
 ghost use Rattle.nats_session.specs.Schedule.{due, due_call, write_limit};
 ghost use Rattle.nats_session.specs.Delivery.{delivery_at};
+ghost use Rattle.nats_session.specs.Machine.{is_nothing};
 ghost use Rattle.nats_session.specs.Handler.{PlaysDue, Advances, LeadTo, list_of, due_name, played_by, command_of};
 
 use super::ConnectionHandler;
@@ -32,6 +33,13 @@ pub enum Played {
 }
 
 impl Played {
+    /// Whether no step was due.
+    pub fn is_nothing(&self) -> bool
+        ensures { result ≡ is_nothing self.now }
+    {
+        matches!(self, Played::Nothing)
+    }
+
     /// The name of the step.
     pub fn name(self) -> Due
         ensures { result ≡ due_name self }

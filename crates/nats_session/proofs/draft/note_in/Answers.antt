@@ -1,0 +1,16 @@
+-- A note changes the one row, or none where the number was not given.
+use Rattle.std.proofs.Common.{sym, ap, ◌∙◌}
+use Rattle.std.proofs.lemmas.Result.{on_ok_weaker}
+use Rattle.nats_session.specs.Sheet.{write_note}
+use Rattle.nats_session.proofs.Tables.{set_number, number_missing}
+use Rattle.nats_session.proofs.draft.note_in.Goals as goal
+
+pub returns-in-Some : goal.returns-in-Some
+returns-in-Some c =
+    let f = write_note c.args.place c.args.note in
+    let found = c.in-Some.ensures in
+    on_ok_weaker c.note_on.result (λ e. set_number f c.args.rows.now c.args.sid c.in-Some.index c.index-rows-index.result c.note_on.new.row found.0 found.1 c.index-rows-index.is (e ∙ ap f (sym c.index-rows-index.is))) c.note_on.ensures
+
+pub returns-in-None : goal.returns-in-None
+returns-in-None c =
+    sym (number_missing (write_note c.args.place c.args.note) c.args.rows.now c.args.sid c.in-None.ensures)

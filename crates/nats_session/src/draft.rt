@@ -1,0 +1,211 @@
+//! A transcript as it is written.
+ghost use Rattle.std.specs.Prelude.{◌≡◌, ◌+◌, [], ◌∷◌, ◌++◌, OnOk, IfOk, length, List, ℕ, if◌then◌else◌};
+ghost use Rattle.nats_session.specs.declared.transcript.LinkWord.TheVariants.{Up};
+ghost use Rattle.nats_session.specs.History.{at_place};
+ghost use Rattle.nats_session.specs.Parts.{at_number};
+ghost use Rattle.nats_session.specs.Machine.{with_events, write_played};
+ghost use Rattle.nats_session.specs.Sheet.{Sheet, empty_sheet, new_row, write_note, write_events, finished, row_with, IsPlaceOf};
+
+use crate::call::{CallReply, TakeReply};
+use crate::handler::{ConnectionHandler, Played};
+use crate::subs::Delivery;
+use crate::transcript::{LinkRow, LinkWord, SubRow, Transcript};
+use nats_wire::{Event, Message, NoMemory, Seq};
+use std::alloc::Global;
+use std::marker::Model;
+use std::mem;
+
+/// What was written so far. Contracts see it as its lists.
+#[derive(Drop)]
+pub struct Draft {
+    links: Vec<LinkRow>,
+    taken: Vec<u8>,
+    subs: Vec<SubRow>,
+    events: Vec<(u64, Event)>,
+    calls: Vec<(u64, CallReply)>,
+}
+
+impl Model for Draft {
+    ghost use Rattle.nats_session.specs.Sheet.{Sheet};
+
+    ghost Value = { Sheet };
+
+    ghost view = { λ d. record { links = d.links.items; taken = d.taken.items; subs = d.subs.items; events = d.events.items; calls = d.calls.items } };
+}
+
+impl Draft {
+    /// Nothing is written yet. It takes no memory.
+    pub fn new(alloc: Global) -> Draft
+        ensures { result ≡ empty_sheet }
+    {
+        Draft {
+            links: Vec::new(alloc),
+            taken: Vec::new(alloc),
+            subs: Vec::new(alloc),
+            events: Vec::new(alloc),
+            calls: Vec::new(alloc),
+        }
+    }
+
+    /// A link came up: it took nothing yet.
+    pub fn begin_link(&mut self)
+        ensures { self.new ≡ record self.old { taken = [] } }
+    {
+        self.taken.clear();
+    }
+
+    /// The link took these bytes.
+    pub fn note_taken(&mut self, bytes: &[u8]) -> Result<(), NoMemory>
+        ensures { OnOk result (self.new ≡ record self.old { taken = self.old.taken ++ bytes.now }) }
+    {
+        self.taken.extend_from_slice(bytes)?;
+        Ok(())
+    }
+
+    /// The link ended, and left these bytes.
+    pub fn end_link(&mut self, alloc: Global, end: LinkWord, left: &[u8]) -> Result<(), NoMemory>
+        ensures { OnOk result (self.new ≡ record self.old { links = self.old.links ++ row_with end self.old.taken left.now ∷ []; taken = [] }) }
+    {
+        let left = Seq::from_vec(Vec::from_slice(alloc, left)?);
+        let taken = Seq::from_vec(mem::replace(&mut self.taken, Vec::new(alloc)));
+        self.links.push(LinkRow { end, taken, left })?;
+        Ok(())
+    }
+
+    /// A subscription was given its number.
+    pub fn add_sub(&mut self, alloc: Global) -> Result<(), NoMemory>
+        ensures { OnOk result (self.new ≡ record self.old { subs = self.old.subs ++ new_row ∷ [] }) }
+    {
+        self.subs.push(SubRow {
+            puts: Seq::new(alloc),
+            drops: Seq::new(alloc),
+            takes: Seq::new(alloc),
+        })?;
+        Ok(())
+    }
+
+    /// Something happened to subscription `sid`.
+    pub fn note(&mut self, place: u64, sid: u64, note: Note) -> Result<(), NoMemory>
+        ensures { OnOk result (self.new ≡ record self.old { subs = at_number sid (write_note place note) self.old.subs }) }
+    {
+        note_in(&mut self.subs, place, sid, note)
+    }
+
+    /// A due step was played, and left the handler so.
+    pub fn note_played(
+        &mut self,
+        alloc: Global,
+        place: u64,
+        handler: &ConnectionHandler,
+        played: Played,
+    ) -> Result<(), NoMemory>
+        ensures { OnOk result (self.new ≡ write_played place handler.now played self.old) }
+    {
+        match played {
+            Played::Delivered(sid, Delivery::Put) => match handler.last_put(sid) {
+                Some(message) => self.note(place, sid, Note::Put(message.copy()?)),
+                None => Ok(()),
+            },
+            Played::Delivered(sid, Delivery::Dropped(message)) => {
+                self.note(place, sid, Note::Drop(message))
+            }
+            Played::Ended(connection) => {
+                self.end_link(alloc, LinkWord::Fault, connection.waiting())
+            }
+            Played::Nothing | Played::Handled | Played::Delivered(_, Delivery::Ignored) => Ok(()),
+        }
+    }
+
+    /// A call was answered.
+    pub fn note_call(&mut self, place: u64, reply: CallReply) -> Result<(), NoMemory>
+        ensures { OnOk result (self.new ≡ record self.old { calls = self.old.calls ++ (place, reply) ∷ [] }) }
+    {
+        self.calls.push((place, reply))?;
+        Ok(())
+    }
+
+    /// Takes over the events that wait in the handler.
+    pub fn note_events(
+        &mut self,
+        place: u64,
+        handler: &mut ConnectionHandler,
+    ) -> Result<(), NoMemory>
+        ensures written { OnOk result (self.new ≡ write_events place handler.old.events self.old) }
+        ensures handed_out { OnOk result (handler.new ≡ with_events [] handler.old) }
+    {
+        hand_out(&mut self.events, place, handler)
+    }
+
+    /// The transcript, where `up` is the last link with the bytes that it left, if it is up.
+    pub fn finish(mut self, alloc: Global, handler: &ConnectionHandler) -> Result<Transcript, NoMemory>
+        ensures { IfOk result (λ t. t ≡ finished handler.now self) }
+    {
+        if handler.is_up() {
+            self.end_link(alloc, LinkWord::Up, handler.waiting())?;
+        }
+        let Draft {
+            links,
+            taken: _,
+            subs,
+            events,
+            calls,
+        } = self;
+        Ok(Transcript {
+            links: Seq::from_vec(links),
+            subs: Seq::from_vec(subs),
+            events: Seq::from_vec(events),
+            calls: Seq::from_vec(calls),
+        })
+    }
+}
+
+/// What can happen to a subscription.
+#[derive(Drop)]
+pub enum Note {
+    /// A message was put into its queue.
+    Put(Message),
+    /// A message met its full queue.
+    Drop(Message),
+    /// A take was answered.
+    Take(TakeReply),
+}
+
+fn note_on(row: &mut SubRow, place: u64, note: Note) -> Result<(), NoMemory>
+    ensures { OnOk result (row.new ≡ write_note place note row.old) }
+{
+    match note {
+        Note::Put(message) => row.puts.push((place, message)),
+        Note::Drop(message) => row.drops.push((place, message)),
+        Note::Take(reply) => row.takes.push((place, reply)),
+    }
+}
+
+fn index_of(sid: u64, count: usize) -> Option<usize>
+    ensures { IsPlaceOf sid count result }
+{
+    let index = (sid as usize).checked_sub(1)?;
+    (index < count).then_some(index)
+}
+
+fn note_in(rows: &mut [SubRow], place: u64, sid: u64, note: Note) -> Result<(), NoMemory>
+    ensures { OnOk result (rows.new ≡ at_number sid (write_note place note) rows.old) }
+{
+    match index_of(sid, rows.len()) {
+        Some(index) => note_on(&mut rows[index], place, note),
+        None => Ok(()),
+    }
+}
+
+fn hand_out(
+    events: &mut Vec<(u64, Event)>,
+    place: u64,
+    handler: &mut ConnectionHandler,
+) -> Result<(), NoMemory>
+    ensures written { OnOk result (events.new.items ≡ events.old.items ++ at_place place handler.old.events) }
+    ensures handed_out { OnOk result (handler.new ≡ with_events [] handler.old) }
+{
+    'event: while let Some(event) = handler.next_event() {
+        events.push((place, event))?;
+    }
+    Ok(())
+}
