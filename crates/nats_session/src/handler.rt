@@ -4,6 +4,7 @@ ghost use Rattle.nats_session.specs.Parts.{StandsFor};
 ghost use Rattle.nats_session.specs.Handler.{idle};
 
 mod accessors;
+mod calls;
 mod due;
 mod turns;
 
