@@ -1,5 +1,5 @@
 //! What no clause says: texts of the protocol with what they mean, and each call once with ample memory.
-use crate::{ClientOp, Connection, ServerOp, Subject, WireError};
+use crate::{Bytes, ClientOp, Connection, OutboundMessage, ServerOp, Subject, WireError};
 use nats_names::NoMemory;
 use std::alloc::Global;
 use std::test::Fail;
@@ -140,5 +140,21 @@ fn what_was_written_no_longer_waits(rt: HostRuntime) -> Result<(), Fail> {
     assert_eq!(rt; pieces[0].as_slice(), b"SUB FOO.BAR 1\r\n".as_slice());
     connection.written(4);
     assert_eq!(rt; connection.waiting(), b"FOO.BAR 1\r\n".as_slice());
+    Ok(())
+}
+
+fn greeting(alloc: Global) -> Result<OutboundMessage, NoMemory> {
+    Ok(OutboundMessage {
+        subject: Subject::from_text(alloc, "FOO.BAR")?,
+        reply: None,
+        payload: Bytes::copy_from_slice(alloc, b"hi")?,
+    })
+}
+
+#[test]
+fn a_message_can_be_copied(rt: HostRuntime) -> Result<(), Fail> {
+    let message = greeting(rt.alloc())?;
+    let copy = message.copy()?;
+    assert_eq!(rt; copy.payload.as_slice(), b"hi".as_slice());
     Ok(())
 }
