@@ -1,13 +1,20 @@
-// A library with one function.
+//! A NATS session as a machine apart from any input or output: one turn in, a reply and bytes out. It has no clock, no
+//! lock and no handle.
 #![tactic(auto)]
 
-ghost use Rattle.std.specs.Prelude.{◌≡◌};
-ghost use Rattle.nats_session.specs.Echo.{echo_of};
+mod call;
+mod config;
+mod handler;
+mod play;
+mod queue;
+mod subs;
+mod transcript;
+mod turn;
 
-// The `ensures` clause is the contract: what `echo` returns is `echo_of` of its argument, a definition
-// in `specs/Echo.antt`, which a caller's clause can cite too.
-pub fn echo(x: usize) -> usize
-    ensures { result ≡ echo_of x }
-{
-    x
-}
+pub use call::{Call, CallReply, TakeReply};
+pub use config::Config;
+pub use handler::ConnectionHandler;
+pub use nats_wire::{Bytes, Event, Message, NoMemory, Seq, ServerInfo, Subject, Token};
+pub use play::run;
+pub use transcript::{LinkRow, LinkWord, RunError, SubRow, Transcript};
+pub use turn::{Due, Turn};

@@ -11,8 +11,8 @@ mod op;
 
 pub use connection::{Connection, Peeked, WRITE_BUF_LIMIT};
 pub use info::ServerInfo;
-pub use message::{Message, OutboundMessage};
-pub use nats_names::{Bytes, NoMemory, Seq, Subject, Text};
+pub use message::{Message, OutboundMessage, copy_subject};
+pub use nats_names::{Bytes, Event, NoMemory, Seq, Subject, Text, Token};
 pub use op::{ClientOp, ServerOp, WireError};
 
 #[cfg(test)]

@@ -1,0 +1,251 @@
+-- The sheet after one more step, and after one more answer.
+use Rattle.std.proofs.Common.{◌≡◌, ℕ, zero, suc, ◌+◌, ◌≤◌, ◌<◌, Bool, true, false, cond, not, eqb, ◌&&◌, min, List, [], ◌∷◌, ◌++◌, length, take, drop, map, Option, Some, None, refl, sym, ◌∙◌, ap, subst, arith, ◌⊎◌, inl, inr}
+use Rattle.std.proofs.lemmas.List.{append-nil, append_assoc, map-append, length-map, length-append, take-append-le, take-append-drop, take_min, drop_all}
+use Rattle.std.proofs.Math.Seq.{take-add}
+use Rattle.nats_names.specs.declared.event.Event.{Event}
+use Rattle.nats_wire.specs.declared.message.Message.{Message}
+use Rattle.nats_wire.specs.Operations.{message}
+use Rattle.nats_session.specs.declared.config.Config.{Config}
+use Rattle.nats_session.specs.declared.call.Call.{Call}
+use Rattle.nats_session.specs.declared.call.Call.TheVariants.{Subscribe}
+use Rattle.nats_session.specs.declared.call.TakeReply.{TakeReply}
+use Rattle.nats_session.specs.declared.call.CallReply.{CallReply}
+use Rattle.nats_session.specs.declared.transcript.LinkWord.{LinkWord}
+use Rattle.nats_session.specs.declared.transcript.LinkWord.TheVariants as word
+use Rattle.nats_session.specs.declared.transcript.LinkRow.{LinkRow}
+use Rattle.nats_session.specs.declared.transcript.SubRow.{SubRow}
+use Rattle.nats_session.specs.declared.subs.subscription.Delivery.{Delivery}
+use Rattle.nats_session.specs.declared.subs.subscription.Delivery.TheVariants.{Put, Dropped, Ignored}
+use Rattle.nats_session.specs.History.{Step, opened, fed, read, taken, accepted, handled, took, link_end, History, is_up, concerns, count_from, given, subscribed, Told, nothing_told, waiting, has_room, told_after, told, numbers, link_text, taken_count, waiting_bytes, texts, commands, events_by, at_place, events}
+use Rattle.nats_session.specs.Parts.{Sub, Parts, second, sub_of, subs_of, parts_of, at_number, item_of, after}
+use Rattle.nats_session.specs.Delivery.{delivery, delivery_at}
+use Rattle.nats_session.specs.Transcripts.{Answer, nothing, called, asked, link_row, ended_links, reply_to, take_replies, call_replies, sub_row, sub_rows, shown}
+use Rattle.nats_session.specs.Sheet.{Sheet, empty_sheet, sheet_of, finished, AreGiven, Tells, new_row, write_put, write_drop, write_take, write_delivery, write_step, write_answer, write_events}
+use Rattle.nats_session.proofs.Words.{taken_fits}
+use Rattle.nats_session.proofs.Tables.{numbered, one_more, same_table, at_number_same, item_there, item_missing}
+use Rattle.nats_session.proofs.Refines.{told_nothing, range_of, length-subs, events_more, parts_after}
+use Rattle.nats_session.proofs.Handlers.{stands_after}
+use Rattle.nats_session.specs.Machine.{with_events}
+use Rattle.nats_session.specs.Handler.{idle}
+use Rattle.std.proofs.lemmas.Bool.{ne_eqb}
+
+-- ---- rows
+
+abbrev row_of : List (ℕ × Message) → List (ℕ × Message) → List (ℕ × TakeReply) → SubRow
+row_of puts drops takes = record { puts = puts; drops = drops; takes = takes }
+
+abbrev Takes : Type 0
+Takes = List (ℕ × TakeReply)
+
+row_same : (b : Bool) (t u : Told) (takes : Takes) → u.puts ≡ t.puts → u.drops ≡ t.drops → sub_row (cond b u t) takes ≡ sub_row t takes
+row_same true t u takes p d = rw (p, d) refl
+row_same false t u takes p d = refl
+
+-- a step that puts nothing and drops nothing leaves the rows
+rows_kept : (c : Config) (h : History) (answers : List (ℕ × Answer)) (place : ℕ) (step : Step) → given ((place, step) ∷ h) ≡ given h
+  → ((t : Told) → (told_after c place step t).puts ≡ t.puts) → ((t : Told) → (told_after c place step t).drops ≡ t.drops)
+  → sub_rows c ((place, step) ∷ h) answers ≡ sub_rows c h answers
+rows_kept c h answers place step e puts drops =
+    ap (λ n. map (λ s. sub_row (told c s ((place, step) ∷ h)) (take_replies s answers)) (count_from 1 n)) e ∙ same_table _ _ (numbers h) (λ s. row_same (concerns s h step) (told c s h) (told_after c place step (told c s h)) (take_replies s answers) (puts (told c s h)) (drops (told c s h)))
+
+-- what a message writes into one row
+abbrev write_one : ℕ → Message → Delivery → SubRow → SubRow
+write_one place m Put row = write_put place m row
+write_one place m (Dropped dropped) row = write_drop place m row
+write_one place m Ignored row = row
+
+row_read : (c : Config) (place sid : ℕ) (m : Message) (t : Told) (takes : Takes) → sub_row (told_after c place (read (message sid m)) t) takes ≡ write_one place m (delivery c m (sub_of t)) (sub_row t takes)
+row_read c place sid m t takes = rw (length-map (waiting t) second) (by_case t.is_open (has_room c t))
+  where
+    by_case : (opened room : Bool) → row_of (t.puts ++ cond (opened && room) ((place, m) ∷ []) []) (t.drops ++ cond (opened && not room) ((place, m) ∷ []) []) takes
+      ≡ write_one place m (cond opened (cond room Put (Dropped m)) Ignored) (row_of t.puts t.drops takes)
+    by_case true true = ap (λ xs. row_of (t.puts ++ (place, m) ∷ []) xs takes) (append-nil t.drops)
+    by_case true false = ap (λ xs. row_of xs (t.drops ++ (place, m) ∷ []) takes) (append-nil t.puts)
+    by_case false room = rw (append-nil t.puts, append-nil t.drops) refl
+
+-- what becomes of a message hangs on what is told of its number, also of one that was not given
+delivery_is : (c : Config) (h : History) (sid : ℕ) (m : Message) → delivery_at c m (item_of sid (subs_of c h)) ≡ delivery c m (sub_of (told c sid h))
+delivery_is c h sid m = by_range (range_of sid (given h))
+  where
+    missing : (sid ≡ 0) ⊎ (given h < sid) → item_of sid (subs_of c h) ≡ None
+    missing (inl z) = ap (λ k. item_of k (subs_of c h)) z
+    missing (inr past) = item_missing (λ s. sub_of (told c s h)) (given h) sid past
+    by_range : ((sid ≡ 0) ⊎ (given h < sid)) ⊎ ((0 < sid) × (sid ≤ given h)) → delivery_at c m (item_of sid (subs_of c h)) ≡ delivery c m (sub_of (told c sid h))
+    by_range (inl apart) =
+        ap (delivery_at c m) (missing apart) ∙ sym (ap (λ t. delivery c m (sub_of t)) (told_nothing c sid h apart))
+    by_range (inr there) =
+        ap (delivery_at c m) (item_there (λ s. sub_of (told c s h)) (given h) sid there.0 there.1)
+
+delivery_rows : (place sid : ℕ) (m : Message) (d : Delivery) (rows : List SubRow) → at_number sid (write_one place m d) rows ≡ write_delivery place sid m d rows
+delivery_rows place sid m Put rows = refl
+delivery_rows place sid m (Dropped dropped) rows = refl
+delivery_rows place sid m Ignored rows = at_number_same sid rows
+
+rows_read : (c : Config) (h : History) (answers : List (ℕ × Answer)) (place sid : ℕ) (m : Message)
+  → sub_rows c ((place, read (message sid m)) ∷ h) answers ≡ write_delivery place sid m (delivery_at c m (item_of sid (subs_of c h))) (sub_rows c h answers)
+rows_read c h answers place sid m =
+    let d = delivery c m (sub_of (told c sid h)) in
+    numbered (λ s t. sub_row t (take_replies s answers)) (write_one place m d) (λ s. told_after c place (read (message sid m)) (told c s h)) (λ s. told c s h) (given h) sid (row_read c place sid m (told c sid h) (take_replies sid answers)) ∙ (delivery_rows place sid m d (sub_rows c h answers) ∙ sym (ap (λ e. write_delivery place sid m e (sub_rows c h answers)) (delivery_is c h sid m)))
+
+rows_accepted : (c : Config) (h : History) (answers : List (ℕ × Answer)) (place : ℕ) (subject : List ℕ) (group : Option (List ℕ)) → AreGiven h answers
+  → sub_rows c ((place, accepted (Subscribe subject group)) ∷ h) answers ≡ sub_rows c h answers ++ new_row ∷ []
+rows_accepted c h answers place subject group named =
+    let step = accepted (Subscribe subject group) in
+    let less : given h < suc (given h) = omega arith in
+    one_more (λ s t. sub_row t (take_replies s answers)) (λ s. told_after c place step (told c s h)) (λ s. told c s h) (given h) new_row (ap (λ t. sub_row (told_after c place step t) (take_replies (suc (given h)) answers)) (told_nothing c (suc (given h)) h (inr less)) ∙ ap (λ takes. sub_row nothing_told takes) (named (suc (given h)) less))
+
+-- ---- the bytes that the link took
+
+more_taken : (b : Bool) (t n : ℕ) (text : List ℕ) → cond b (take (min (t + n) (length text)) (text ++ [])) [] ≡ cond b (cond b (take t text) [] ++ take n (cond b (drop t text) [])) []
+more_taken true t n text =
+    ap (take (min (t + n) (length text))) (append-nil text) ∙ (take_min (t + n) text ∙ take-add t n text)
+more_taken false t n text = refl
+
+none_taken : (b : Bool) (t : ℕ) (text more : List ℕ) → t ≤ length text → cond b (take t (text ++ more)) [] ≡ cond b (take t text) []
+none_taken true t text more fits = take-append-le t text more fits
+none_taken false t text more fits = refl
+
+taken_kept : (h : History) (more : List ℕ) → cond (is_up h) (take (taken_count h) (link_text h ++ more)) [] ≡ cond (is_up h) (take (taken_count h) (link_text h)) []
+taken_kept h more = none_taken (is_up h) (taken_count h) (link_text h) more (taken_fits h)
+
+-- ---- the sheet after one more step
+
+abbrev sheet_with : List LinkRow → List ℕ → List SubRow → List (ℕ × Event) → List (ℕ × CallReply) → Sheet
+sheet_with ls ts ss es cs = record { links = ls; taken = ts; subs = ss; events = es; calls = cs }
+
+same_sheet : (ls ls' : List LinkRow) (ts ts' : List ℕ) (ss ss' : List SubRow) (es : List (ℕ × Event)) (cs : List (ℕ × CallReply)) → ls ≡ ls' → ts ≡ ts' → ss ≡ ss' → sheet_with ls ts ss es cs ≡ sheet_with ls' ts' ss' es cs
+same_sheet ls ls' ts ts' ss ss' es cs a b d = rw (a, b, d) refl
+
+ended_row : (end : LinkWord) (h : History) → is_up h ≡ true → link_row end h ≡ record { end = end; taken = cond (is_up h) (take (taken_count h) (link_text h)) []; left = waiting_bytes h }
+ended_row end h up = rw up refl
+
+-- a link ends only while it is up
+abbrev pub EndsUp : Bool → Step → Type 0
+EndsUp up (link_end end) = up ≡ true
+EndsUp up step = Unit {0}
+
+sheet_after : (c : Config) (n : ℕ) (h : History) (answers : List (ℕ × Answer)) (place : ℕ) (step : Step) → AreGiven h answers → EndsUp (is_up h) step
+  → sheet_of c ((place, step) ∷ h) answers ≡ write_events place (events_by c h step) (write_step place (parts_of c n h) step (sheet_of c h answers))
+sheet_after c n h answers place (opened info) named up = refl
+sheet_after c n h answers place (fed bytes) named up =
+    same_sheet _ _ _ _ _ _ _ _ refl (taken_kept h []) refl
+sheet_after c n h answers place (read (message sid m)) named up =
+    same_sheet _ _ _ _ _ _ _ _ refl (taken_kept h []) (rows_read c h answers place sid m)
+sheet_after c n h answers place (taken k) named up =
+    same_sheet _ _ _ _ _ _ _ _ refl (more_taken (is_up h) (taken_count h) k (link_text h)) refl
+sheet_after c n h answers place (accepted (Subscribe subject group)) named up =
+    same_sheet _ _ _ _ _ _ _ _ refl (taken_kept h []) (rows_accepted c h answers place subject group named)
+sheet_after c n h answers place (handled call) named up =
+    same_sheet _ _ _ _ _ _ _ _ refl (taken_kept h (texts (commands h (handled call)))) (rows_kept c h answers place (handled call) refl (λ t. append-nil t.puts) (λ t. append-nil t.drops))
+sheet_after c n h answers place (took sid) named up =
+    same_sheet _ _ _ _ _ _ _ _ refl (taken_kept h []) (rows_kept c h answers place (took sid) refl (λ t. append-nil t.puts) (λ t. append-nil t.drops))
+sheet_after c n h answers place (link_end end) named up =
+    same_sheet _ _ _ _ _ _ _ _ (ap (λ row. ended_links h ++ row ∷ []) (ended_row end h up)) refl refl
+
+none_left : (es : List (ℕ × Event)) → drop (length es) (map second es) ≡ []
+none_left es = drop_all (length es) (map second es) (rw length-map (omega arith))
+
+step_events : (c : Config) (h : History) (place : ℕ) (step : Step) → (after (parts_of c (length (events c h)) h) step).events ≡ events_by c h step
+step_events c h place step =
+    let fits : length (events c h) ≤ length (events c h) = omega arith in
+    sym (ap (λ (p : Parts). p.events) (parts_after c (length (events c h)) h place step fits)) ∙ (events_more (length (events c h)) (events c h) place (events_by c h step) fits ∙ ap (λ es. es ++ events_by c h step) (none_left (events c h)))
+
+pub given_grows : (h : History) (place : ℕ) (step : Step) → given h ≤ given ((place, step) ∷ h)
+given_grows h place (accepted (Subscribe subject group)) = omega arith
+given_grows h place step = omega arith
+
+two_ways : (place : ℕ) (step : Step) (p q : Parts) (s t : Sheet) → p ≡ q → s ≡ t → write_events place (after p step).events (write_step place p step s) ≡ write_events place (after q step).events (write_step place q step t)
+two_ways place step p q s t a b = rw (a, b) refl
+
+pub tells_step : (c : Config) (h : History) (answers : List (ℕ × Answer)) (place : ℕ) (step : Step) (p : Parts) (sheet : Sheet) → Tells c h answers p sheet → EndsUp p.is_up step
+  → Tells c ((place, step) ∷ h) answers (with_events [] (after p step)) (write_events place (after p step).events (write_step place p step sheet))
+tells_step c h answers place step p sheet tells up =
+    let n = length (events c h) in
+    let more = length (events c ((place, step) ∷ h)) in
+    let same = tells.stands.parts in
+    let up_there : EndsUp (is_up h) step = subst (λ (q : Parts). EndsUp q.is_up step) same up in
+    record {
+      stands = record {
+        handed_out = omega arith;
+        parts = ap (with_events []) (stands_after c n h place step p tells.stands).parts ∙ ap (λ es. with_events es (parts_of c n ((place, step) ∷ h))) (sym (none_left (events c ((place, step) ∷ h))));
+      };
+      written = two_ways place step p (parts_of c n h) sheet (sheet_of c h answers) same tells.written ∙ (ap (λ es. write_events place es (write_step place (parts_of c n h) step (sheet_of c h answers))) (step_events c h place step) ∙ sym (sheet_after c n h answers place step tells.given_numbers up_there));
+      given_numbers = λ s past. tells.given_numbers s (omega (arith, past, given_grows h place step));
+    }
+
+-- ---- the sheet after one more answer
+
+takes_append : (s : ℕ) (xs ys : List (ℕ × Answer)) → take_replies s (xs ++ ys) ≡ take_replies s xs ++ take_replies s ys
+takes_append s [] ys = refl
+takes_append s ((place, asked sid reply) ∷ xs) ys =
+    ap (λ zs. reply_to s place sid reply ++ zs) (takes_append s xs ys) ∙ sym (append_assoc (reply_to s place sid reply) (take_replies s xs) (take_replies s ys))
+takes_append s ((place, nothing) ∷ xs) ys = takes_append s xs ys
+takes_append s ((place, called reply) ∷ xs) ys = takes_append s xs ys
+
+calls_append : (xs ys : List (ℕ × Answer)) → call_replies (xs ++ ys) ≡ call_replies xs ++ call_replies ys
+calls_append [] ys = refl
+calls_append ((place, called reply) ∷ xs) ys = ap (λ zs. (place, reply) ∷ zs) (calls_append xs ys)
+calls_append ((place, nothing) ∷ xs) ys = calls_append xs ys
+calls_append ((place, asked sid reply) ∷ xs) ys = calls_append xs ys
+
+rows_asked : (c : Config) (h : History) (answers : List (ℕ × Answer)) (place sid : ℕ) (reply : TakeReply)
+  → sub_rows c h (answers ++ (place, asked sid reply) ∷ []) ≡ at_number sid (write_take place reply) (sub_rows c h answers)
+rows_asked c h answers place sid reply =
+    same_table _ _ (numbers h) (λ s. ap (sub_row (told c s h)) (takes_append s answers ((place, asked sid reply) ∷ []) ∙ by_number (eqb s sid) (take_replies s answers))) ∙ numbered (λ s takes. sub_row (told c s h) takes) (write_take place reply) (λ s. take_replies s answers ++ (place, reply) ∷ []) (λ s. take_replies s answers) (given h) sid refl
+  where
+    by_number : (b : Bool) (takes : Takes) → takes ++ (cond b ((place, reply) ∷ []) [] ++ []) ≡ cond b (takes ++ (place, reply) ∷ []) takes
+    by_number true takes = refl
+    by_number false takes = append-nil takes
+
+rows_other : (c : Config) (h : History) (answers more : List (ℕ × Answer)) → ((s : ℕ) → take_replies s more ≡ []) → sub_rows c h (answers ++ more) ≡ sub_rows c h answers
+rows_other c h answers more none =
+    same_table _ _ (numbers h) (λ s. ap (sub_row (told c s h)) (takes_append s answers more ∙ (ap (λ xs. take_replies s answers ++ xs) (none s) ∙ append-nil (take_replies s answers))))
+
+-- an answer to a take is of a number that was given
+abbrev pub IsGiven : History → Answer → Type 0
+IsGiven h (asked sid reply) = sid ≤ given h
+IsGiven h answer = Unit {0}
+
+sheet_answered : (c : Config) (h : History) (answers : List (ℕ × Answer)) (place : ℕ) (answer : Answer) → sheet_of c h (answers ++ (place, answer) ∷ []) ≡ write_answer place answer (sheet_of c h answers)
+sheet_answered c h answers place nothing =
+    rw (rows_other c h answers ((place, nothing) ∷ []) (λ s. refl), calls_append answers ((place, nothing) ∷ []), append-nil (call_replies answers)) refl
+sheet_answered c h answers place (called reply) =
+    rw (rows_other c h answers ((place, called reply) ∷ []) (λ s. refl), calls_append answers ((place, called reply) ∷ [])) refl
+sheet_answered c h answers place (asked sid reply) =
+    rw (rows_asked c h answers place sid reply, calls_append answers ((place, asked sid reply) ∷ []), append-nil (call_replies answers)) refl
+
+given_still : (h : History) (answers : List (ℕ × Answer)) (place : ℕ) (answer : Answer) → AreGiven h answers → IsGiven h answer → AreGiven h (answers ++ (place, answer) ∷ [])
+given_still h answers place (asked sid reply) named there s past =
+    takes_append s answers ((place, asked sid reply) ∷ []) ∙ (ap (λ xs. xs ++ (reply_to s place sid reply ++ [])) (named s past) ∙ ap (λ b. cond b ((place, reply) ∷ []) [] ++ []) (ne_eqb s sid (λ e. omega (arith, e, there, past))))
+given_still h answers place nothing named there s past =
+    takes_append s answers ((place, nothing) ∷ []) ∙ ap (λ xs. xs ++ []) (named s past)
+given_still h answers place (called reply) named there s past =
+    takes_append s answers ((place, called reply) ∷ []) ∙ ap (λ xs. xs ++ []) (named s past)
+
+pub tells_answer : (c : Config) (h : History) (answers : List (ℕ × Answer)) (place : ℕ) (answer : Answer) (p : Parts) (sheet : Sheet) → Tells c h answers p sheet → IsGiven h answer
+  → Tells c h (answers ++ (place, answer) ∷ []) p (write_answer place answer sheet)
+tells_answer c h answers place answer p sheet tells there = record {
+  stands = tells.stands;
+  written = ap (write_answer place answer) tells.written ∙ sym (sheet_answered c h answers place answer);
+  given_numbers = given_still h answers place answer tells.given_numbers there;
+}
+
+-- ---- the end
+
+abbrev link_with : List ℕ → List ℕ → LinkRow
+link_with bytes text = record { end = word.Up; taken = bytes; left = text }
+
+last_link : (up : Bool) (bytes text : List ℕ) → cond up (link_with (cond up bytes []) (cond up text []) ∷ []) [] ≡ cond up (link_with bytes text ∷ []) []
+last_link true bytes text = refl
+last_link false bytes text = refl
+
+pub tells_finished : (c : Config) (h : History) (answers : List (ℕ × Answer)) (p : Parts) (sheet : Sheet) → Tells c h answers p sheet → finished p sheet ≡ shown c h answers
+tells_finished c h answers p sheet tells =
+    rw (tells.stands.parts, tells.written) (ap (λ last. record { links = ended_links h ++ last; subs = sub_rows c h answers; events = events c h; calls = call_replies answers }) (last_link (is_up h) (take (taken_count h) (link_text h)) (drop (taken_count h) (link_text h))))
+
+pub tells_nothing : (c : Config) → Tells c [] [] (idle c) empty_sheet
+tells_nothing c = record {
+  stands = record { handed_out = omega arith; parts = refl };
+  written = refl;
+  given_numbers = λ s past. refl;
+}

@@ -1,0 +1,148 @@
+-- A table of numbered things, each told by its number: the table after one of them changed, and after one more came.
+use Rattle.std.proofs.Common.{◌≡◌, ℕ, zero, suc, ◌+◌, ◌-◌, ◌<◌, ◌≤◌, Bool, true, false, cond, eqb, ltb, ◌&&◌, List, [], ◌∷◌, ◌++◌, length, get_or, set, map, Option, Some, None, refl, sym, ◌∙◌, ap, subst, arith, ◌⊎◌, inl, inr}
+use Rattle.std.specs.Prelude.{slice_get}
+use Rattle.std.proofs.lemmas.List.{length-map, map-append}
+use Rattle.std.proofs.lemmas.Option.{slice_get_read, slice_get_past}
+use Rattle.std.proofs.lemmas.Bool.{ne_eqb, eq-eqb, ltb-false}
+use Rattle.nats_session.specs.History.{count_from}
+use Rattle.nats_session.specs.Parts.{at_index, at_number, item_of}
+
+pub same_cons : {A : Type 0} (x y : A) (xs ys : List A) → x ≡ y → xs ≡ ys → x ∷ xs ≡ y ∷ ys
+same_cons x y xs ys e d = cc
+
+pub length-count_from : (first n : ℕ) → length (count_from first n) ≡ n
+length-count_from first zero = refl
+length-count_from first (suc n) = ap suc (length-count_from (suc first) n)
+
+pub count_from_last : (first n : ℕ) → count_from first (suc n) ≡ count_from first n ++ (first + n) ∷ []
+count_from_last first zero = let e : first ≡ first + 0 = omega arith in ap (λ k. k ∷ []) e
+count_from_last first (suc n) =
+    let e : suc first + n ≡ first + suc n = omega arith in
+    ap (λ xs. first ∷ xs) (count_from_last (suc first) n ∙ ap (λ k. count_from (suc first) n ++ k ∷ []) e)
+
+pub length-at_index : {A : Type 0} (i : ℕ) (f : A → A) (xs : List A) → length (at_index i f xs) ≡ length xs
+length-at_index i f [] = refl
+length-at_index zero f (x ∷ xs) = refl
+length-at_index (suc i) f (x ∷ xs) = ap suc (length-at_index i f xs)
+
+pub length-at_number : {A : Type 0} (k : ℕ) (f : A → A) (xs : List A) → length (at_number k f xs) ≡ length xs
+length-at_number zero f xs = refl
+length-at_number (suc i) f xs = length-at_index i f xs
+
+-- past the end nothing changes
+pub at_index_past : {A : Type 0} (i : ℕ) (f : A → A) (xs : List A) → length xs ≤ i → at_index i f xs ≡ xs
+at_index_past i f [] past = refl
+at_index_past zero f (x ∷ xs) past = absurd (omega arith)
+at_index_past (suc i) f (x ∷ xs) past = ap (λ ys. x ∷ ys) (at_index_past i f xs (omega arith))
+
+-- ---- the numbers that a change leaves alone
+
+pub above : {A B : Type 0} (view : ℕ → A → B) (new old : ℕ → A) (n first k : ℕ) → k < first
+  → map (λ s. view s (cond (eqb s k) (new s) (old s))) (count_from first n) ≡ map (λ s. view s (old s)) (count_from first n)
+above view new old zero first k less = refl
+above view new old (suc n) first k less =
+    same_cons _ _ _ _ (ap (λ b. view first (cond b (new first) (old first))) (ne_eqb first k (λ e. omega arith))) (above view new old n (suc first) k (omega arith))
+
+pub below : {A B : Type 0} (view : ℕ → A → B) (new old : ℕ → A) (n first k : ℕ) → first + n ≤ k
+  → map (λ s. view s (cond (eqb s k) (new s) (old s))) (count_from first n) ≡ map (λ s. view s (old s)) (count_from first n)
+below view new old zero first k less = refl
+below view new old (suc n) first k less =
+    same_cons _ _ _ _ (ap (λ b. view first (cond b (new first) (old first))) (ne_eqb first k (λ e. omega arith))) (below view new old n (suc first) k (omega arith))
+
+-- ---- the table after the thing of one number changed
+
+numbered_from : {A B : Type 0} (view : ℕ → A → B) (f : B → B) (new old : ℕ → A) (n i first k : ℕ) → view k (new k) ≡ f (view k (old k)) → k ≡ first + i
+  → map (λ s. view s (cond (eqb s k) (new s) (old s))) (count_from first n) ≡ at_index i f (map (λ s. view s (old s)) (count_from first n))
+numbered_from view f new old zero i first k changed e = refl
+numbered_from view f new old (suc n) zero first k changed e =
+    let here : k ≡ first = omega arith in
+    same_cons _ _ _ _ (ap (λ b. view first (cond b (new first) (old first))) (eq-eqb first k (sym here)) ∙ subst (λ s. view s (new s) ≡ f (view s (old s))) here changed) (above view new old n (suc first) k (omega arith))
+numbered_from view f new old (suc n) (suc i) first k changed e =
+    same_cons _ _ _ _ (ap (λ b. view first (cond b (new first) (old first))) (ne_eqb first k (λ d. omega arith))) (numbered_from view f new old n i (suc first) k changed (omega arith))
+
+pub numbered : {A B : Type 0} (view : ℕ → A → B) (f : B → B) (new old : ℕ → A) (n k : ℕ) → view k (new k) ≡ f (view k (old k))
+  → map (λ s. view s (cond (eqb s k) (new s) (old s))) (count_from 1 n) ≡ at_number k f (map (λ s. view s (old s)) (count_from 1 n))
+numbered view f new old n zero changed = above view new old n 1 zero (omega arith)
+numbered view f new old n (suc i) changed = numbered_from view f new old n i 1 (suc i) changed (omega arith)
+
+-- the same under a condition that does not hang on the number, and that holds where there is such a number
+pub numbered_if : {A B : Type 0} (view : ℕ → A → B) (f : B → B) (new old : ℕ → A) (n i : ℕ) (b : Bool) → view (suc i) (new (suc i)) ≡ f (view (suc i) (old (suc i))) → b ≡ ltb i n
+  → map (λ s. view s (cond (b && eqb s (suc i)) (new s) (old s))) (count_from 1 n) ≡ at_number (suc i) f (map (λ s. view s (old s)) (count_from 1 n))
+numbered_if view f new old n i true changed e = numbered view f new old n (suc i) changed
+numbered_if view f new old n i false changed e =
+    let past = ltb-false i n (sym e) in
+    sym (at_index_past i f (map (λ s. view s (old s)) (count_from 1 n)) (rw (length-map (count_from 1 n) (λ s. view s (old s)), length-count_from 1 n) past))
+
+-- ---- the table after one more thing came, of the next number
+
+pub one_more : {A B : Type 0} (view : ℕ → A → B) (new old : ℕ → A) (n : ℕ) (last : B) → view (suc n) (new (suc n)) ≡ last
+  → map (λ s. view s (cond (eqb s (suc n)) (new s) (old s))) (count_from 1 (suc n)) ≡ map (λ s. view s (old s)) (count_from 1 n) ++ last ∷ []
+one_more view new old n last e =
+    let told = λ (s : ℕ). view s (cond (eqb s (suc n)) (new s) (old s)) in
+    let next : 1 + n ≡ suc n = omega arith in
+    let here : told (1 + n) ≡ last =
+          ap told next ∙ (ap (λ b. view (suc n) (cond b (new (suc n)) (old (suc n)))) (eq-eqb (suc n) (suc n) refl) ∙ e)
+    in
+    ap (map told) (count_from_last 1 n) ∙ (map-append told (count_from 1 n) ((1 + n) ∷ []) ∙ (ap (λ xs. xs ++ told (1 + n) ∷ []) (below view new old n 1 (suc n) (omega arith)) ∙ ap (λ x. map (λ s. view s (old s)) (count_from 1 n) ++ x ∷ []) here))
+
+-- tables whose things look alike are one
+pub same_table : {B : Type 0} (f g : ℕ → B) (numbers : List ℕ) → ((s : ℕ) → f s ≡ g s) → map f numbers ≡ map g numbers
+same_table f g [] same = refl
+same_table f g (s ∷ numbers) same = same_cons _ _ _ _ (same s) (same_table f g numbers same)
+
+-- a change that changes nothing
+pub at_number_same : {A : Type 0} (k : ℕ) (xs : List A) → at_number k (λ x. x) xs ≡ xs
+at_number_same zero xs = refl
+at_number_same (suc i) xs = by_place i xs
+  where
+    by_place : {A : Type 0} (i : ℕ) (xs : List A) → at_index i (λ x. x) xs ≡ xs
+    by_place i [] = refl
+    by_place zero (x ∷ xs) = refl
+    by_place (suc i) (x ∷ xs) = ap (λ ys. x ∷ ys) (by_place i xs)
+
+-- ---- an item of the table
+
+item_from : {B : Type 0} (g : ℕ → B) (n i first : ℕ) → i < n → slice_get (map g (count_from first n)) i ≡ Some (g (first + i))
+item_from g zero i first less = absurd (omega arith)
+item_from g (suc n) zero first less = let e : first ≡ first + 0 = omega arith in ap (λ k. Some (g k)) e
+item_from g (suc n) (suc i) first less =
+    let e : suc first + i ≡ first + suc i = omega arith in
+    item_from g n i (suc first) (omega arith) ∙ ap (λ k. Some (g k)) e
+
+none_from : {B : Type 0} (g : ℕ → B) (n i first : ℕ) → n ≤ i → slice_get (map g (count_from first n)) i ≡ None
+none_from g zero i first past = refl
+none_from g (suc n) zero first past = absurd (omega arith)
+none_from g (suc n) (suc i) first past = none_from g n i (suc first) (omega arith)
+
+pub item_there : {B : Type 0} (g : ℕ → B) (n k : ℕ) → 0 < k → k ≤ n → item_of k (map g (count_from 1 n)) ≡ Some (g k)
+item_there g n zero low high = absurd (omega arith)
+item_there g n (suc i) low high =
+    let e : 1 + i ≡ suc i = omega arith in
+    item_from g n i 1 (omega arith) ∙ ap (λ j. Some (g j)) e
+
+pub item_missing : {B : Type 0} (g : ℕ → B) (n k : ℕ) → n < k → item_of k (map g (count_from 1 n)) ≡ None
+item_missing g n zero past = absurd (omega arith)
+item_missing g n (suc i) past = none_from g n i 1 (omega arith)
+
+-- a write of what f makes of the item at a place
+pub set_changed : {A : Type 0} (f : A → A) (xs : List A) (i : ℕ) (x y : A) → i < length xs → x ≡ get_or xs i x → y ≡ f x → set xs i y ≡ at_index i f xs
+set_changed f [] i x y less at e = absurd (omega arith)
+set_changed f (z ∷ zs) zero x y less at e = ap (λ w. w ∷ zs) (e ∙ ap f at)
+set_changed f (z ∷ zs) (suc i) x y less at e = ap (λ ws. z ∷ ws) (set_changed f zs i x y (omega arith) at e)
+
+-- the same by the thing's number
+pub set_number : {A : Type 0} (f : A → A) (xs : List A) (k i : ℕ) (x y : A) → k ≡ suc i → i < length xs → x ≡ get_or xs i x → y ≡ f x → set xs i y ≡ at_number k f xs
+set_number f xs k i x y e less at changed = set_changed f xs i x y less at changed ∙ ap (λ n. at_number n f xs) (sym e)
+
+pub item_read : {A : Type 0} (xs : List A) (k i : ℕ) (x : A) → k ≡ suc i → i < length xs → x ≡ get_or xs i x → item_of k xs ≡ Some x
+item_read xs k i x e less at = ap (λ n. item_of n xs) e ∙ slice_get_read xs (length xs) i x refl less at
+
+pub number_missing : {A : Type 0} (f : A → A) (xs : List A) (k : ℕ) → (k ≡ 0) ⊎ (length xs < k) → at_number k f xs ≡ xs
+number_missing f xs k (inl z) = ap (λ n. at_number n f xs) z
+number_missing f xs zero (inr past) = refl
+number_missing f xs (suc i) (inr past) = at_index_past i f xs (omega arith)
+
+pub no_item : {A : Type 0} (xs : List A) (k : ℕ) → (k ≡ 0) ⊎ (length xs < k) → item_of k xs ≡ None
+no_item xs k (inl z) = ap (λ n. item_of n xs) z
+no_item xs zero (inr past) = refl
+no_item xs (suc i) (inr past) = slice_get_past xs i (omega arith)

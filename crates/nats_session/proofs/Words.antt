@@ -1,0 +1,74 @@
+-- Laws on the words that tell of a history: a count never passes what it counts, and each word after one more step.
+use Rattle.std.proofs.Common.{◌≡◌, ℕ, zero, suc, ◌+◌, ◌-◌, ◌<◌, ◌≤◌, Bool, true, false, cond, min, List, [], ◌∷◌, ◌++◌, length, take, drop, map, refl, sym, ◌∙◌, ap, arith}
+use Rattle.std.proofs.lemmas.List.{append-nil, append_assoc, map-append, length-map, length-append, length-drop, drop-append-le, drop-drop, drop_min, drop_all}
+use Rattle.std.proofs.Math.Nat.{min-le_right}
+use Rattle.nats_wire.specs.Operations.{Operation, Front, got, unfinished, fault, front, past, behind}
+use Rattle.nats_wire.specs.Laws.{IsGot, AllThere}
+use Rattle.nats_wire.proofs.Fronts.{behind_next, behind_more, there_more, there_next}
+use Rattle.nats_session.specs.declared.call.Call.{Call}
+use Rattle.nats_session.specs.History.{Step, opened, fed, read, taken, accepted, handled, took, link_end, History, is_up, joined, is_got, reads, unread, calls, handled_count, waiting_calls, commands, texts, link_text, taken_count, waiting_bytes}
+
+-- ---- lists
+
+-- one more goes
+pub drop_one_more : {A : Type 0} (n : ℕ) (xs : List A) → drop (min (suc n) (length xs)) xs ≡ drop 1 (drop n xs)
+drop_one_more n xs =
+    let e : suc n ≡ n + 1 = omega arith in
+    drop_min (suc n) xs ∙ (ap (λ k. drop k xs) e ∙ sym (drop-drop 1 n xs))
+
+-- that many more go
+pub drop_more_of : {A : Type 0} (n more : ℕ) (xs : List A) → drop (min (n + more) (length xs)) xs ≡ drop more (drop n xs)
+drop_more_of n more xs = drop_min (n + more) xs ∙ sym (drop-drop more n xs)
+
+-- ---- calls
+
+pub handled_fits : (h : History) → handled_count h ≤ length (calls h)
+handled_fits [] = omega arith
+handled_fits ((place, accepted call) ∷ h) = omega (arith, handled_fits h, length-append (calls h) (call ∷ []))
+handled_fits ((place, handled call) ∷ h) = min-le_right (suc (handled_count h)) (length (calls h))
+handled_fits ((place, step) ∷ h) = handled_fits h
+
+pub calls_accepted : (h : History) (call : Call) → drop (handled_count h) (calls h ++ call ∷ []) ≡ waiting_calls h ++ call ∷ []
+calls_accepted h call = drop-append-le (handled_count h) (calls h) (call ∷ []) (handled_fits h)
+
+-- ---- the link's bytes
+
+pub reads_are_there : (h : History) → AllThere (reads h) (joined h)
+reads_are_there [] = tt
+reads_are_there ((place, opened info) ∷ h) = tt
+reads_are_there ((place, fed bytes) ∷ h) = there_more (reads h) (joined h) bytes (reads_are_there h)
+reads_are_there ((place, read operation) ∷ h) =
+    read_there (front (behind (reads h) (joined h))) (reads h) (joined h) refl (reads_are_there h)
+  where
+    read_there : (f : Front) (r : ℕ) (bytes : List ℕ) → front (behind r bytes) ≡ f → AllThere r bytes → AllThere (cond (is_got f) (suc r) r) bytes
+    read_there (got operation n) r bytes e there = there_next r bytes there (rw e tt)
+    read_there unfinished r bytes e there = there
+    read_there (fault n) r bytes e there = there
+reads_are_there ((place, step) ∷ h) = reads_are_there h
+
+-- the unread bytes after a read
+pub unread_read : (f : Front) (r : ℕ) (bytes : List ℕ) → front (behind r bytes) ≡ f → behind (cond (is_got f) (suc r) r) bytes ≡ past f (behind r bytes)
+unread_read (got operation n) r bytes e = behind_next r bytes ∙ ap (λ f. past f (behind r bytes)) e
+unread_read unfinished r bytes e = refl
+unread_read (fault n) r bytes e = refl
+
+pub unread_fed : (h : History) (bytes : List ℕ) → behind (reads h) (joined h ++ bytes) ≡ behind (reads h) (joined h) ++ bytes
+unread_fed h bytes = behind_more (reads h) (joined h) bytes (reads_are_there h)
+
+-- ---- the link's text
+
+-- a step without commands leaves the link's text
+same_text : (h : History) (n : ℕ) → n ≤ length (link_text h) → n ≤ length (link_text h ++ [])
+same_text h n fits = rw append-nil fits
+
+pub taken_fits : (h : History) → taken_count h ≤ length (link_text h)
+taken_fits [] = omega arith
+taken_fits ((place, opened info) ∷ h) = omega arith
+taken_fits ((place, taken n) ∷ h) =
+    rw append-nil (min-le_right (taken_count h + n) (length (link_text h)))
+taken_fits ((place, step) ∷ h) =
+    omega (arith, taken_fits h, length-append (link_text h) (texts (commands h step)))
+
+-- bytes join those that wait
+pub waiting_written : (h : History) (more : List ℕ) → drop (taken_count h) (link_text h ++ more) ≡ drop (taken_count h) (link_text h) ++ more
+waiting_written h more = drop-append-le (taken_count h) (link_text h) more (taken_fits h)

@@ -1,0 +1,75 @@
+-- Turns over parts and a sheet alone: what playing leaves, with each event handed out as it comes.
+use Rattle.std.specs.Prelude.{◌≡◌, ℕ, zero, suc, List, [], ◌∷◌, ◌++◌, length, Option, Some, None, Result, Ok, Err, if◌then◌else◌, min, take}
+use Rattle.nats_names.specs.declared.event.Event.{Event}
+use Rattle.nats_session.specs.declared.call.Call.{Call}
+use Rattle.nats_session.specs.declared.turn.Turn.{Turn}
+use Rattle.nats_session.specs.declared.turn.Turn.TheVariants.{Up, Piece, Write, Do, Take}
+use Rattle.nats_session.specs.History.{Step}
+use Rattle.nats_session.specs.Parts.{Parts, after}
+use Rattle.nats_session.specs.Schedule.{is_valid_turn, own_steps, due_steps, call_reply, take_reply}
+use Rattle.nats_session.specs.Transcripts.{Answer, nothing, called, asked}
+use Rattle.nats_session.specs.Sheet.{Sheet, write_step, write_answer, write_events}
+
+abbrev pub with_events : List Event → Parts → Parts
+with_events events p = record p { events = events }
+
+-- ---- steps
+
+-- the parts after one more step, its events handed out
+abbrev pub parts_noted : Step → Parts → Parts
+parts_noted step p = with_events [] (after p step)
+
+-- the sheet with what the step writes and with its events
+abbrev pub sheet_noted : ℕ → Step → Parts → Sheet → Sheet
+sheet_noted place step p sheet = write_events place (after p step).events (write_step place p step sheet)
+
+abbrev pub parts_recorded : List Step → Parts → Parts
+parts_recorded [] p = p
+parts_recorded (step ∷ steps) p = parts_recorded steps (parts_noted step p)
+
+abbrev pub sheet_recorded : ℕ → List Step → Parts → Sheet → Sheet
+sheet_recorded place [] p sheet = sheet
+sheet_recorded place (step ∷ steps) p sheet = sheet_recorded place steps (parts_noted step p) (sheet_noted place step p sheet)
+
+-- ---- turns
+
+abbrev pub answer_at : Parts → Turn → Answer
+answer_at p (Do call) = called (call_reply p call)
+answer_at p (Take sid) = asked sid (take_reply p sid)
+answer_at p turn = nothing
+
+-- after a turn's own steps and its answer
+abbrev pub own_parts : Turn → Parts → Parts
+own_parts turn p = parts_recorded (own_steps p turn) p
+
+abbrev pub own_sheet : ℕ → Turn → Parts → Sheet → Sheet
+own_sheet place turn p sheet = write_answer place (answer_at p turn) (sheet_recorded place (own_steps p turn) p sheet)
+
+-- after all that is due
+abbrev pub settled_parts : Parts → Parts
+settled_parts p = parts_recorded (due_steps p) p
+
+abbrev pub settled_sheet : ℕ → Parts → Sheet → Sheet
+settled_sheet place p sheet = sheet_recorded place (due_steps p) p sheet
+
+-- after a whole turn
+abbrev pub turn_parts : Turn → Parts → Parts
+turn_parts turn p = settled_parts (own_parts turn p)
+
+abbrev pub turn_sheet : ℕ → Turn → Parts → Sheet → Sheet
+turn_sheet place turn p sheet = settled_sheet place (own_parts turn p) (own_sheet place turn p sheet)
+
+-- ---- a list of turns, the first of them at this place
+
+abbrev pub played_parts : List Turn → Parts → Parts
+played_parts [] p = p
+played_parts (turn ∷ turns) p = played_parts turns (turn_parts turn p)
+
+abbrev pub played_sheet : ℕ → List Turn → Parts → Sheet → Sheet
+played_sheet place [] p sheet = sheet
+played_sheet place (turn ∷ turns) p sheet = played_sheet (suc place) turns (turn_parts turn p) (turn_sheet place turn p sheet)
+
+abbrev pub first_out_of_turn : ℕ → List Turn → Parts → Option ℕ
+first_out_of_turn place [] p = None
+first_out_of_turn place (turn ∷ turns) p =
+    if is_valid_turn p turn then first_out_of_turn (suc place) turns (turn_parts turn p) else Some place

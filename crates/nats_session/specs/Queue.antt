@@ -1,0 +1,11 @@
+-- The ends of a list.
+use Rattle.std.specs.Prelude.{List, [], ◌∷◌, Option, Some, None}
+
+abbrev pub first : {A : Type 0} → List A → Option A
+first [] = None
+first (x ∷ xs) = Some x
+
+abbrev pub last : {A : Type 0} → List A → Option A
+last [] = None
+last (x ∷ []) = Some x
+last (x ∷ y ∷ xs) = last (y ∷ xs)

@@ -1,0 +1,113 @@
+-- The transcript as it is written turn by turn.
+use Rattle.std.specs.Prelude.{◌≡◌, ℕ, suc, ◌≤◌, ◌<◌, Bool, true, List, [], ◌∷◌, ◌++◌, length, take, drop, map, Option, Some, None, if◌then◌else◌, IsTrue}
+use Rattle.nats_names.specs.declared.event.Event.{Event}
+use Rattle.nats_wire.specs.declared.message.Message.{Message}
+use Rattle.nats_wire.specs.Operations.{message}
+use Rattle.nats_session.specs.declared.config.Config.{Config}
+use Rattle.nats_session.specs.declared.call.Call.{Call}
+use Rattle.nats_session.specs.declared.call.Call.TheVariants.{Subscribe}
+use Rattle.nats_session.specs.declared.call.CallReply.{CallReply}
+use Rattle.nats_session.specs.declared.call.TakeReply.{TakeReply}
+use Rattle.nats_session.specs.declared.transcript.LinkWord.{LinkWord}
+use Rattle.nats_session.specs.declared.transcript.LinkWord.TheVariants as word
+use Rattle.nats_session.specs.declared.transcript.LinkRow.{LinkRow}
+use Rattle.nats_session.specs.declared.transcript.SubRow.{SubRow}
+use Rattle.nats_session.specs.declared.transcript.Transcript.{Transcript}
+use Rattle.nats_session.specs.declared.subs.subscription.Delivery.{Delivery}
+use Rattle.nats_session.specs.declared.subs.subscription.Delivery.TheVariants.{Put, Dropped, Ignored}
+use Rattle.nats_session.specs.History.{Step, opened, fed, read, taken, accepted, handled, took, link_end, History, is_up, link_text, taken_count, end_events, at_place, given, events}
+use Rattle.nats_session.specs.Parts.{Parts, StandsFor, at_number, item_of, drop_events}
+use Rattle.nats_session.specs.Delivery.{delivery_at}
+use Rattle.nats_session.specs.Transcripts.{Answer, nothing, called, asked, ended_links, sub_rows, take_replies, call_replies}
+
+-- what is written so far
+pub record Sheet : Type 0 where
+  -- the links that ended
+  pub links : List LinkRow
+  -- the bytes that the link that is up took
+  pub taken : List ℕ
+  pub subs : List SubRow
+  pub events : List (ℕ × Event)
+  pub calls : List (ℕ × CallReply)
+
+abbrev pub empty_sheet : Sheet
+empty_sheet = record { links = []; taken = []; subs = []; events = []; calls = [] }
+
+-- the sheet that the words on a history and the answers give
+abbrev pub sheet_of : Config → History → List (ℕ × Answer) → Sheet
+sheet_of c h answers = record {
+  links = ended_links h;
+  taken = if is_up h then take (taken_count h) (link_text h) else [];
+  subs = sub_rows c h answers;
+  events = events c h;
+  calls = call_replies answers;
+}
+
+-- ---- what a step and an answer write
+
+abbrev pub new_row : SubRow
+new_row = record { puts = []; drops = []; takes = [] }
+
+abbrev pub write_put : ℕ → Message → SubRow → SubRow
+write_put place m row = record row { puts = row.puts ++ (place, m) ∷ [] }
+
+abbrev pub write_drop : ℕ → Message → SubRow → SubRow
+write_drop place m row = record row { drops = row.drops ++ (place, m) ∷ [] }
+
+abbrev pub write_take : ℕ → TakeReply → SubRow → SubRow
+write_take place reply row = record row { takes = row.takes ++ (place, reply) ∷ [] }
+
+-- a message of a subscription that was put or dropped
+abbrev pub write_delivery : ℕ → ℕ → Message → Delivery → List SubRow → List SubRow
+write_delivery place sid m Put rows = at_number sid (write_put place m) rows
+write_delivery place sid m (Dropped dropped) rows = at_number sid (write_drop place m) rows
+write_delivery place sid m Ignored rows = rows
+
+abbrev pub write_accepted : Call → List SubRow → List SubRow
+write_accepted (Subscribe subject group) rows = rows ++ new_row ∷ []
+
+abbrev pub taken_bytes : Parts → ℕ → List ℕ → List ℕ
+taken_bytes p n before = if p.is_up then before ++ take n p.wire.waiting else []
+
+-- the row of the link that ends or is up, with this word
+abbrev pub row_now : LinkWord → Parts → Sheet → LinkRow
+row_now end p sheet = record { end = end; taken = sheet.taken; left = p.wire.waiting }
+
+-- what a step writes at a place, where these are the parts before it
+abbrev pub write_step : ℕ → Parts → Step → Sheet → Sheet
+write_step place p (opened info) sheet = record sheet { taken = [] }
+write_step place p (fed bytes) sheet = sheet
+write_step place p (read (message sid m)) sheet = record sheet { subs = write_delivery place sid m (delivery_at p.config m (item_of sid p.subs)) sheet.subs }
+write_step place p (taken n) sheet = record sheet { taken = taken_bytes p n sheet.taken }
+write_step place p (accepted call) sheet = record sheet { subs = write_accepted call sheet.subs }
+write_step place p (handled call) sheet = sheet
+write_step place p (took sid) sheet = sheet
+write_step place p (link_end end) sheet = record sheet { links = sheet.links ++ row_now end p sheet ∷ []; taken = [] }
+
+-- what an answer writes at a place
+abbrev pub write_answer : ℕ → Answer → Sheet → Sheet
+write_answer place nothing sheet = sheet
+write_answer place (called reply) sheet = record sheet { calls = sheet.calls ++ (place, reply) ∷ [] }
+write_answer place (asked sid reply) sheet = record sheet { subs = at_number sid (write_take place reply) sheet.subs }
+
+abbrev pub write_events : ℕ → List Event → Sheet → Sheet
+write_events place events sheet = record sheet { events = sheet.events ++ at_place place events }
+
+-- the transcript of a sheet, where these are the parts at the end
+abbrev pub finished : Parts → Sheet → Transcript
+finished p sheet = record {
+  links = sheet.links ++ (if p.is_up then row_now word.Up p sheet ∷ [] else []);
+  subs = sheet.subs;
+  events = sheet.events;
+  calls = sheet.calls;
+}
+
+-- the answers to takes are of numbers that were given
+abbrev pub AreGiven : History → List (ℕ × Answer) → Type 0
+AreGiven h answers = (s : ℕ) → given h < s → take_replies s answers ≡ []
+
+-- parts and a sheet tell of a history and the answers, and no event waits
+pub record Tells (c : Config) (h : History) (answers : List (ℕ × Answer)) (p : Parts) (sheet : Sheet) : Type 0 where
+  pub stands : StandsFor c (length (events c h)) h p
+  pub written : sheet ≡ sheet_of c h answers
+  pub given_numbers : AreGiven h answers

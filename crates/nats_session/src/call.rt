@@ -1,0 +1,73 @@
+//! What a user asks of a session, and what it answers.
+ghost use Rattle.std.specs.Prelude.{◌≡◌, IfOk};
+
+use nats_wire::{Message, NoMemory, Subject, copy_subject};
+
+/// What a user asks of a session.
+#[derive(Drop)]
+pub enum Call {
+    /// A subscription to `subject`, shared with the others of the queue group where one is given.
+    Subscribe {
+        subject: Subject,
+        queue_group: Option<Subject>,
+    },
+}
+
+/// The answer to a call.
+#[derive(Drop)]
+pub enum CallReply {
+    /// The call was accepted, and this is the number that it gave, from 1.
+    Numbered(u64),
+    /// As many accepted calls wait as the client capacity: nothing changed.
+    Full,
+}
+
+/// The answer to a take.
+#[derive(Drop)]
+pub enum TakeReply {
+    /// The oldest waiting message of the subscription.
+    Message(Message),
+    /// None waits.
+    Empty,
+}
+
+impl Call {
+    /// An equal call, which shares its bytes.
+    pub fn copy(&self) -> Result<Call, NoMemory>
+        ensures { IfOk result (λ c. c ≡ self.now) }
+    {
+        match self {
+            Call::Subscribe {
+                subject,
+                queue_group,
+            } => Ok(Call::Subscribe {
+                subject: subject.copy()?,
+                queue_group: copy_subject(queue_group)?,
+            }),
+        }
+    }
+}
+
+impl CallReply {
+    /// An equal reply.
+    pub fn copy(&self) -> Result<CallReply, NoMemory>
+        ensures { IfOk result (λ r. r ≡ self.now) }
+    {
+        match self {
+            CallReply::Numbered(number) => Ok(CallReply::Numbered(*number)),
+            CallReply::Full => Ok(CallReply::Full),
+        }
+    }
+}
+
+impl TakeReply {
+    /// An equal reply, which shares its bytes.
+    pub fn copy(&self) -> Result<TakeReply, NoMemory>
+        ensures { IfOk result (λ r. r ≡ self.now) }
+    {
+        match self {
+            TakeReply::Message(message) => Ok(TakeReply::Message(message.copy()?)),
+            TakeReply::Empty => Ok(TakeReply::Empty),
+        }
+    }
+}

@@ -1,0 +1,87 @@
+//! One subscription.
+ghost use Rattle.std.specs.Prelude.{◌≡◌, OnErr, IfOk, OnOk};
+ghost use Rattle.std.specs.Option.{option_copied};
+ghost use Rattle.nats_session.specs.Queue.{first, last};
+ghost use Rattle.nats_session.specs.Parts.{new_sub, open_sub, deliver, take_from};
+ghost use Rattle.nats_session.specs.Delivery.{delivery};
+
+use crate::config::Config;
+use crate::queue::Queue;
+use nats_wire::{Message, NoMemory};
+use std::alloc::Global;
+use std::marker::Model;
+
+/// A subscription: whether it is open, and the messages that wait to be taken.
+#[derive(Drop)]
+pub struct Subscription {
+    is_open: bool,
+    waiting: Queue<Message>,
+}
+
+impl Model for Subscription {
+    ghost use Rattle.nats_session.specs.Parts.{Sub};
+
+    ghost Value = { Sub };
+
+    ghost view = { λ s. record { is_open = s.is_open; waiting = s.waiting } };
+}
+
+/// What became of a message that came for a subscription.
+#[derive(Drop)]
+pub enum Delivery {
+    /// It was put into the queue.
+    Put,
+    /// The queue was full.
+    Dropped(Message),
+    /// There is no open subscription of that number.
+    Ignored,
+}
+
+impl Subscription {
+    /// Not open yet, and nothing waits. It takes no memory.
+    pub fn new(alloc: Global) -> Subscription
+        ensures { result ≡ new_sub }
+    {
+        Subscription {
+            is_open: false,
+            waiting: Queue::new(alloc),
+        }
+    }
+
+    pub fn open(&mut self)
+        ensures { self.new ≡ open_sub self.old }
+    {
+        self.is_open = true;
+    }
+
+    /// Takes in a message where it is open and has room.
+    pub fn deliver(&mut self, config: &Config, message: Message) -> Result<Delivery, NoMemory>
+        ensures ok { OnOk result (self.new ≡ deliver config.now message self.old) }
+        ensures answer { IfOk result (λ d. d ≡ delivery config.now message self.old) }
+        ensures err { OnErr result (self.new ≡ self.old) }
+    {
+        if !self.is_open {
+            return Ok(Delivery::Ignored);
+        }
+        if self.waiting.len() as u64 >= config.subscription_capacity {
+            return Ok(Delivery::Dropped(message));
+        }
+        self.waiting.push(message)?;
+        Ok(Delivery::Put)
+    }
+
+    /// The oldest waiting message leaves, where one waits.
+    pub fn take(&mut self) -> Option<Message>
+        ensures message { result ≡ first self.old.waiting }
+        ensures rest { self.new ≡ take_from self.old }
+    {
+        self.waiting.pop()
+    }
+
+    /// The youngest waiting message.
+    pub fn last(&self) -> Option<&Message>
+        ensures { option_copied result ≡ last self.now.waiting }
+    {
+        self.waiting.back()
+    }
+}

@@ -1,0 +1,56 @@
+//! What a played list of turns leaves.
+use crate::call::{CallReply, TakeReply};
+use nats_wire::{Event, Message, Seq};
+
+/// How a link stands at the end of a transcript.
+#[derive(Clone, Copy, Debug, PartialEq, Eq)]
+pub enum LinkWord {
+    /// It is up.
+    Up,
+    /// It ended by bytes that are no operation.
+    Fault,
+}
+
+/// What happened on one link.
+#[derive(Drop)]
+pub struct LinkRow {
+    /// How it ended, or that it is up.
+    pub end: LinkWord,
+    /// The bytes that it took.
+    pub taken: Seq<u8>,
+    /// The bytes that waited for it at its end, or wait.
+    pub left: Seq<u8>,
+}
+
+/// What happened to one subscription; each entry with its place, the number of its turn from 1.
+#[derive(Drop)]
+pub struct SubRow {
+    /// The messages that were put into its queue.
+    pub puts: Seq<(u64, Message)>,
+    /// The messages that met its full queue.
+    pub drops: Seq<(u64, Message)>,
+    /// The answers to its takes.
+    pub takes: Seq<(u64, TakeReply)>,
+}
+
+/// All that a played list of turns showed; places are numbers of turns from 1.
+#[derive(Drop)]
+pub struct Transcript {
+    /// The links in order.
+    pub links: Seq<LinkRow>,
+    /// The accepted subscriptions by their numbers.
+    pub subs: Seq<SubRow>,
+    /// The events in order.
+    pub events: Seq<(u64, Event)>,
+    /// The reply of each call, in order.
+    pub calls: Seq<(u64, CallReply)>,
+}
+
+/// Why a list of turns was not played to its end.
+#[derive(Clone, Copy, Debug, PartialEq, Eq)]
+pub enum RunError {
+    /// The turn at this place, from 1, is the first that may not come there.
+    OutOfTurn { place: u64 },
+    /// Want of memory.
+    NoMemory,
+}
