@@ -1,5 +1,5 @@
 -- What stands at the front of a text stays there when the text grows.
-use Rattle.std.proofs.Common.{◌≡◌, ℕ, zero, suc, ◌+◌, ◌-◌, ◌<◌, ◌≤◌, Bool, true, false, List, [], ◌∷◌, ◌++◌, length, take, drop, Option, Some, None, refl, ap, sym, ◌∙◌, arith, length-append, length-drop}
+use Rattle.std.proofs.Common.{◌≡◌, ℕ, zero, suc, ◌+◌, ◌<◌, ◌≤◌, Bool, true, false, List, [], ◌∷◌, ◌++◌, length, take, drop, Option, Some, None, refl, ap, sym, ◌∙◌, arith, length-append}
 use Rattle.std.specs.Prelude.{◌==◌, ◌&&◌, nat_lt, if◌then◌else◌}
 use Rattle.std.specs.Option.{option_map}
 use Rattle.std.proofs.lemmas.List.{take-append-le, drop-append-le}
@@ -13,9 +13,9 @@ grown cut more = record { line = cut.line; rest = cut.rest ++ more }
 
 -- one step of the cut, by its test
 cut_step : (test : Bool) (a : ℕ) (rest more : List ℕ) (inner later : Option Cut) (cut : Cut)
-  → ((c : Cut) → inner ≡ Some c → later ≡ Some (grown c more))
-  → (if test then Some (record { line = []; rest = rest }) else option_map (onto_line a) inner) ≡ Some cut
-  → (if test then Some (record { line = []; rest = rest ++ more }) else option_map (onto_line a) later) ≡ Some (grown cut more)
+    → ((c : Cut) → inner ≡ Some c → later ≡ Some (grown c more))
+    → (if test then Some (record { line = []; rest = rest }) else option_map (onto_line a) inner) ≡ Some cut
+    → (if test then Some (record { line = []; rest = rest ++ more }) else option_map (onto_line a) later) ≡ Some (grown cut more)
 cut_step true a rest more inner later cut ih is = let e : record { line = []; rest = rest } ≡ cut = cc in ap (λ (c : Cut). Some (grown c more)) e
 cut_step false a rest more None later cut ih is = cc
 cut_step false a rest more (Some c) later cut ih is =
@@ -30,9 +30,9 @@ cut_more (a ∷ b ∷ rest) more cut is = cut_step (a == 13 && b == 10) a rest m
 
 -- the bytes of a cut text are its line, CR LF, and the rest
 cut_step_length : (test : Bool) (a b : ℕ) (rest : List ℕ) (inner : Option Cut) (cut : Cut)
-  → ((c : Cut) → inner ≡ Some c → length c.line + 2 + length c.rest ≡ suc (length rest))
-  → (if test then Some (record { line = []; rest = rest }) else option_map (onto_line a) inner) ≡ Some cut
-  → length cut.line + 2 + length cut.rest ≡ suc (suc (length rest))
+    → ((c : Cut) → inner ≡ Some c → length c.line + 2 + length c.rest ≡ suc (length rest))
+    → (if test then Some (record { line = []; rest = rest }) else option_map (onto_line a) inner) ≡ Some cut
+    → length cut.line + 2 + length cut.rest ≡ suc (suc (length rest))
 cut_step_length true a b rest inner cut ih is =
     let e : record { line = []; rest = rest } ≡ cut = cc in
     omega (arith, ap (λ (c : Cut). length c.line) e, ap (λ (c : Cut). length c.rest) e)
@@ -49,31 +49,31 @@ cut_length (a ∷ b ∷ rest) cut is =
 
 -- a message whose payload is there is the same in a longer text
 message_there : (short : Bool) (end : ℕ) (rest more : List ℕ) (head : Head) (op : Operation) (n : ℕ)
-  → nat_lt (length rest) (head.count + 2) ≡ short
-  → (if short then unfinished else got (message head.sid (message_of head (take head.count rest))) (end + head.count + 4)) ≡ got op n
-  → (message_or_fault end (rest ++ more) (Some head) ≡ got op n) × (n ≤ end + 2 + length rest) × (0 < n)
+    → nat_lt (length rest) (head.count + 2) ≡ short
+    → (if short then unfinished else got (message head.sid (message_of head (take head.count rest))) (end + head.count + 4)) ≡ got op n
+    → (message_or_fault end (rest ++ more) (Some head) ≡ got op n) × (n ≤ end + 2 + length rest) × (0 < n)
 message_there true end rest more head op n test is = cc
 message_there false end rest more head op n test is =
     let enough : head.count + 2 ≤ length rest = ltb-false (length rest) (head.count + 2) test in
     let within : head.count ≤ length rest = omega arith in
     let size : end + head.count + 4 ≡ n = cc in
     let later : nat_lt (length (rest ++ more)) (head.count + 2) ≡ false =
-        le-ltb (length (rest ++ more)) (head.count + 2) (omega (arith, length-append rest more)) in (
+    le-ltb (length (rest ++ more)) (head.count + 2) (omega (arith, length-append rest more)) in (
       rw (later, take-append-le head.count rest more within) is,
       omega arith,
       omega arith,
     )
 
 message_stays : (end : ℕ) (rest more : List ℕ) (head : Option Head) (op : Operation) (n : ℕ)
-  → message_or_fault end rest head ≡ got op n
-  → (message_or_fault end (rest ++ more) head ≡ got op n) × (n ≤ end + 2 + length rest) × (0 < n)
+    → message_or_fault end rest head ≡ got op n
+    → (message_or_fault end (rest ++ more) head ≡ got op n) × (n ≤ end + 2 + length rest) × (0 < n)
 message_stays end rest more None op n is = cc
 message_stays end rest more (Some head) op n is =
     message_there (nat_lt (length rest) (head.count + 2)) end rest more head op n refl is
 
 word_stays : (word : Word) (line rest more : List ℕ) (op : Operation) (n : ℕ)
-  → front_of_word word line rest ≡ got op n
-  → (front_of_word word line (rest ++ more) ≡ got op n) × (n ≤ length line + 2 + length rest) × (0 < n)
+    → front_of_word word line rest ≡ got op n
+    → (front_of_word word line (rest ++ more) ≡ got op n) × (n ≤ length line + 2 + length rest) × (0 < n)
 word_stays message_word line rest more op n is = message_stays (length line) rest more (head_of (drop 4 line)) op n is
 word_stays ok line rest more op n is = cc
 word_stays ping line rest more op n is = cc
@@ -84,8 +84,8 @@ word_stays header_message line rest more op n is = cc
 word_stays other line rest more op n is = cc
 
 got_stays : (bytes more : List ℕ) (found : Option Cut) (op : Operation) (n : ℕ)
-  → cut_line bytes ≡ found → front_of_cut found ≡ got op n
-  → (front_of_cut (cut_line (bytes ++ more)) ≡ got op n) × (n ≤ length bytes) × (0 < n)
+    → cut_line bytes ≡ found → front_of_cut found ≡ got op n
+    → (front_of_cut (cut_line (bytes ++ more)) ≡ got op n) × (n ≤ length bytes) × (0 < n)
 got_stays bytes more None op n cut is = cc
 got_stays bytes more (Some c) op n cut is =
     let stays = word_stays (word_of c.line) c.line c.rest more op n is in (
@@ -110,21 +110,21 @@ unfolding front
 front_takes bytes op n is = (got_stays bytes [] (cut_line bytes) op n refl is).2
 
 message_faults : (short : Bool) (end : ℕ) (rest : List ℕ) (head : Head) (n : ℕ) (A : Type 0)
-  → (if short then unfinished else got (message head.sid (message_of head (take head.count rest))) (end + head.count + 4)) ≡ fault n
-  → A
+    → (if short then unfinished else got (message head.sid (message_of head (take head.count rest))) (end + head.count + 4)) ≡ fault n
+    → A
 message_faults true end rest head n A is = cc
 message_faults false end rest head n A is = cc
 
 message_fault_stays : (end : ℕ) (rest more : List ℕ) (head : Option Head) (n : ℕ)
-  → message_or_fault end rest head ≡ fault n
-  → (message_or_fault end (rest ++ more) head ≡ fault n) × (n ≤ end + 2)
+    → message_or_fault end rest head ≡ fault n
+    → (message_or_fault end (rest ++ more) head ≡ fault n) × (n ≤ end + 2)
 message_fault_stays end rest more None n is = (is, (let e : 0 ≡ n = cc in omega arith))
 message_fault_stays end rest more (Some head) n is =
     message_faults (nat_lt (length rest) (head.count + 2)) end rest head n _ is
 
 word_fault_stays : (word : Word) (line rest more : List ℕ) (n : ℕ)
-  → front_of_word word line rest ≡ fault n
-  → (front_of_word word line (rest ++ more) ≡ fault n) × (n ≤ length line + 2)
+    → front_of_word word line rest ≡ fault n
+    → (front_of_word word line (rest ++ more) ≡ fault n) × (n ≤ length line + 2)
 word_fault_stays message_word line rest more n is = message_fault_stays (length line) rest more (head_of (drop 4 line)) n is
 word_fault_stays ok line rest more n is = (is, (let e : 0 ≡ n = cc in omega arith))
 word_fault_stays ping line rest more n is = (is, (let e : 0 ≡ n = cc in omega arith))
@@ -135,8 +135,8 @@ word_fault_stays header_message line rest more n is = (is, (let e : 0 ≡ n = cc
 word_fault_stays other line rest more n is = (is, (let e : length line + 2 ≡ n = cc in omega arith))
 
 fault_stays : (bytes more : List ℕ) (found : Option Cut) (n : ℕ)
-  → cut_line bytes ≡ found → front_of_cut found ≡ fault n
-  → (front_of_cut (cut_line (bytes ++ more)) ≡ fault n) × (n ≤ length bytes)
+    → cut_line bytes ≡ found → front_of_cut found ≡ fault n
+    → (front_of_cut (cut_line (bytes ++ more)) ≡ fault n) × (n ≤ length bytes)
 fault_stays bytes more None n cut is = cc
 fault_stays bytes more (Some c) n cut is =
     let stays = word_fault_stays (word_of c.line) c.line c.rest more n is in (
@@ -161,14 +161,14 @@ behind_next (suc count) bytes = behind_next count (past (front bytes) bytes)
 
 -- what is past an operation grows as the text grows
 past_step : (bytes more : List ℕ) (found : Front) → front bytes ≡ found → IsGot found
-  → past (front (bytes ++ more)) (bytes ++ more) ≡ past found bytes ++ more
+    → past (front (bytes ++ more)) (bytes ++ more) ≡ past found bytes ++ more
 past_step bytes more (got op n) is there =
     rw (front_more bytes more op n is) (drop-append-le n bytes more (front_fits bytes op n is))
 past_step bytes more unfinished is there = absurd there
 past_step bytes more (fault n) is there = absurd there
 
 pub past_more : (bytes more : List ℕ) → IsGot (front bytes)
-  → past (front (bytes ++ more)) (bytes ++ more) ≡ past (front bytes) bytes ++ more
+    → past (front (bytes ++ more)) (bytes ++ more) ≡ past (front bytes) bytes ++ more
 past_more bytes more there = past_step bytes more (front bytes) refl there
 
 got_step : (bytes more : List ℕ) (found : Front) → front bytes ≡ found → IsGot found → IsGot (front (bytes ++ more))

@@ -1,9 +1,9 @@
 -- What `parse` reads is the grammar's number.
-use Rattle.std.proofs.Common.{◌≡◌, ℕ, ◌+◌, ◌^◌, ◌<◌, ◌≤◌, Bool, true, false, List, length, Option, Some, None, Result, Ok, Err, refl, ap, sym, ◌∙◌, arith, rules, tests, not}
+use Rattle.std.proofs.Common.{◌≡◌, ℕ, ◌^◌, ◌<◌, Bool, true, false, List, length, Some, None, Result, Ok, Err, refl, ap, arith, rules, tests, not}
 use Rattle.std.specs.Prelude.{◌==◌, ◌&&◌, nat_lt, if◌then◌else◌}
 use Rattle.std.specs.Result.{result_ok, OkIff}
 use Rattle.std.specs.Str.{all_ascii_digits}
-use Rattle.std.specs.Str.Parse.{ParsesUnsigned, digits_value, without_leading_plus, IsNumeral, AllDigits}
+use Rattle.std.specs.Str.Parse.{ParsesUnsigned, digits_value, without_leading_plus, IsNumeral}
 use Rattle.std.proofs.lemmas.Str.Parse.{IsNumeralModel, numerals_by_value, tells_all_ascii_digits}
 use Rattle.std.proofs.lemmas.Bool.{lt-ltb, ltb-true}
 use Rattle.nats_wire.specs.Operations.{number_of}
@@ -39,12 +39,12 @@ is_number_tells digits h =
     ((some, own.to digits parts.1), ltb-true _ _ parts.2)
 
 refused : (digits : List ℕ) (test : Bool) → is_number digits ≡ test → ¬ (IsNumber digits)
-  → None ≡ (if test then Some (digits_value 10 digits) else None)
+    → None ≡ (if test then Some (digits_value 10 digits) else None)
 refused digits true is never = absurd (never (is_number_tells digits is))
 refused digits false is never = refl
 
 read_by : {E : Type 0} (digits : List ℕ) (r : Result ℕ E) → OkIff r (IsNumber digits) (digits_value 10 digits)
-  → result_ok r ≡ (if is_number digits then Some (digits_value 10 digits) else None)
+    → result_ok r ≡ (if is_number digits then Some (digits_value 10 digits) else None)
 read_by digits (Ok x) iff = rw (is_number_holds digits iff.0) (ap Some iff.1)
 read_by digits (Err e) iff = refused digits (is_number digits) refl iff
 

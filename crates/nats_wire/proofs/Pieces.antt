@@ -1,5 +1,5 @@
 -- The words of a line are no longer than the line.
-use Rattle.std.proofs.Common.{◌≡◌, ℕ, zero, suc, ◌+◌, ◌≤◌, Bool, true, false, not, List, [], ◌∷◌, length, Option, Some, None, refl, ap, sym, ◌∙◌, arith, rules}
+use Rattle.std.proofs.Common.{◌≡◌, ℕ, suc, ◌+◌, ◌≤◌, Bool, true, false, not, List, [], ◌∷◌, length, Option, Some, None, refl, ap, sym, arith}
 use Rattle.std.specs.Prelude.{◌==◌, if◌then◌else◌}
 use Rattle.std.specs.List.{filter, slice_split, onto_first}
 use Rattle.std.specs.Str.{is_utf8, IsUtf8}
@@ -16,7 +16,7 @@ total_onto x [] = omega arith
 total_onto x (text ∷ texts) = omega arith
 
 split_step : (test : Bool) (x : ℕ) (texts : List (List ℕ)) (n : ℕ) → total texts ≤ n
-  → total (if test then [] ∷ texts else onto_first x texts) ≤ suc n
+    → total (if test then [] ∷ texts else onto_first x texts) ≤ suc n
 split_step true x texts n h = omega arith
 split_step false x texts n h = omega (arith, total_onto x texts)
 
@@ -25,7 +25,7 @@ total_split p [] = omega arith
 total_split p (x ∷ bytes) = split_step (p x) x (slice_split p bytes) (length bytes) (total_split p bytes)
 
 filter_step : (test : Bool) (text : List ℕ) (kept texts : List (List ℕ)) → total kept ≤ total texts
-  → total (if test then text ∷ kept else kept) ≤ length text + total texts
+    → total (if test then text ∷ kept else kept) ≤ length text + total texts
 filter_step true text kept texts h = omega arith
 filter_step false text kept texts h = omega arith
 
@@ -34,7 +34,7 @@ total_filter p [] = omega arith
 total_filter p (text ∷ texts) = filter_step (p text) text (filter p texts) texts (total_filter p texts)
 
 with_short : (subject : List ℕ) (reply : Option (List ℕ)) (sid count : Option ℕ) (head : Head)
-  → head_with subject reply sid count ≡ Some head → length head.subject + bytes_of head.reply ≡ length subject + bytes_of reply
+    → head_with subject reply sid count ≡ Some head → length head.subject + bytes_of head.reply ≡ length subject + bytes_of reply
 with_short subject reply None count head is = cc
 with_short subject reply (Some sid) None head is = cc
 with_short subject reply (Some sid) (Some count) head is =
@@ -42,7 +42,7 @@ with_short subject reply (Some sid) (Some count) head is =
     sym (ap (λ (h : Head). length h.subject + bytes_of h.reply) e)
 
 pieces_short : (pieces : List (List ℕ)) (head : Head) → head_of_pieces pieces ≡ Some head
-  → length head.subject + bytes_of head.reply ≤ total pieces
+    → length head.subject + bytes_of head.reply ≤ total pieces
 pieces_short [] head is = cc
 pieces_short (a ∷ []) head is = cc
 pieces_short (a ∷ b ∷ []) head is = cc
@@ -51,8 +51,8 @@ pieces_short (a ∷ b ∷ c ∷ d ∷ []) head is = omega (arith, with_short a (
 pieces_short (a ∷ b ∷ c ∷ d ∷ e ∷ more) head is = cc
 
 head_short_by : (test : Bool) (text : List ℕ) (head : Head)
-  → (if test then head_of_pieces (pieces_of text) else None) ≡ Some head
-  → length head.subject + bytes_of head.reply ≤ length text
+    → (if test then head_of_pieces (pieces_of text) else None) ≡ Some head
+    → length head.subject + bytes_of head.reply ≤ length text
 head_short_by true text head is =
     omega (arith, pieces_short (pieces_of text) head is, total_filter (λ piece. not (length piece == 0)) (slice_split (λ b. b == 32) text), total_split (λ b. b == 32) text)
 head_short_by false text head is = cc

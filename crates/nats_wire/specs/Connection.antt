@@ -1,12 +1,10 @@
 -- What a connection keeps, and what its calls make of it.
-use Rattle.std.specs.Prelude.{◌≡◌, ℕ, List, [], ◌++◌, drop, Option, Some, None, Result, Ok, Err}
+use Rattle.std.specs.Prelude.{◌≡◌, drop, Option, Some, None, Result, Ok, Err}
 use Rattle.nats_wire.specs.declared.op.ServerOp.{ServerOp}
-use Rattle.nats_wire.specs.declared.op.ClientOp.{ClientOp}
 use Rattle.nats_wire.specs.declared.op.WireError.{WireError}
 use Rattle.nats_wire.specs.declared.op.WireError.TheVariants as refused
 use Rattle.nats_wire.specs.declared.connection.Peeked.{Peeked}
-use Rattle.nats_wire.specs.Operations.{Front, unfinished, got, fault, op_view, without_front}
-use Rattle.nats_wire.specs.Commands.{command_text}
+use Rattle.nats_wire.specs.Operations.{Front, unfinished, got, fault, op_view}
 use Rattle.nats_wire.specs.Wire.{Wire}
 
 -- a look at the front of the unread bytes tells what stands there, or memory was wanting

@@ -1,5 +1,4 @@
 -- What the decoder's values say, in the grammar's words.
-use Rattle.std.specs.Prelude.{ℕ, List, Option, Some, None}
 use Rattle.std.specs.Option.{option_map}
 use Rattle.nats_wire.specs.declared.decode.Look.{Look}
 use Rattle.nats_wire.specs.declared.decode.Look.TheVariants as look

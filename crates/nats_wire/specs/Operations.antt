@@ -1,5 +1,5 @@
 -- What the bytes of a server say: the grammar of server operations, read from the front of one whole text.
-use Rattle.std.specs.Prelude.{◌≡◌, ℕ, zero, suc, ◌+◌, ◌^◌, Bool, not, ◌&&◌, ◌==◌, nat_lt, nat_eq, List, [], ◌∷◌, length, take, drop, filter, Option, Some, None, option_and_then, if◌then◌else◌, codes}
+use Rattle.std.specs.Prelude.{ℕ, zero, suc, ◌+◌, ◌^◌, not, ◌&&◌, ◌==◌, nat_lt, nat_eq, List, [], ◌∷◌, length, take, drop, filter, Option, Some, None, if◌then◌else◌, codes}
 use Rattle.std.specs.Option.{option_map}
 use Rattle.std.specs.List.{starts_with, slice_split}
 use Rattle.std.specs.Str.{is_utf8, all_ascii_digits}

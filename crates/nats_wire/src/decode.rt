@@ -187,7 +187,10 @@ fn look_at_message(alloc: Global, line: &Line<'_>) -> Result<Look, NoMemory>
     };
     let message = read_message(alloc, &head, payload)?;
     Ok(Look::Got(Peeked {
-        op: ServerOp::Message { sid: head.sid, message },
+        op: ServerOp::Message {
+            sid: head.sid,
+            message,
+        },
         len: line.text.len() + head.count + 4,
     }))
 }
@@ -200,12 +203,10 @@ fn look_at_line(alloc: Global, line: &Line<'_>) -> Result<Look, NoMemory>
     match first_word(line.text) {
         Word::Message => look_at_message(alloc, line),
         Word::Other => Ok(Look::Fault(line.text.len() + 2)),
-        Word::Ok
-        | Word::Ping
-        | Word::Pong
-        | Word::Error
-        | Word::Info
-        | Word::HeaderMessage => Ok(Look::Fault(0)),
+        // Words of the protocol whose operations are not read.
+        Word::Ok | Word::Ping | Word::Pong | Word::Error | Word::Info | Word::HeaderMessage => {
+            Ok(Look::Fault(0))
+        }
     }
 }
 

@@ -62,8 +62,11 @@ impl ServerInfo {
     pub fn copy(&self, alloc: Global) -> Result<ServerInfo, NoMemory>
         ensures { IfOk result (λ info. info ≡ self.now) }
     {
-        let (server_id, server_name, host) =
-            copy_three(&self.server_id, &self.server_name, &self.host)?;
+        let (server_id, server_name, host) = copy_three(
+            &self.server_id,
+            &self.server_name,
+            &self.host,
+        )?;
         let (version, go, nonce) = copy_three(&self.version, &self.go, &self.nonce)?;
         let (cluster, domain) = copy_two(&self.cluster, &self.domain)?;
         let client_ip = self.client_ip.copy()?;

@@ -1,5 +1,5 @@
 //! What no clause says: texts of the protocol with what they mean, and each call once with ample memory.
-use crate::{ClientOp, Connection, ServerOp, Subject, WireError};
+use crate::{Bytes, ClientOp, Connection, OutboundMessage, ServerOp, Subject, WireError};
 use nats_names::NoMemory;
 use std::alloc::Global;
 use std::test::Fail;
@@ -41,7 +41,13 @@ fn messages_are_read_as_sent(rt: HostRuntime) -> Result<(), Fail> {
         ("MSG a 1 2\r\nhi\r\n", 1, "", "hi", 3),
         ("MSG a +1 +2\r\nhi\r\n", 1, "", "hi", 3),
         ("MSG  a  7  b  0 \r\n\r\n", 7, "b", "", 2),
-        ("MSG FOO.BAR 9 INBOX.34 11\r\nHello World\r\n", 9, "INBOX.34", "Hello World", 26),
+        (
+            "MSG FOO.BAR 9 INBOX.34 11\r\nHello World\r\n",
+            9,
+            "INBOX.34",
+            "Hello World",
+            26,
+        ),
     ] {
         let mut connection = fed(rt.alloc(), text.as_bytes())?;
         let Some(ServerOp::Message { sid, message }) = connection.try_read_op(rt.alloc())? else {
@@ -73,8 +79,14 @@ fn a_bad_line_of_a_message_is_a_fault_and_stays(rt: HostRuntime) -> Result<(), F
         b"MSG a 1\r\n".as_slice(),
     ] {
         let mut connection = fed(rt.alloc(), text)?;
-        assert_eq!(rt; connection.try_read_op(rt.alloc()).err(), Some(WireError::ReadFault));
-        assert_eq!(rt; connection.try_read_op(rt.alloc()).err(), Some(WireError::ReadFault));
+        assert_eq!(rt;
+            connection.try_read_op(rt.alloc()).err(),
+            Some(WireError::ReadFault)
+        );
+        assert_eq!(rt;
+            connection.try_read_op(rt.alloc()).err(),
+            Some(WireError::ReadFault)
+        );
     }
     Ok(())
 }
@@ -82,7 +94,10 @@ fn a_bad_line_of_a_message_is_a_fault_and_stays(rt: HostRuntime) -> Result<(), F
 #[test]
 fn an_unknown_line_is_a_fault_and_taken(rt: HostRuntime) -> Result<(), Fail> {
     let mut connection = fed(rt.alloc(), b"ONE\r\nMSG a 1 2\r\nhi\r\n")?;
-    assert_eq!(rt; connection.try_read_op(rt.alloc()).err(), Some(WireError::ReadFault));
+    assert_eq!(rt;
+        connection.try_read_op(rt.alloc()).err(),
+        Some(WireError::ReadFault)
+    );
     assert!(rt; connection.try_read_op(rt.alloc())?.is_some());
     Ok(())
 }
@@ -125,5 +140,21 @@ fn what_was_written_no_longer_waits(rt: HostRuntime) -> Result<(), Fail> {
     assert_eq!(rt; pieces[0].as_slice(), b"SUB FOO.BAR 1\r\n".as_slice());
     connection.written(4);
     assert_eq!(rt; connection.waiting(), b"FOO.BAR 1\r\n".as_slice());
+    Ok(())
+}
+
+fn greeting(alloc: Global) -> Result<OutboundMessage, NoMemory> {
+    Ok(OutboundMessage {
+        subject: Subject::from_text(alloc, "FOO.BAR")?,
+        reply: None,
+        payload: Bytes::copy_from_slice(alloc, b"hi")?,
+    })
+}
+
+#[test]
+fn a_message_can_be_copied(rt: HostRuntime) -> Result<(), Fail> {
+    let message = greeting(rt.alloc())?;
+    let copy = message.copy()?;
+    assert_eq!(rt; copy.payload.as_slice(), b"hi".as_slice());
     Ok(())
 }

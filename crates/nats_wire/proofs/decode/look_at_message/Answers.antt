@@ -10,5 +10,5 @@ pub read_message-requires : goal.read_message-requires
 read_message-requires c =
     let line = c.args.line.now.text.now in
     let is : head_of (drop 4 line) ≡ Some (head_view c.in-Some.head) =
-        ap head_of (sym (take_rest line 4)) ∙ sym c.in_ok-head.ensures ∙ ap (option_map head_view) c.in-Some.is in
+    ap head_of (sym (take_rest line 4)) ∙ sym c.in_ok-head.ensures ∙ ap (option_map head_view) c.in-Some.is in
     omega (arith, head_short (drop 4 line) (head_view c.in-Some.head) is, length-drop 4 line, c.requires.fits, c.in-Some-payload_of.ensures.fits)

@@ -1,6 +1,5 @@
 -- The head is read from the pieces of a text.
-use Rattle.std.proofs.Common.{◌≡◌, ap, sym, ◌∙◌, map, rules, List, ℕ}
-use Rattle.std.specs.Str.{IsUtf8}
+use Rattle.std.proofs.Common.{◌≡◌, ap, sym, ◌∙◌, map}
 use Rattle.nats_wire.specs.Operations.{head_of_pieces, pieces_of}
 use Rattle.nats_wire.proofs.Pieces.{head_of_text, no_head}
 use Rattle.nats_wire.proofs.decode.read_head.Goals as goal

@@ -1,6 +1,5 @@
 -- An operation at the front takes no more bytes than there are.
-use Rattle.std.proofs.Common.{◌≡◌, ap, sym, ◌∙◌, rules}
-use Rattle.nats_wire.specs.Wire.{Wire}
+use Rattle.std.proofs.Common.{◌≡◌, rules}
 use Rattle.nats_wire.proofs.Looked.{got_within}
 use Rattle.nats_wire.proofs.connection.Connection.peek_op.Goals as goal
 

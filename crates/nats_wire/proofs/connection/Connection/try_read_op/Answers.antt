@@ -1,6 +1,5 @@
 -- What stands at the front takes no more bytes than there are.
-use Rattle.std.proofs.Common.{◌≡◌, ap, sym, ◌∙◌, rules}
-use Rattle.nats_wire.specs.Wire.{Wire}
+use Rattle.std.proofs.Common.{◌≡◌, rules}
 use Rattle.nats_wire.proofs.Looked.{got_within, fault_within}
 use Rattle.nats_wire.proofs.connection.Connection.try_read_op.Goals as goal
 

@@ -1,6 +1,5 @@
 -- The copied texts are those of the INFO, and the other fields are its own.
 use Rattle.std.proofs.Common.{rules}
-use Rattle.std.proofs.lemmas.Int.{to_z-of_z}
 use Rattle.nats_wire.proofs.Infos.{same_info}
 use Rattle.nats_wire.proofs.info.ServerInfo.copy.Goals as goal
 
