@@ -8,7 +8,6 @@ mod subject;
 mod text;
 mod token;
 
-
 pub use bytes::Bytes;
 pub use event::Event;
 pub use failed::{Failed, NoMemory};
@@ -16,4 +15,3 @@ pub use seq::Seq;
 pub use subject::Subject;
 pub use text::Text;
 pub use token::Token;
-

@@ -40,9 +40,7 @@ fn is_one_word(bytes: &[u8]) -> bool
 fn has_no_empty_token(bytes: &[u8]) -> bool
     ensures { result ≡ list_all is_nonempty (slice_split is_dot bytes.now) }
 {
-    bytes
-        .split(|b| *b == b'.')
-        .all(|token| !token.is_empty())
+    bytes.split(|b| *b == b'.').all(|token| !token.is_empty())
 }
 
 impl Subject {

@@ -9,17 +9,21 @@ use Rattle.nats_wire.specs.declared.message.Message.{Message}
 use Rattle.nats_session.specs.declared.config.Config.{Config}
 use Rattle.nats_session.specs.declared.call.Call.{Call}
 use Rattle.nats_session.specs.declared.call.Call.TheVariants.{Subscribe}
+use Rattle.nats_session.specs.declared.call.CallReply.{CallReply}
 use Rattle.nats_session.specs.declared.call.TakeReply.{TakeReply}
+use Rattle.nats_session.specs.declared.turn.Turn.TheVariants.{Do}
 use Rattle.nats_session.specs.declared.call.TakeReply.TheVariants as takes
+use Rattle.nats_session.specs.declared.handler.due.Played.{Played}
 use Rattle.nats_session.specs.declared.handler.due.Played.TheVariants as played
 use Rattle.nats_session.specs.declared.subs.subscription.Delivery.TheVariants.{Put, Dropped, Ignored}
 use Rattle.nats_session.specs.Queue.{first}
 use Rattle.nats_session.specs.Delivery.{delivery, delivery_at}
-use Rattle.nats_session.specs.History.{Step, History, took, handled, events_by, at_place, events}
+use Rattle.nats_session.specs.History.{Step, History, took, handled, accepted, events_by, at_place, events}
 use Rattle.nats_session.specs.Parts.{Sub, Parts, parts_of, StandsFor, at_index, at_number, item_of, take_from, open_sub, sub_has_room, deliver, after}
-use Rattle.nats_session.specs.Schedule.{oldest, take_reply_of, take_reply, took_step, own_steps, after_all, put_steps, due_call, write_limit}
-use Rattle.nats_session.specs.Handler.{subscribes, LeadTo, command_of, PlaysDue}
+use Rattle.nats_session.specs.Schedule.{is_full, oldest, take_reply_of, take_reply, took_step, own_steps, after_all, put_steps, due_call, write_limit}
+use Rattle.nats_session.specs.Handler.{subscribes, LeadTo, Submits, command_of, PlaysDue, list_of}
 use Rattle.std.proofs.lemmas.List.{length-append}
+use Rattle.std.proofs.lemmas.Result.{on_ok_weaker}
 use Rattle.nats_session.proofs.Refines.{sub_with, parts_after}
 use Rattle.nats_session.proofs.Tables.{length-at_number}
 
@@ -120,3 +124,24 @@ leads old steps new e c handed h place stands =
 pub on_ok_of : {T E P : Type 0} (r : Result T E) → P → OnOk r P
 on_ok_of (Ok x) p = p
 on_ok_of (Err e) p = tt
+
+-- ---- what the public calls lead to
+
+pub leads_one : {T E : Type 0} (r : Result T E) (old new : Parts) (step : Step) → OnOk r (new ≡ after old step) → OnOk r (LeadTo old (step ∷ []) new)
+leads_one r old new step e = on_ok_weaker r (λ is. leads old (step ∷ []) new is) e
+
+pub leads_take : (old new : Parts) (sid : ℕ) → new ≡ after old (took sid) → LeadTo old (took_step sid (take_reply old sid)) new
+leads_take old new sid e =
+    leads old (took_step sid (take_reply old sid)) new (e ∙ own_take old sid (take_reply old sid) refl)
+
+pub leads_call : (old new : Parts) (call : Call) (r : Result CallReply Call) → Submits old call r new → OnOk r (LeadTo old (own_steps old (Do call)) new)
+leads_call old new call (Err back) submits = tt
+leads_call old new call (Ok reply) submits = leads old (own_steps old (Do call)) new (by_full (is_full old) submits.1)
+  where
+    by_full : (full : Bool) → new ≡ cond full old (after old (accepted call)) → new ≡ after_all old (cond full [] (accepted call ∷ []))
+    by_full true e = e
+    by_full false e = e
+
+pub leads_due : (old new : Parts) (next : Option Step) (says : Played) → PlaysDue next old says new → LeadTo old (list_of next) new
+leads_due old new None says plays = leads old [] new plays.1
+leads_due old new (Some step) says plays = leads old (step ∷ []) new plays.1

@@ -1,0 +1,7 @@
+-- A message that is taken is one step; where none waits there is none.
+use Rattle.nats_session.proofs.Handlers.{leads_take}
+use Rattle.nats_session.proofs.handler.ConnectionHandler.take.Goals as goal
+
+pub returns-clause-stands : goal.returns-clause-stands
+returns-clause-stands c =
+    leads_take c.args.self.now c.play_take.new.self c.args.s c.play_take.ensures.rest
