@@ -1,0 +1,15 @@
+//! Playing a script: reading its bytes from a source, playing its turns, printing their transcript into a sink.
+#![tactic(auto)]
+
+mod cut;
+mod fields;
+mod outside;
+mod print;
+mod script;
+mod spelling;
+mod turns;
+
+pub use nats_names::{Failed, NoMemory};
+pub use outside::{Reading, Sink, Source, Writing};
+pub use print::print_transcript;
+pub use script::Script;
