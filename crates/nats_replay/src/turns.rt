@@ -2,7 +2,7 @@
 ghost use Rattle.std.specs.Prelude.{◌≡◌, ◌∷◌, [], None, IfOk, MatchOption, option_and_then};
 ghost use Rattle.std.specs.Option.{option_copied};
 ghost use Rattle.nats_replay.specs.Spelling.{bytes_of, number_of};
-ghost use Rattle.nats_replay.specs.Script.{fields_of, only, config_with, config_of_fields, config_of_line, word_of, up_turn, sub_of, turn_of, turn_of_line};
+ghost use Rattle.nats_replay.specs.Script.{fields_of, only, config_with, config_of_fields, config_of_line, word_of, up_turn, sub_turn, sub_of, turn_of, turn_of_line};
 ghost use Rattle.nats_replay.specs.Cut.{parts_behind};
 
 use crate::cut::{cut, only};
@@ -131,21 +131,36 @@ fn up_turn(alloc: Global, max_payload: u64) -> Turn
     Turn::Up(info)
 }
 
-fn sub_turn(alloc: Global, fields: Option<&[u8]>) -> Result<Option<Turn>, NoMemory>
+/// The two fields that are left, where they are two.
+fn two(fields: Option<&[u8]>) -> Option<(&[u8], &[u8])>
+    ensures { MatchOption result (sub_of (parts_behind 32 (option_copied fields.entry)) ≡ None)
+        (λ f. parts_behind 32 (option_copied fields.entry) ≡ f.0.now ∷ f.1.now ∷ []) }
+{
+    let (subject, rest) = cut(fields?, b' ');
+    let group = only(rest)?;
+    Some((subject, group))
+}
+
+fn sub_turn(subject: Subject) -> Turn
+    ensures { result ≡ sub_turn subject }
+{
+    Turn::Do(Call::Subscribe {
+        subject,
+        queue_group: None,
+    })
+}
+
+fn sub_of(alloc: Global, fields: Option<&[u8]>) -> Result<Option<Turn>, NoMemory>
     ensures { IfOk result (λ t. t ≡ sub_of (parts_behind 32 (option_copied fields.entry))) }
 {
-    let Some(fields) = fields else {
+    let Some((subject, group)) = two(fields) else {
         return Ok(None);
     };
-    let (subject, rest) = cut(fields, b' ');
-    let Some(b"~") = only(rest) else {
+    if group != b"~".as_slice() {
         return Ok(None);
-    };
+    }
     match text_of(alloc, subject)? {
-        Some(subject) => Ok(Some(Turn::Do(Call::Subscribe {
-            subject,
-            queue_group: None,
-        }))),
+        Some(subject) => Ok(Some(sub_turn(subject))),
         None => Ok(None),
     }
 }
@@ -157,7 +172,7 @@ fn turn_of(alloc: Global, word: Word, fields: Option<&[u8]>) -> Result<Option<Tu
         Word::Up => Ok(number_in(fields).map(|n| up_turn(alloc, n))),
         Word::Piece => Ok(bytes_in(alloc, fields)?.map(Turn::Piece)),
         Word::Write => Ok(number_in(fields).map(Turn::Write)),
-        Word::Sub => sub_turn(alloc, fields),
+        Word::Sub => sub_of(alloc, fields),
         Word::Take => Ok(number_in(fields).map(Turn::Take)),
         Word::Other => Ok(None),
     }
