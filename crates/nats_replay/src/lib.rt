@@ -9,6 +9,7 @@ mod read;
 mod script;
 mod spelling;
 mod turns;
+mod whole;
 
 pub use nats_names::{Failed, NoMemory};
 pub use outside::{Reading, Sink, Source, Writing};
