@@ -2,3 +2,4 @@ mod Cuts
 mod Numbering
 mod Scripts
 mod Spelled
+mod Transfers

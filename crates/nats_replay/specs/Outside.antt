@@ -35,8 +35,3 @@ ends_by (Err e) buf = 0
 -- known bytes grow by a first part of the text
 abbrev pub AppendsFront : Option (List ℕ) → Option (List ℕ) → List ℕ → Type 0
 AppendsFront before now text = (n : ℕ) × Appends before now (take n text)
-
--- a call failed for this reason
-abbrev pub IsErrOf : {T E : Type 0} → Result T E → E → Type 0
-IsErrOf (Ok x) e = ⊥
-IsErrOf (Err d) e = d ≡ e

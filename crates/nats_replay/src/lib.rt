@@ -8,6 +8,7 @@ mod print;
 mod read;
 mod script;
 mod spelling;
+mod top;
 mod turns;
 mod whole;
 

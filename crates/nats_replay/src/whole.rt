@@ -1,8 +1,8 @@
 //! Reading a source to its end, and writing a text whole.
-ghost use Rattle.std.specs.Prelude.{◌≡◌, ◌≤◌, ◌<◌, length, OnOk, OnErr, IfOk, IfSome};
+ghost use Rattle.std.specs.Prelude.{◌<◌, length, OnOk, OnErr};
 ghost use Rattle.std.specs.Io.KnownBytes.{Appends};
-ghost use Rattle.nats_replay.specs.Outside.{Rose, RoseBy, AppendsFront, IsErrOf};
-ghost use Rattle.nats_replay.specs.declared.whole.ReadRefusal.TheVariants.{Fault, TooLong, NoMemory};
+ghost use Rattle.nats_replay.specs.Outside.{Rose, AppendsFront};
+ghost use Rattle.nats_replay.specs.Whole.{WholeRead};
 
 use crate::outside::{Sink, Source};
 use nats_names::Failed;
@@ -25,21 +25,20 @@ pub enum ReadRefusal {
     NoMemory,
 }
 
-/// All bytes that a source holds, at most as many as a script may have.
-pub fn read_all<S: Source>(alloc: Global, source: &mut S) -> Result<Vec<u8>, ReadRefusal>
-    ensures whole { IfOk result (λ v. IfSome (S.left source.old) (λ bytes. bytes ≡ v.items)) }
-    ensures within { IfOk result (λ v. length v.items ≤ 16777216) }
-    ensures ended { OnOk result (Rose (S.ends source.old) (S.ends source.new)) }
-    ensures fault { IsErrOf result Fault → Rose (S.faults source.old) (S.faults source.new) }
-    ensures too_long { IsErrOf result TooLong → IfSome (S.left source.old) (λ bytes. 16777216 < length bytes) }
-    ensures too_much { IsErrOf result TooLong → RoseBy 16777217 (S.given source.old) (S.given source.new) }
+/// Reads by pieces, each into the front of `piece`.
+fn read_pieces<S: Source>(
+    alloc: Global,
+    source: &mut S,
+    piece: &mut [u8],
+) -> Result<Vec<u8>, ReadRefusal>
+    requires { 0 < length piece.old }
+    ensures { WholeRead (S.left source.old)
+        (record { given = S.given source.old; ends = S.ends source.old; faults = S.faults source.old })
+        (record { given = S.given source.new; ends = S.ends source.new; faults = S.faults source.new }) result }
 {
-    let Ok(mut piece) = vec![in alloc; 0u8; PIECE] else {
-        return Err(ReadRefusal::NoMemory);
-    };
     let mut bytes = Vec::new(alloc);
     loop {
-        let Ok(count) = source.read(piece.as_mut_slice()) else {
+        let Ok(count) = source.read(piece) else {
             return Err(ReadRefusal::Fault);
         };
         if count == 0 {
@@ -52,6 +51,18 @@ pub fn read_all<S: Source>(alloc: Global, source: &mut S) -> Result<Vec<u8>, Rea
             return Err(ReadRefusal::NoMemory);
         }
     }
+}
+
+/// All bytes that a source holds, at most as many as a script may have.
+pub fn read_all<S: Source>(alloc: Global, source: &mut S) -> Result<Vec<u8>, ReadRefusal>
+    ensures { WholeRead (S.left source.old)
+        (record { given = S.given source.old; ends = S.ends source.old; faults = S.faults source.old })
+        (record { given = S.given source.new; ends = S.ends source.new; faults = S.faults source.new }) result }
+{
+    let Ok(mut piece) = vec![in alloc; 0u8; PIECE] else {
+        return Err(ReadRefusal::NoMemory);
+    };
+    read_pieces(alloc, source, piece.as_mut_slice())
 }
 
 /// Writes a text whole, or a first part of it where the sink fails.
