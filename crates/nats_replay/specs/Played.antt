@@ -28,3 +28,11 @@ Played held before after (Err OutOfTurn) = Whole held before after IsOutOfTurn
 Played held before after (Err NoMemory) = Unit {0}
 Played held before after (Err ReadFault) = Rose before.faults after.faults
 Played held before after (Err TooLong) = IfSome held (λ bytes. 16777216 < length bytes) × RoseBy 16777217 before.given after.given
+
+-- the status of a refusal
+abbrev pub status_of : Refusal → ℕ
+status_of ReadFault = 3
+status_of Unreadable = 5
+status_of OutOfTurn = 6
+status_of NoMemory = 7
+status_of TooLong = 8

@@ -17,3 +17,4 @@ pub use outside::{Reading, Sink, Source, Writing};
 pub use print::print_transcript;
 pub use read::read_script;
 pub use script::Script;
+pub use top::replay;
