@@ -1,5 +1,5 @@
 -- What a source and a sink count, and what they tell of their bytes.
-use Rattle.std.specs.Prelude.{◌≡◌, ℕ, zero, suc, ◌+◌, ◌-◌, ◌^◌, ◌≤◌, min, List, [], ◌∷◌, take, Option, Result, Ok, Err, OnErr}
+use Rattle.std.specs.Prelude.{◌≡◌, ℕ, zero, suc, ◌+◌, ◌-◌, ◌^◌, ◌≤◌, min, max, List, [], ◌∷◌, take, Option, Result, Ok, Err, OnErr}
 use Rattle.std.specs.Io.KnownBytes.{Appends}
 
 -- a count rose by that much at least; it stops at 2^64-1
@@ -15,10 +15,9 @@ pub record HasCause {T E : Type 0} (before now : ℕ) (result : Result T E) : Ty
   pub later : before ≤ now
   pub failed : OnErr result (Rose before now)
 
--- a count rose by exactly that much, or to its end; it never falls
-pub record Counts (n before now : ℕ) : Type 0 where
-  pub later : before ≤ now
-  pub exact : now ≡ min (before + n) (2 ^ 64 - 1)
+-- a count after it rose by that much; it stops at 2^64-1, and never falls
+abbrev pub risen : ℕ → ℕ → ℕ
+risen n before = max before (min (before + n) (2 ^ 64 - 1))
 
 -- how many bytes a read gave
 abbrev pub given_by : {E : Type 0} → Result ℕ E → ℕ

@@ -3,6 +3,7 @@
 
 mod cut;
 mod fields;
+mod memory;
 mod outside;
 mod print;
 mod read;
@@ -12,9 +13,13 @@ mod top;
 mod turns;
 mod whole;
 
+pub use memory::{Failing, MemorySink, MemorySource};
 pub use nats_names::{Failed, NoMemory};
 pub use outside::{Reading, Sink, Source, Writing};
 pub use print::print_transcript;
 pub use read::read_script;
 pub use script::Script;
 pub use top::replay;
+
+#[cfg(test)]
+mod tests;

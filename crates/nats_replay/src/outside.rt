@@ -2,7 +2,7 @@
 ghost use Rattle.std.specs.Prelude.{◌≡◌, ◌≤◌, ◌<◌, ℕ, List, Option, length, IfOk};
 ghost use Rattle.std.specs.Io.{ReadsAtMost};
 ghost use Rattle.std.specs.Io.KnownBytes.{ReadConsumes, WriteAppends};
-ghost use Rattle.nats_replay.specs.Outside.{HasCause, Counts, given_by, ends_by};
+ghost use Rattle.nats_replay.specs.Outside.{HasCause, risen, given_by, ends_by};
 
 use nats_names::Failed;
 use std::io::{Read, Write};
@@ -27,8 +27,8 @@ pub trait Source {
     fn read(&mut self, buf: &mut [u8]) -> Result<usize, Failed>
         ensures bound { ReadsAtMost result buf.new }
         ensures bytes { ReadConsumes (left self.old) (left self.new) result buf.new }
-        ensures given { Counts (given_by result) (given self.old) (given self.new) }
-        ensures ends { Counts (ends_by result buf.new) (ends self.old) (ends self.new) }
+        ensures given { given self.new ≡ risen (given_by result) (given self.old) }
+        ensures ends { ends self.new ≡ risen (ends_by result buf.new) (ends self.old) }
         ensures cause { HasCause (faults self.old) (faults self.new) result };
 }
 
@@ -88,8 +88,6 @@ impl<R: Read> Source for Reading<R> {
                 Ok(count)
             }
             Err(_) => {
-                // A read of a count tells the proof that it has 64 bits.
-                let (_given, _ends) = (self.given, self.ends);
                 self.faults = self.faults.saturating_add(1);
                 Err(Failed)
             }
