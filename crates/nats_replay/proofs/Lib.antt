@@ -1,0 +1,6 @@
+mod Cuts
+mod Numbering
+mod Outcomes
+mod Scripts
+mod Spelled
+mod Transfers

@@ -1,0 +1,51 @@
+-- From what was read to what it comes to; and the words that play a script.
+use Rattle.std.proofs.Common.{◌≡◌, ℕ, zero, suc, ◌<◌, ◌≤◌, Bool, true, false, List, [], ◌∷◌, length, get_or, map, Option, Some, None, Result, Ok, Err, refl, sym, ap, subst, ◌∙◌, arith}
+use Rattle.std.specs.Prelude.{◌≢◌, IfSome, MatchBool, codes}
+use Rattle.std.specs.Global.{Vec}
+use Rattle.std.specs.Str.{bytes_eq}
+use Rattle.std.proofs.lemmas.Slice.Eq.{bytes_eq-Decides}
+use Rattle.nats_replay.specs.declared.top.Refusal.{Refusal}
+use Rattle.nats_replay.specs.declared.top.Refusal.TheVariants.{ReadFault, Unreadable, OutOfTurn, NoMemory, TooLong}
+use Rattle.nats_replay.specs.declared.whole.ReadRefusal.{ReadRefusal}
+use Rattle.nats_replay.specs.Outside.{Rose}
+use Rattle.nats_replay.specs.Whole.{Tally, WholeRead}
+use Rattle.nats_replay.specs.Words.{run_words, IsTranscript, IsUnreadable, IsOutOfTurn}
+use Rattle.nats_replay.specs.Played.{Comes, Whole, Played}
+
+-- what is so of the bytes that were read is so of those that were held
+held_is : (held : Option (List ℕ)) (bytes : List ℕ) (Is : List ℕ → Type 0) → IfSome held (λ h. h ≡ bytes) → Is bytes → IfSome held Is
+held_is None bytes Is e h = tt
+held_is (Some x) bytes Is e h = subst Is (sym e) h
+
+abbrev pub Parts : Option (List ℕ) → Tally → Tally → List ℕ → Type 0
+Parts held before after bytes = IfSome held (λ h. h ≡ bytes) × (length bytes ≤ 16777216) × Rose before.ends after.ends
+
+whole_is : (held : Option (List ℕ)) (before after : Tally) (bytes : List ℕ) (Is : List ℕ → Type 0) → Parts held before after bytes → Is bytes → Whole held before after Is
+whole_is held before after bytes Is read h =
+    (held_is held bytes Is read.0 h, held_is held bytes (λ b. length b ≤ 16777216) read.0 read.1, read.2)
+
+-- what the bytes that were read come to is what the source's bytes come to
+pub played : (held : Option (List ℕ)) (before after : Tally) (bytes : List ℕ) (r : Result (Vec ℕ) Refusal) → Parts held before after bytes → Comes bytes r → Played held before after r
+played held before after bytes (Ok text) read h = whole_is held before after bytes (λ b. IsTranscript b text.items) read h
+played held before after bytes (Err Unreadable) read h = whole_is held before after bytes IsUnreadable read h
+played held before after bytes (Err OutOfTurn) read h = whole_is held before after bytes IsOutOfTurn read h
+played held before after bytes (Err NoMemory) read h = tt
+played held before after bytes (Err ReadFault) read h = absurd h
+played held before after bytes (Err TooLong) read h = absurd h
+
+-- ---- words
+
+pub one_word : {A : Type 0} (text : A → List ℕ) (words : List A) (word : A) → 1 ≤ length words → length words < 2 → word ≡ get_or words 0 word → map text words ≡ text word ∷ []
+one_word text [] word some few is = absurd (omega arith)
+one_word text (w ∷ []) word some few is = ap (λ (t : List ℕ). t ∷ []) (sym (ap text is))
+one_word text (w ∷ v ∷ words) word some few is = absurd (omega arith)
+
+first_is : (a b : List ℕ) → a ∷ [] ≡ b ∷ [] → a ≡ b
+first_is a b e = cc
+
+not_both : (b : Bool) → b ≡ false → b ≡ true → ⊥
+not_both b e h = cc
+
+pub run_is : (texts : List (List ℕ)) (text : List ℕ) (b : Bool) → texts ≡ text ∷ [] → b ≡ bytes_eq text (codes "run") → MatchBool b (texts ≡ run_words) (texts ≢ run_words)
+run_is texts text true one is = one ∙ ap (λ (t : List ℕ). t ∷ []) ((bytes_eq-Decides text (codes "run")).0 (sym is))
+run_is texts text false one is = λ e. not_both (bytes_eq text (codes "run")) (sym is) ((bytes_eq-Decides text (codes "run")).1 (first_is text (codes "run") (sym one ∙ e)))

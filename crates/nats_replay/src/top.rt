@@ -1,0 +1,177 @@
+//! The top call: what the program does.
+ghost use Rattle.std.specs.Prelude.{◌≡◌, ◌≢◌, ◌≤◌, ◌<◌, ◌⊎◌, map, length, None, IsTrue, List, IfSome, MatchBool};
+ghost use Rattle.std.specs.String.{string_bytes};
+ghost use Rattle.std.specs.Io.KnownBytes.{Appends};
+ghost use Rattle.nats_session.specs.declared.config.Config.{Config};
+ghost use Rattle.nats_session.specs.declared.turn.Turn.{Turn};
+ghost use Rattle.nats_session.specs.Schedule.{out_of_turn};
+ghost use Rattle.nats_session.specs.Transcripts.{transcript};
+ghost use Rattle.nats_replay.specs.declared.script.Script.TheVariants.{Good};
+ghost use Rattle.nats_replay.specs.Script.{script};
+ghost use Rattle.nats_replay.specs.Printed.{printed};
+ghost use Rattle.nats_replay.specs.Outside.{Rose, RoseBy, AppendsFront};
+ghost use Rattle.nats_replay.specs.Words.{run_words, unknown_command, is_status, IsTranscript, IsUnreadable, IsOutOfTurn};
+ghost use Rattle.nats_replay.specs.Played.{Comes, Played, status_of};
+
+use crate::outside::{Sink, Source};
+use crate::print::print_transcript;
+use crate::read::read_script;
+use crate::script::Script;
+use crate::whole::{ReadRefusal, read_all, write_all};
+use nats_session::{Config, RunError, Seq, Turn, run};
+use std::alloc::Global;
+
+/// What is printed of words that are no command.
+const UNKNOWN_COMMAND: &[u8] = b"unknown command\n";
+
+/// Why a script has no transcript.
+#[derive(Clone, Copy, Debug, PartialEq, Eq)]
+pub enum Refusal {
+    /// The source failed.
+    ReadFault,
+    /// A line cannot be read.
+    Unreadable,
+    /// A turn may not come where it stands.
+    OutOfTurn,
+    /// Want of memory.
+    NoMemory,
+    /// The source gave more bytes than a script may have.
+    TooLong,
+}
+
+/// The transcript was printed.
+const DONE: u8 = 0;
+/// The words are no command.
+const UNKNOWN: u8 = 2;
+/// The source failed.
+const READ_FAULT: u8 = 3;
+/// The sink failed.
+const WRITE_FAULT: u8 = 4;
+/// A line of the script cannot be read.
+const UNREADABLE: u8 = 5;
+/// A turn of the script may not come where it stands.
+const OUT_OF_TURN: u8 = 6;
+/// Want of memory.
+const NO_MEMORY: u8 = 7;
+/// The script is too long.
+const TOO_LONG: u8 = 8;
+
+fn play_turns(alloc: Global, config: Config, turns: &[Turn]) -> Result<Vec<u8>, Refusal>
+    ensures { (bytes : List _) → script bytes ≡ Good config turns.now → Comes bytes result }
+{
+    match run(alloc, config, turns) {
+        Ok(transcript) => match print_transcript(alloc, &transcript) {
+            Ok(text) => Ok(text),
+            Err(_) => Err(Refusal::NoMemory),
+        },
+        Err(RunError::OutOfTurn { place: _ }) => Err(Refusal::OutOfTurn),
+        Err(RunError::NoMemory) => Err(Refusal::NoMemory),
+    }
+}
+
+fn play_script(alloc: Global, bytes: &[u8]) -> Result<Vec<u8>, Refusal>
+    ensures { Comes bytes.now result }
+{
+    match read_script(alloc, bytes) {
+        Ok(Script::Good { config, turns }) => play_turns(alloc, config, turns.as_slice()),
+        Ok(Script::Bad(_)) => Err(Refusal::Unreadable),
+        Err(_) => Err(Refusal::NoMemory),
+    }
+}
+
+fn play<S: Source>(alloc: Global, source: &mut S) -> Result<Vec<u8>, Refusal>
+    ensures { Played (S.left source.old)
+        (record { given = S.given source.old; ends = S.ends source.old; faults = S.faults source.old })
+        (record { given = S.given source.new; ends = S.ends source.new; faults = S.faults source.new }) result }
+{
+    match read_all(alloc, source) {
+        Ok(bytes) => play_script(alloc, bytes.as_slice()),
+        Err(ReadRefusal::Fault) => Err(Refusal::ReadFault),
+        Err(ReadRefusal::TooLong) => Err(Refusal::TooLong),
+        Err(ReadRefusal::NoMemory) => Err(Refusal::NoMemory),
+    }
+}
+
+fn are_run(words: &[String]) -> bool
+    ensures { MatchBool result (map string_bytes words.now ≡ run_words) (map string_bytes words.now ≢ run_words) }
+{
+    match words {
+        [word] => word.as_str() == "run",
+        _ => false,
+    }
+}
+
+fn status_of(refusal: Refusal) -> u8
+    ensures { result ≡ status_of refusal }
+{
+    match refusal {
+        Refusal::ReadFault => READ_FAULT,
+        Refusal::Unreadable => UNREADABLE,
+        Refusal::OutOfTurn => OUT_OF_TURN,
+        Refusal::NoMemory => NO_MEMORY,
+        Refusal::TooLong => TOO_LONG,
+    }
+}
+
+/// What the program does: where the words are the one word `run`, it reads the source whole as a script, plays its turns
+/// and prints their transcript into the sink. It answers the status to exit with: 0, the transcript is printed; 2, other
+/// words, which are called unknown; 3, the source failed; 4, the sink failed; 5, a line of the script cannot be read; 6, a
+/// turn may not come where it stands; 7, want of memory; 8, more than 16,777,216 bytes. With 3, 5, 6, 7 and 8 nothing is
+/// printed. The words, the statuses and their order are our own choice.
+pub fn replay<S: Source, K: Sink>(
+    alloc: Global,
+    words: &[String],
+    source: &mut S,
+    sink: &mut K,
+) -> u8
+    // 0 to `run`: what was written is the printed transcript of the turns that the bytes held at entry spell, and they may
+    // come where they stand.
+    ensures transcript { result ≡ 0 → map string_bytes words.now ≡ run_words → IfSome (S.left source.old) (λ bytes.
+        (config : Config) × (turns : List Turn) × (script bytes ≡ Good config turns) × (out_of_turn config turns ≡ None)
+        × Appends (K.written sink.old) (K.written sink.new) (printed (transcript config turns))) }
+    // Every answer is one of these.
+    ensures status { IsTrue (is_status result) }
+    // 2: the words are another command.
+    ensures unknown { map string_bytes words.now ≢ run_words → (result ≡ 2) ⊎ (result ≡ 4) }
+    ensures unknown_only { result ≡ 2 → map string_bytes words.now ≢ run_words }
+    ensures unknown_text { result ≡ 2 → Appends (K.written sink.old) (K.written sink.new) unknown_command }
+    ensures unread { map string_bytes words.now ≢ run_words → source.new ≡ source.old }
+    // All others but 4 come to `run` alone.
+    ensures run_only { result ≢ 2 → result ≢ 4 → map string_bytes words.now ≡ run_words }
+    // 3: the source failed.
+    ensures read_fault { result ≡ 3 → Rose (S.faults source.old) (S.faults source.new) }
+    // 4: the sink failed, behind a first part of the text.
+    ensures write_fault { result ≡ 4 → Rose (K.faults sink.old) (K.faults sink.new) }
+    ensures cut_short { result ≡ 4 → map string_bytes words.now ≡ run_words → IfSome (S.left source.old) (λ bytes.
+        (text : List _) × IsTranscript bytes text × AppendsFront (K.written sink.old) (K.written sink.new) text) }
+    ensures unknown_cut_short { result ≡ 4 → map string_bytes words.now ≢ run_words →
+        AppendsFront (K.written sink.old) (K.written sink.new) unknown_command }
+    // 5: a line cannot be read.
+    ensures unreadable { result ≡ 5 → IfSome (S.left source.old) IsUnreadable }
+    // 6: every line can be read, and a turn may not come where it stands.
+    ensures out_of_turn { result ≡ 6 → IfSome (S.left source.old) IsOutOfTurn }
+    // 8: the source held more than a script may have, and gave more.
+    ensures too_long { result ≡ 8 → IfSome (S.left source.old) (λ bytes. 16777216 < length bytes) }
+    ensures too_much { result ≡ 8 → RoseBy 16777217 (S.given source.old) (S.given source.new) }
+    // The others to `run`, but 3 and 7: the source was read to its end, and held no more than a script may have.
+    ensures ended { map string_bytes words.now ≡ run_words → result ≢ 3 → result ≢ 7 → result ≢ 8 →
+        Rose (S.ends source.old) (S.ends source.new) }
+    ensures within { map string_bytes words.now ≡ run_words → result ≢ 3 → result ≢ 7 → result ≢ 8 →
+        IfSome (S.left source.old) (λ bytes. length bytes ≤ 16777216) }
+    // Nothing else is printed.
+    ensures silent { result ≢ 0 → result ≢ 2 → result ≢ 4 → sink.new ≡ sink.old }
+{
+    if !are_run(words) {
+        return match write_all(UNKNOWN_COMMAND, sink) {
+            Ok(()) => UNKNOWN,
+            Err(_) => WRITE_FAULT,
+        };
+    }
+    match play(alloc, source) {
+        Ok(text) => match write_all(text.as_slice(), sink) {
+            Ok(()) => DONE,
+            Err(_) => WRITE_FAULT,
+        },
+        Err(refusal) => status_of(refusal),
+    }
+}
