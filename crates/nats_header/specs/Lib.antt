@@ -1,0 +1,5 @@
+pub mod Answers
+pub mod Block
+pub mod Errors
+pub mod Headers
+pub mod Names
