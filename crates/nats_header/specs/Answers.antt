@@ -20,8 +20,14 @@ ValueAnswer text (Err Value) = is_header_value text ≡ false
 ValueAnswer text (Err NoMemory) = is_header_value text ≡ true
 
 -- when each answer may come to a name and a value of which the tests say these
-abbrev pub FieldAnswer : {X : Type 0} → Bool → Bool → Result X HeaderError → Type 0
+abbrev pub FieldAnswer : Bool → Bool → Result (Unit {0}) HeaderError → Type 0
 FieldAnswer is_name is_value (Ok done) = (is_name ≡ true) × (is_value ≡ true)
 FieldAnswer is_name is_value (Err Name) = is_name ≡ false
 FieldAnswer is_name is_value (Err Value) = (is_name ≡ true) × (is_value ≡ false)
 FieldAnswer is_name is_value (Err NoMemory) = (is_name ≡ true) × (is_value ≡ true)
+
+-- the answer to two texts that are to be a name and a value
+abbrev pub PairAnswer : List ℕ → List ℕ → Result (List ℕ × List ℕ) HeaderError → Type 0
+PairAnswer name value (Ok made) =
+    (made.0 ≡ name) × (made.1 ≡ value) × (is_header_name name ≡ true) × (is_header_value value ≡ true)
+PairAnswer name value (Err error) = FieldAnswer (is_header_name name) (is_header_value value) (Err error)

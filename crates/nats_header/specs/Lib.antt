@@ -3,3 +3,4 @@ pub mod Block
 pub mod Errors
 pub mod Headers
 pub mod Names
+pub mod Walk

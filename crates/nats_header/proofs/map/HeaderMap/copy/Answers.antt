@@ -1,0 +1,16 @@
+-- The copied fields are the same.
+use Rattle.std.proofs.Common.{◌≡◌, ◌<◌, ◌^◌, length, sym, subst, ◌∙◌}
+use Rattle.std.specs.Bool.{IsTrue}
+use Rattle.nats_header.specs.Headers.{Headers, are_fields}
+use Rattle.nats_header.specs.Block.{block_text}
+use Rattle.nats_header.proofs.Entries.{cloned}
+use Rattle.nats_header.proofs.map.HeaderMap.copy.Goals as goal
+
+pub invariant_of-result : goal.invariant_of-result
+invariant_of-result c =
+    let same = cloned c.self.inside.fields.entries c.in_ok-fields.fields.entries c.in_ok-fields.ensures.cases in
+    rw same (c.self.invariant)
+
+pub returns : goal.returns
+returns c =
+    cloned c.self.inside.fields.entries c.in_ok-fields.fields.entries c.in_ok-fields.ensures.cases ∙ c.self.view_is
