@@ -1,5 +1,6 @@
 pub mod Answers
 pub mod Block
+pub mod Equality
 pub mod Errors
 pub mod Headers
 pub mod Names

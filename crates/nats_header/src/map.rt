@@ -2,9 +2,9 @@
 ghost use Rattle.std.specs.Prelude.{◌≡◌, ◌-◌, ◌^◌, ◌<◌, ◌==◌, false, [], ◌∷◌, ◌++◌, length, is_some, slice_get, IfOk, OnOk, OnErr, IsTrue};
 ghost use Rattle.std.specs.Option.{option_copied};
 ghost use Rattle.std.specs.Str.{bytes_eq};
-ghost use Rattle.std.specs.Cmp.Lexicographic.{pointwise};
 ghost use Rattle.nats_header.specs.Names.{is_header_name, is_header_value};
 ghost use Rattle.nats_header.specs.Headers.{Headers, has_name, values_of, inserted, appended, all_inserted, are_fields, AreDistinct, same_headers};
+ghost use Rattle.nats_header.specs.Equality.{same_headers-per, same_headers-equiv};
 ghost use Rattle.nats_header.specs.Block.{block_text};
 ghost use Rattle.nats_header.specs.Answers.{FieldAnswer, PairAnswer};
 
@@ -258,5 +258,28 @@ impl HeaderMap {
         }
         bytes.extend_from_slice(b"\r\n")?;
         Ok(bytes)
+    }
+}
+
+/// Maps are equal where they have the same values in order at each name of either; the order of names doesn't matter. The
+/// crate's `PartialEq`.
+impl PartialEq for HeaderMap {
+    ghost eq = { same_headers };
+
+    ghost laws = { same_headers-per };
+
+    fn eq(&self, other: &HeaderMap) -> bool {
+        self.fields == other.fields
+    }
+}
+
+impl Eq for HeaderMap {
+    ghost laws = { same_headers-equiv };
+}
+
+/// Prints the names with their values, as a map's `Debug` does.
+impl fmt::Debug for HeaderMap {
+    fn fmt<W: fmt::Write>(&self, f: &mut fmt::Formatter<W>) -> fmt::Result {
+        fmt::Debug::fmt(&self.fields, f)
     }
 }
