@@ -122,7 +122,7 @@ pub fn NATS_SCHEDULE_TARGET() -> HeaderName
     HeaderName::from_static("Nats-Schedule-Target")
 }
 
-/// `Nats-Schedule-TTL`: how long a scheduled message is kept. It takes no memory. The crate's constant.
+/// `Nats-Schedule-TTL`: how long a message that the schedule published is kept. It takes no memory. The crate's constant.
 pub fn NATS_SCHEDULE_TTL() -> HeaderName
     ensures { result ≡ codes "Nats-Schedule-TTL" }
 {
@@ -157,7 +157,7 @@ pub fn NATS_SCHEDULER() -> HeaderName
     HeaderName::from_static("Nats-Scheduler")
 }
 
-/// `Nats-Schedule-Next`: when the schedule publishes next. It takes no memory. The crate's constant.
+/// `Nats-Schedule-Next`: when the schedule publishes next, if ever. It takes no memory. The crate's constant.
 pub fn NATS_SCHEDULE_NEXT() -> HeaderName
     ensures { result ≡ codes "Nats-Schedule-Next" }
 {
@@ -192,7 +192,7 @@ pub fn NATS_REQUIRED_API_LEVEL() -> HeaderName
     HeaderName::from_static("Nats-Required-Api-Level")
 }
 
-/// `Nats-Pin-Id`: the pin by which one client holds a consumer. It takes no memory. The crate's constant.
+/// `Nats-Pin-Id`: the client that a pinned consumer delivers to. It takes no memory. The crate's constant.
 pub fn NATS_PIN_ID() -> HeaderName
     ensures { result ≡ codes "Nats-Pin-Id" }
 {
