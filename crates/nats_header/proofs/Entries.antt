@@ -1,5 +1,5 @@
 -- A header map as the entries of an index map.
-use Rattle.std.proofs.Common.{◌≡◌, ℕ, ◌+◌, ◌<◌, ◌≤◌, ◌&&◌, Bool, true, false, not, cond, List, [], ◌∷◌, ◌++◌, Option, Some, None, length, nat_eq, refl, sym, ap, subst, ◌∙◌, arith, length-append}
+use Rattle.std.proofs.Common.{◌≡◌, ℕ, Bool, true, false, cond, List, [], ◌∷◌, Option, Some, None, refl, ap, ◌∙◌}
 use Rattle.std.proofs.lemmas.List.Elements.{same_from_all_zip}
 use Rattle.std.specs.List.{AllZip}
 use Rattle.std.specs.Map.{lookup, set_value}

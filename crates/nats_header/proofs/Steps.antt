@@ -1,5 +1,5 @@
 -- Steps of loops over the values of a name and over the names.
-use Rattle.std.proofs.Common.{◌≡◌, ℕ, suc, ◌+◌, ◌<◌, List, ◌∷◌, ◌++◌, length, drop, get_or, refl, sym, ap, ◌∙◌, arith, add-one, drop-cons, length-append, append_assoc}
+use Rattle.std.proofs.Common.{◌≡◌, ℕ, ◌+◌, ◌<◌, List, ◌++◌, length, drop, get_or, ap, ◌∙◌, add-one, drop-cons, length-append}
 use Rattle.std.specs.List.{flat_map}
 
 -- the first of what is left is done

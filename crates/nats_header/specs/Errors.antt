@@ -1,5 +1,5 @@
 -- The texts of header errors.
-use Rattle.std.specs.Prelude.{ℕ, List, ◌++◌, codes}
+use Rattle.std.specs.Prelude.{ℕ, List, codes}
 use Rattle.nats_header.specs.declared.error.HeaderError.{HeaderError}
 use Rattle.nats_header.specs.declared.error.HeaderError.TheVariants.{Name, Value, NoMemory}
 

@@ -1,6 +1,5 @@
 -- The length that is kept is that of the longer block.
-use Rattle.std.proofs.Common.{◌≡◌, length, ap, arith}
-use Rattle.std.specs.Bool.{IsTrue}
+use Rattle.std.proofs.Common.{length, ap, arith}
 use Rattle.nats_header.specs.Block.{block_text}
 use Rattle.nats_header.proofs.Laws.{length-appended, are_fields-appended}
 use Rattle.nats_header.proofs.map.HeaderMap.append_field.Goals as goal

@@ -1,8 +1,5 @@
 -- The copied fields are the same.
-use Rattle.std.proofs.Common.{◌≡◌, ◌<◌, ◌^◌, length, sym, subst, ◌∙◌}
-use Rattle.std.specs.Bool.{IsTrue}
-use Rattle.nats_header.specs.Headers.{Headers, are_fields}
-use Rattle.nats_header.specs.Block.{block_text}
+use Rattle.std.proofs.Common.{◌∙◌}
 use Rattle.nats_header.proofs.Entries.{cloned}
 use Rattle.nats_header.proofs.map.HeaderMap.copy.Goals as goal
 

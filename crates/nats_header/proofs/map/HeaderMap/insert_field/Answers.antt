@@ -1,6 +1,5 @@
 -- The length that is kept is that of the block with the new line in the place of the old ones.
-use Rattle.std.proofs.Common.{◌≡◌, length, ap, arith}
-use Rattle.std.specs.Bool.{IsTrue}
+use Rattle.std.proofs.Common.{length, ap, arith}
 use Rattle.nats_header.specs.Block.{block_text, field_lines}
 use Rattle.nats_header.proofs.Laws.{length-inserted, length-values_of, length-block_text, are_fields-inserted}
 use Rattle.nats_header.proofs.map.HeaderMap.insert_field.Goals as goal

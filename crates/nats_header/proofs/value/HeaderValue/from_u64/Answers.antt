@@ -1,6 +1,4 @@
 -- A number's text has no CR and no LF.
-use Rattle.std.specs.Bool.{IsTrue}
-use Rattle.nats_header.specs.Names.{is_header_value}
 use Rattle.nats_header.proofs.Texts.{decimal-value}
 use Rattle.nats_header.proofs.value.HeaderValue.from_u64.Goals as goal
 
