@@ -1,4 +1,3 @@
 pub mod Entries
 pub mod Laws
-pub mod Steps
 pub mod Texts
