@@ -1,2 +1,4 @@
+pub mod Errors
 pub mod Events
 pub mod Names
+pub mod Status

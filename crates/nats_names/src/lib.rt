@@ -1,17 +1,29 @@
 //! Names, events and small values of the NATS client that every crate above stands on.
 #![tactic(auto)]
 
+mod client_error;
 mod event;
 mod failed;
 mod seq;
+mod server_error;
+mod state;
+mod status;
 mod subject;
+mod subject_error;
+#[cfg(test)]
+mod tests;
 mod text;
 mod token;
 
 pub use bytes::Bytes;
+pub use client_error::{CallbackError, ClientError};
 pub use event::Event;
 pub use failed::{Failed, NoMemory};
 pub use seq::Seq;
-pub use subject::Subject;
+pub use server_error::ServerError;
+pub use state::State;
+pub use status::{InvalidStatusCode, StatusCode};
+pub use subject::{Subject, ToSubject};
+pub use subject_error::SubjectError;
 pub use text::Text;
 pub use token::Token;

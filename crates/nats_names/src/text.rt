@@ -1,5 +1,5 @@
 //! A text that contracts see as its bytes.
-ghost use Rattle.std.specs.Prelude.{◌≡◌, [], IfOk};
+ghost use Rattle.std.specs.Prelude.{◌≡◌, [], IfOk, Some};
 
 use crate::NoMemory;
 use bytes::ByteStr;
@@ -8,7 +8,7 @@ use std::fmt;
 use std::marker::Model;
 
 /// A UTF-8 text. It stands where the Rust has a `String` inside a value that contracts compare.
-#[derive(Drop, PartialEq, Eq)]
+#[derive(Debug, Drop, PartialEq, Eq)]
 pub struct Text {
     text: ByteStr,
 }
@@ -56,5 +56,14 @@ impl Text {
         Ok(Text {
             text: self.text.clone()?,
         })
+    }
+}
+
+/// Prints the text.
+impl fmt::Display for Text {
+    ghost output = { λ t. Some t };
+
+    fn fmt<W: fmt::Write>(&self, f: &mut fmt::Formatter<W>) -> fmt::Result {
+        fmt::Display::fmt(self.as_str(), f)
     }
 }

@@ -1,10 +1,13 @@
 //! Tokens: short names without dots.
-ghost use Rattle.std.specs.Prelude.{◌≡◌, ◌^◌, ◌≤◌, ◌<◌, length, is_some, IfSome, IsTrue};
+ghost use Rattle.std.specs.Prelude.{◌≡◌, ◌^◌, ◌≤◌, ◌<◌, length, nat_eq, is_some, IfSome, IsTrue, Some};
+ghost use Rattle.std.specs.Cmp.{partial_equiv_from_equiv};
+ghost use Rattle.std.specs.Cmp.Lexicographic.{pointwise, nat_list_eq_equiv};
 ghost use Rattle.std.specs.List.{list_all};
 ghost use Rattle.nats_names.specs.Names.{is_token, is_letter_or_digit};
 
+use std::convert::AsStr;
 use std::marker::Model;
-use std::str;
+use std::{fmt, str};
 
 /// The greatest length of a token, in bytes. Own choice.
 pub const TOKEN_LIMIT: usize = 64;
@@ -69,5 +72,38 @@ impl Token {
             bytes: self.bytes,
             len: self.len,
         }
+    }
+}
+
+/// Tokens are equal where their texts are.
+impl PartialEq for Token {
+    ghost eq = { pointwise nat_eq };
+
+    ghost laws = { partial_equiv_from_equiv nat_list_eq_equiv };
+
+    fn eq(&self, other: &Token) -> bool {
+        Token::as_str(self) == Token::as_str(other)
+    }
+}
+
+impl Eq for Token {
+    ghost laws = { nat_list_eq_equiv };
+}
+
+/// Prints the text.
+impl fmt::Display for Token {
+    ghost output = { λ t. Some t };
+
+    fn fmt<W: fmt::Write>(&self, f: &mut fmt::Formatter<W>) -> fmt::Result {
+        fmt::Display::fmt(Token::as_str(self), f)
+    }
+}
+
+/// Lends the text.
+impl AsStr for Token {
+    ghost text = { λ t. t };
+
+    fn as_str(&self) -> &str {
+        Token::as_str(self)
     }
 }

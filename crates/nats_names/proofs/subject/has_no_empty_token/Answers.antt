@@ -1,5 +1,5 @@
 -- `all` over the pieces of `split` answers the test of each token.
-use Rattle.std.proofs.Common.{rules, ◌≡◌, sym, refl}
+use Rattle.std.proofs.Common.{rules}
 use borrow.Author.Tests.{tests}
 use Rattle.nats_names.specs.Names.{is_dot, is_nonempty}
 use Rattle.std.proofs.lemmas.Iterator.Search.{all_from_yields_List}

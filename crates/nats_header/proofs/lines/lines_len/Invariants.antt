@@ -1,0 +1,8 @@
+use Rattle.std.proofs.Common.{◌≡◌, ◌+◌, length, drop}
+use Rattle.std.specs.List.{flat_map}
+use Rattle.nats_header.specs.Block.{value_line, field_lines}
+use Rattle.nats_header.proofs.lines.lines_len.Given as goal
+
+abbrev pub invariant-loop-value : goal.invariant-loop-value
+invariant-loop-value l =
+    l.len + length (flat_map (value_line l.name) (drop l.value-index l.values)) ≡ length (field_lines (l.name, l.values))

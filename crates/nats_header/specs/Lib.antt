@@ -1,0 +1,7 @@
+pub mod Answers
+pub mod Block
+pub mod Equality
+pub mod Errors
+pub mod Headers
+pub mod Names
+pub mod Walk
