@@ -9,6 +9,8 @@ mod handler;
 mod play;
 mod queue;
 mod subs;
+#[cfg(test)]
+mod tests;
 mod transcript;
 mod turn;
 

@@ -1,11 +1,14 @@
 //! What a session tells of itself.
-ghost use Rattle.std.specs.Prelude.{◌≡◌, length, drop};
+ghost use Rattle.std.specs.Prelude.{◌≡◌, length, drop, is_some};
 ghost use Rattle.std.specs.Option.{option_copied};
 ghost use Rattle.nats_session.specs.Queue.{first};
 ghost use Rattle.nats_session.specs.Parts.{item_of};
 ghost use Rattle.nats_session.specs.Delivery.{youngest};
+ghost use Rattle.nats_session.specs.Schedule.{due};
+ghost use Rattle.nats_session.specs.Handler.{can_play};
 
 use super::ConnectionHandler;
+use crate::turn::Turn;
 use nats_wire::{Event, Message};
 
 impl ConnectionHandler {
@@ -14,6 +17,27 @@ impl ConnectionHandler {
         ensures { result ≡ self.now.link }
     {
         self.link
+    }
+
+    /// Whether a step is due, which `advance` plays. It takes no memory.
+    pub fn is_due(&self) -> bool
+        ensures { result ≡ is_some (due self.now) }
+    {
+        if !self.is_up {
+            return false;
+        }
+        if !self.connection.is_unfinished() {
+            return true;
+        }
+        !self.connection.is_write_buf_full() && !self.calls.is_empty()
+    }
+
+    /// Whether a turn may be played: it may come here, and no step is due. It is the condition of the call of that turn. It
+    /// takes no memory.
+    pub fn check(&self, turn: &Turn) -> bool
+        ensures { result ≡ can_play self.now turn.now }
+    {
+        self.is_valid(turn) && !self.is_due()
     }
 
     /// Whether a link is up.
