@@ -1,10 +1,40 @@
--- The words of a line are no longer than the line.
-use Rattle.std.proofs.Common.{◌≡◌, ℕ, suc, ◌+◌, ◌≤◌, Bool, true, false, not, List, [], ◌∷◌, length, Option, Some, None, refl, ap, sym, arith}
+-- The pieces of a text, one after another, and the head that they make, whose words are no longer than the text.
+use Rattle.std.proofs.Common.{◌≡◌, ◌≢◌, ℕ, suc, ◌+◌, ◌<◌, ◌≤◌, Bool, true, false, not, List, [], ◌∷◌, length, get_or, Option, Some, None, refl, ap, sym, ◌∙◌, arith, tests}
 use Rattle.std.specs.Prelude.{◌==◌, if◌then◌else◌}
-use Rattle.std.specs.List.{filter, slice_split, onto_first}
+use Rattle.std.specs.List.{filter, slice_split, onto_first, position_or_len, before_first, after_first}
+use Rattle.std.proofs.lemmas.List.Splits.{slice_split_first}
 use Rattle.std.specs.Str.{is_utf8, IsUtf8}
 use Rattle.std.proofs.lemmas.Str.{IsUtf8-from_is_utf8, is_utf8-from_IsUtf8}
 use Rattle.nats_wire.specs.Operations.{Head, number_of, pieces_of, head_with, head_of_pieces, head_of, bytes_of}
+
+kept_step : (test : Bool) (piece : List ℕ) (more : List (List ℕ)) → test ≡ false → piece ∷ more ≡ (if not test then piece ∷ more else more)
+kept_step true piece more is = cc
+kept_step false piece more is = refl
+
+-- where something stands before a text's first space it is the text's first piece, and the others stand behind
+pub pieces_at_space : (text piece rest : List ℕ) → position_or_len (λ b. b == 32) text < length text
+    → piece ≡ before_first (λ b. b == 32) text → rest ≡ after_first (λ b. b == 32) text → (length piece == 0) ≡ false
+    → piece ∷ pieces_of rest ≡ pieces_of text
+pieces_at_space text piece rest inside front behind some =
+    let first = slice_split_first (λ b. b == 32) text 0 inside in
+    let whole : slice_split (λ b. b == 32) text ≡ piece ∷ slice_split (λ b. b == 32) rest = cc in
+    kept_step (length piece == 0) piece (pieces_of rest) some ∙ ap (filter (λ piece. not (length piece == 0))) (sym whole)
+
+whole_step : (test : Bool) (x : ℕ) (text : List ℕ) → (x == 32) ≡ test → x ≢ 32 → slice_split (λ b. b == 32) text ≡ text ∷ []
+    → (if test then [] ∷ slice_split (λ b. b == 32) text else onto_first x (slice_split (λ b. b == 32) text)) ≡ (x ∷ text) ∷ []
+whole_step true x text is other whole = absurd (other (grind (arith, tests)))
+whole_step false x text is other whole = ap (onto_first x) whole
+
+split_whole : (text : List ℕ) → ((i : ℕ) → i < length text → get_or text i 0 ≢ 32) → slice_split (λ b. b == 32) text ≡ text ∷ []
+split_whole [] never = refl
+split_whole (x ∷ text) never =
+    whole_step (x == 32) x text refl (never 0 (omega arith)) (split_whole text (λ i inside. never (suc i) (omega arith)))
+
+-- a text without a space is its one piece, where it has a byte
+pub pieces_whole : (text : List ℕ) → ((i : ℕ) → i < length text → get_or text i 0 ≢ 32) → (length text == 0) ≡ false
+    → text ∷ [] ≡ pieces_of text
+pieces_whole text never some =
+    kept_step (length text == 0) text [] some ∙ ap (filter (λ piece. not (length piece == 0))) (sym (split_whole text never))
 
 -- the bytes of some texts
 abbrev total : List (List ℕ) → ℕ

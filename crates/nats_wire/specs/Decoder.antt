@@ -1,18 +1,35 @@
 -- What the decoder's values say, in the grammar's words.
+use Rattle.std.specs.Prelude.{ℕ, List, [], ◌∷◌, Option, Some, None}
 use Rattle.std.specs.Option.{option_map}
-use Rattle.nats_wire.specs.declared.decode.Look.{Look}
-use Rattle.nats_wire.specs.declared.decode.Look.TheVariants as look
+use Rattle.nats_wire.specs.declared.message.Message.{Message}
+use Rattle.nats_wire.specs.declared.decode.Front.{Front}
+use Rattle.nats_wire.specs.declared.decode.Front.TheVariants as front
+use Rattle.nats_wire.specs.declared.decode.OpText.{OpText}
+use Rattle.nats_wire.specs.declared.decode.OpText.TheVariants as op
+use Rattle.nats_wire.specs.declared.decode.MessageText.{MessageText}
 use Rattle.nats_wire.specs.declared.decode.Word.{Word}
 use Rattle.nats_wire.specs.declared.decode.Word.TheVariants as word
 use Rattle.nats_wire.specs.declared.decode.Line.{Line}
+use Rattle.nats_wire.specs.declared.decode.Piece.{Piece}
 use Rattle.nats_wire.specs.declared.decode.Head.{Head}
 use Rattle.nats_wire.specs.Operations as grammar
-use Rattle.nats_wire.specs.Operations.{Front, unfinished, got, fault, op_view, Cut}
+use Rattle.nats_wire.specs.Operations.{Operation, message, unfinished, got, fault, Cut, pieces_of}
 
-abbrev pub look_view : Look → Front
-look_view look.Unfinished = unfinished
-look_view (look.Got peeked) = got (op_view peeked.op) peeked.len
-look_view (look.Fault n) = fault n
+abbrev pub message_view : MessageText → Message
+message_view m = record {
+  subject = m.subject.now;
+  reply = option_map (λ text. text.now) m.reply;
+  payload = m.payload.now;
+  length = m.length;
+}
+
+abbrev pub op_text_view : OpText → Operation
+op_text_view (op.Message sid m) = message sid (message_view m)
+
+abbrev pub front_view : Front → grammar.Front
+front_view front.Unfinished = unfinished
+front_view (front.Got text n) = got (op_text_view text) n
+front_view (front.Fault n) = fault n
 
 abbrev pub word_view : Word → grammar.Word
 word_view word.Ok = grammar.ok
@@ -26,6 +43,11 @@ word_view word.Other = grammar.other
 
 abbrev pub line_view : Line → Cut
 line_view line = record { line = line.text.now; rest = line.rest.now }
+
+-- the pieces of a text that is cut behind its first piece, or has none
+abbrev pub pieces_from : Option Piece → List (List ℕ)
+pieces_from None = []
+pieces_from (Some piece) = piece.text.now ∷ pieces_of piece.rest.now
 
 abbrev pub head_view : Head → grammar.Head
 head_view head = record {

@@ -1,5 +1,5 @@
 -- What the bytes of a server say: the grammar of server operations, read from the front of one whole text.
-use Rattle.std.specs.Prelude.{ℕ, zero, suc, ◌+◌, ◌^◌, not, ◌&&◌, ◌==◌, nat_lt, nat_eq, List, [], ◌∷◌, length, take, drop, filter, Option, Some, None, if◌then◌else◌, codes}
+use Rattle.std.specs.Prelude.{ℕ, zero, suc, ◌+◌, ◌^◌, Bool, true, false, not, ◌&&◌, ◌==◌, nat_lt, nat_eq, List, [], ◌∷◌, length, take, drop, filter, Option, Some, None, if◌then◌else◌, codes}
 use Rattle.std.specs.Option.{option_map}
 use Rattle.std.specs.List.{starts_with, slice_split}
 use Rattle.std.specs.Str.{is_utf8, all_ascii_digits}
@@ -21,6 +21,12 @@ pub data Front : Type 0 where
   unfinished : Front
   got : Operation → ℕ → Front
   fault : ℕ → Front
+
+-- less than an operation stands there
+abbrev pub is_unfinished : Front → Bool
+is_unfinished unfinished = true
+is_unfinished (got operation n) = false
+is_unfinished (fault n) = false
 
 -- a text cut at its first CR LF, which is in neither part
 pub record Cut : Type 0 where

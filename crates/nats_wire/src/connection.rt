@@ -1,13 +1,13 @@
 //! A connection to a server: bytes in, operations out; commands in, bytes out. It reads and writes nothing itself.
 ghost use Rattle.std.specs.Prelude.{◌≡◌, ◌≤◌, ◌++◌, [], length, drop, OnOk, OnErr, IfOk, IfSome, nat_le};
 ghost use Rattle.nats_wire.specs.Wire.{fresh};
-ghost use Rattle.nats_wire.specs.Operations.{front};
+ghost use Rattle.nats_wire.specs.Operations.{front, is_unfinished};
 ghost use Rattle.nats_wire.specs.Commands.{command_text, one_piece};
 ghost use Rattle.nats_wire.specs.Connection.{Looks, Reads};
 
-use crate::command;
-use crate::decode::{self, Look};
+use crate::decode::{self, Front};
 use crate::op::{ClientOp, ServerOp, WireError};
+use crate::{command, copies};
 use bytes::BytesMut;
 use nats_names::{Bytes, NoMemory};
 use std::alloc::Global;
@@ -69,11 +69,22 @@ impl Connection {
         ensures looks { Looks (front self.now.unread) result }
         ensures fits { IfOk result (λ peeked. IfSome peeked (λ p. p.len ≤ length self.now.unread)) }
     {
-        match decode::look_at(alloc, self.read_buf.as_slice())? {
-            Look::Unfinished => Ok(None),
-            Look::Got(peeked) => Ok(Some(peeked)),
-            Look::Fault(_) => Err(WireError::ReadFault),
+        match decode::front_of(self.read_buf.as_slice()) {
+            Front::Unfinished => Ok(None),
+            Front::Got(text, len) => {
+                let op = copies::operation(alloc, &text)?;
+                Ok(Some(Peeked { op, len }))
+            }
+            Front::Fault(_) => Err(WireError::ReadFault),
         }
+    }
+
+    /// Whether less than an operation stands at the front of the unread bytes. It takes no memory. Own call.
+    pub fn is_unfinished(&self) -> bool
+        ensures { result ≡ is_unfinished (front self.now.unread) }
+    {
+        let front = decode::front_of(self.read_buf.as_slice());
+        matches!(front, Front::Unfinished)
     }
 
     /// Takes the first `n` unread bytes away. Own call, for use after `peek_op`.
@@ -94,13 +105,14 @@ impl Connection {
     pub fn try_read_op(&mut self, alloc: Global) -> Result<Option<ServerOp>, WireError>
         ensures { Reads (front self.old.unread) self.old result self.new }
     {
-        match decode::look_at(alloc, self.read_buf.as_slice())? {
-            Look::Unfinished => Ok(None),
-            Look::Got(peeked) => {
-                self.consume(peeked.len);
-                Ok(Some(peeked.op))
+        match decode::front_of(self.read_buf.as_slice()) {
+            Front::Unfinished => Ok(None),
+            Front::Got(text, len) => {
+                let op = copies::operation(alloc, &text)?;
+                self.consume(len);
+                Ok(Some(op))
             }
-            Look::Fault(n) => {
+            Front::Fault(n) => {
                 self.consume(n);
                 Err(WireError::ReadFault)
             }

@@ -1,23 +1,34 @@
-//! Reads what stands at the front of a text: the grammar of server operations, in code.
-ghost use Rattle.std.specs.Prelude.{◌≡◌, ◌+◌, ◌^◌, ◌<◌, ◌≤◌, length, take, drop, map, Some, None, IfOk, IfSome, codes, option_map, nat_lt, if◌then◌else◌};
+//! Reads what stands at the front of a text: the grammar of server operations, in code. It takes no memory.
+ghost use Rattle.std.specs.Prelude.{◌≡◌, ◌+◌, ◌^◌, ◌<◌, ◌≤◌, length, take, drop, Some, None, IfSome, codes, option_map, nat_lt, if◌then◌else◌};
 ghost use Rattle.std.specs.List.{starts_with};
 ghost use Rattle.nats_wire.specs.Operations.{message_word, cut_line, word_of, number_of, pieces_of, head_with, head_of_pieces, head_of, bytes_of, message_of, message_or_fault, front_of_word, front};
-ghost use Rattle.nats_wire.specs.Decoder.{look_view, word_view, line_view, head_view};
+ghost use Rattle.nats_wire.specs.Decoder.{front_view, message_view, word_view, line_view, head_view, pieces_from};
 
-use crate::connection::Peeked;
-use crate::message::Message;
-use crate::op::ServerOp;
 use memchr::memmem;
-use nats_names::{Bytes, NoMemory, Subject};
-use std::alloc::{AllocError, Global};
 use std::str;
 
-/// What stands at the front of a text: less than an operation, an operation, or a fault that takes some bytes.
-#[derive(Drop)]
-pub enum Look {
+/// What stands at the front of a text: less than an operation, an operation and the number of its bytes, or a fault
+/// that takes some bytes.
+#[derive(Clone, Copy)]
+pub enum Front<'a> {
     Unfinished,
-    Got(Peeked),
+    Got(OpText<'a>, usize),
     Fault(usize),
+}
+
+/// A `ServerOp` in the text that it is read from.
+#[derive(Clone, Copy)]
+pub enum OpText<'a> {
+    Message { sid: u64, message: MessageText<'a> },
+}
+
+/// A `Message` in the text that it is read from.
+#[derive(Clone, Copy)]
+pub struct MessageText<'a> {
+    pub subject: &'a str,
+    pub reply: Option<&'a str>,
+    pub payload: &'a [u8],
+    pub length: usize,
 }
 
 /// The words that a line may begin with.
@@ -40,6 +51,14 @@ pub struct Line<'a> {
     pub text: &'a [u8],
     /// What follows that.
     pub rest: &'a [u8],
+}
+
+/// A text cut behind its first piece that isn't empty, where pieces stand between spaces.
+#[derive(Clone, Copy)]
+pub struct Piece<'a> {
+    pub text: &'a str,
+    /// What follows the piece, and the space behind it.
+    pub rest: &'a str,
 }
 
 /// What the line of a message says.
@@ -92,12 +111,24 @@ fn number(text: &str) -> Option<u64>
     text.parse().ok()
 }
 
-fn pieces(alloc: Global, text: &str) -> Result<Vec<&str>, AllocError>
-    ensures { IfOk result (λ v. map (λ x. x.now) v.items ≡ pieces_of text.now) }
+fn next_piece(text: &str) -> Option<Piece<'_>>
+    ensures { pieces_from result ≡ pieces_of text.now }
 {
-    text.split(' ')
-        .filter(|piece| !piece.is_empty())
-        .collect(alloc)
+    let mut left = text;
+    while let Some((piece, rest)) = left.split_once(' ') {
+        if !piece.is_empty() {
+            return Some(Piece { text: piece, rest });
+        }
+        left = rest;
+    }
+    if left.is_empty() {
+        None
+    } else {
+        Some(Piece {
+            text: left,
+            rest: "",
+        })
+    }
 }
 
 fn head_with<'a>(
@@ -117,24 +148,28 @@ fn head_with<'a>(
     })
 }
 
-fn head_of_pieces<'a>(pieces: &[&'a str]) -> Option<Head<'a>>
-    ensures { option_map head_view result ≡ head_of_pieces (map (λ x. x.now) pieces.now) }
+fn head_of_text(text: &str) -> Option<Head<'_>>
+    ensures { option_map head_view result ≡ head_of_pieces (pieces_of text.now) }
 {
-    match pieces {
-        [subject, sid, count] => head_with(subject, None, sid, count),
-        [subject, sid, reply, count] => head_with(subject, Some(reply), sid, count),
-        _ => None,
+    let subject = next_piece(text)?;
+    let sid = next_piece(subject.rest)?;
+    let third = next_piece(sid.rest)?;
+    let Some(fourth) = next_piece(third.rest) else {
+        return head_with(subject.text, None, sid.text, third.text);
+    };
+    if next_piece(fourth.rest).is_some() {
+        return None;
     }
+    head_with(subject.text, Some(third.text), sid.text, fourth.text)
 }
 
-fn read_head(alloc: Global, text: &[u8]) -> Result<Option<Head<'_>>, AllocError>
-    ensures { IfOk result (λ head. option_map head_view head ≡ head_of text.now) }
+fn read_head(text: &[u8]) -> Option<Head<'_>>
+    ensures { option_map head_view result ≡ head_of text.now }
 {
-    let Ok(text) = str::from_utf8(text) else {
-        return Ok(None);
-    };
-    let pieces = pieces(alloc, text)?;
-    Ok(head_of_pieces(pieces.as_slice()))
+    match str::from_utf8(text) {
+        Ok(text) => head_of_text(text),
+        Err(_) => None,
+    }
 }
 
 // The payload at the front of `rest`, where the two bytes behind it are there too.
@@ -151,71 +186,60 @@ fn payload_of(rest: &[u8], count: usize) -> Option<&[u8]>
     }
 }
 
-fn copy_optional(alloc: Global, text: Option<&str>) -> Result<Option<Subject>, NoMemory>
-    ensures { IfOk result (λ copy. copy ≡ option_map (λ text. text.now) text.entry) }
+fn message_text<'a>(head: &Head<'a>, payload: &'a [u8]) -> MessageText<'a>
+    requires { head.now.count + bytes_of (head_view head.now).reply + length head.now.subject.now < 2 ^ 64 }
+    ensures { message_view result ≡ message_of (head_view head.now) payload.now }
 {
-    match text {
-        Some(text) => Ok(Some(Subject::from_text(alloc, text)?)),
-        None => Ok(None),
+    let reply_len = head.reply.map_or(0, |reply| reply.len());
+    MessageText {
+        subject: head.subject,
+        reply: head.reply,
+        payload,
+        length: head.count + reply_len + head.subject.len(),
     }
 }
 
-fn read_message(alloc: Global, head: &Head<'_>, payload: &[u8]) -> Result<Message, NoMemory>
-    requires { head.now.count + bytes_of (head_view head.now).reply + length head.now.subject.now < 2 ^ 64 }
-    ensures { IfOk result (λ message. message ≡ message_of (head_view head.now) payload.now) }
-{
-    let reply_len = head.reply.map_or(0, |reply| reply.len());
-    Ok(Message {
-        subject: Subject::from_text(alloc, head.subject)?,
-        reply: copy_optional(alloc, head.reply)?,
-        payload: Bytes::copy_from_slice(alloc, payload)?,
-        length: head.count + reply_len + head.subject.len(),
-    })
-}
-
-fn look_at_message(alloc: Global, line: &Line<'_>) -> Result<Look, NoMemory>
+fn front_of_message<'a>(line: &Line<'a>) -> Front<'a>
     requires long { 4 ≤ length line.now.text.now }
     requires fits { length line.now.text.now + 2 + length line.now.rest.now < 2 ^ 63 }
-    ensures { IfOk result (λ look. look_view look
-        ≡ message_or_fault (length line.now.text.now) line.now.rest.now (head_of (drop 4 line.now.text.now))) }
+    ensures { front_view result
+        ≡ message_or_fault (length line.now.text.now) line.now.rest.now (head_of (drop 4 line.now.text.now)) }
 {
-    let Some(head) = read_head(alloc, &line.text[4..])? else {
-        return Ok(Look::Fault(0));
+    let Some(head) = read_head(&line.text[4..]) else {
+        return Front::Fault(0);
     };
     let Some(payload) = payload_of(line.rest, head.count) else {
-        return Ok(Look::Unfinished);
+        return Front::Unfinished;
     };
-    let message = read_message(alloc, &head, payload)?;
-    Ok(Look::Got(Peeked {
-        op: ServerOp::Message {
-            sid: head.sid,
-            message,
-        },
-        len: line.text.len() + head.count + 4,
-    }))
+    let message = message_text(&head, payload);
+    let op = OpText::Message {
+        sid: head.sid,
+        message,
+    };
+    Front::Got(op, line.text.len() + head.count + 4)
 }
 
-fn look_at_line(alloc: Global, line: &Line<'_>) -> Result<Look, NoMemory>
+fn front_of_line<'a>(line: &Line<'a>) -> Front<'a>
     requires { length line.now.text.now + 2 + length line.now.rest.now < 2 ^ 63 }
-    ensures { IfOk result (λ look. look_view look
-        ≡ front_of_word (word_of line.now.text.now) line.now.text.now line.now.rest.now) }
+    ensures { front_view result
+        ≡ front_of_word (word_of line.now.text.now) line.now.text.now line.now.rest.now }
 {
     match first_word(line.text) {
-        Word::Message => look_at_message(alloc, line),
-        Word::Other => Ok(Look::Fault(line.text.len() + 2)),
+        Word::Message => front_of_message(line),
+        Word::Other => Front::Fault(line.text.len() + 2),
         // Words of the protocol whose operations are not read.
         Word::Ok | Word::Ping | Word::Pong | Word::Error | Word::Info | Word::HeaderMessage => {
-            Ok(Look::Fault(0))
+            Front::Fault(0)
         }
     }
 }
 
-/// What stands at the front of `bytes`, with the texts and the payload of an operation copied.
-pub fn look_at(alloc: Global, bytes: &[u8]) -> Result<Look, NoMemory>
-    ensures { IfOk result (λ look. look_view look ≡ front bytes.now) }
+/// What stands at the front of `bytes`.
+pub fn front_of(bytes: &[u8]) -> Front<'_>
+    ensures { front_view result ≡ front bytes.now }
 {
     match cut(bytes) {
-        Some(line) => look_at_line(alloc, &line),
-        None => Ok(Look::Unfinished),
+        Some(line) => front_of_line(&line),
+        None => Front::Unfinished,
     }
 }

@@ -3,6 +3,7 @@
 
 mod command;
 mod connection;
+mod copies;
 mod decode;
 mod info;
 pub mod laws;

@@ -27,10 +27,13 @@ fn a_message_is_read_at_its_last_byte(rt: HostRuntime) -> Result<(), Fail> {
     let mut connection = Connection::new(rt.alloc());
     for byte in b"MSG a 1 2\r\nhi\r" {
         connection.feed(&[*byte])?;
+        assert!(rt; connection.is_unfinished());
         assert!(rt; connection.try_read_op(rt.alloc())?.is_none());
     }
     connection.feed(b"\n")?;
+    assert!(rt; !connection.is_unfinished());
     assert!(rt; connection.try_read_op(rt.alloc())?.is_some());
+    assert!(rt; connection.is_unfinished());
     assert!(rt; connection.try_read_op(rt.alloc())?.is_none());
     Ok(())
 }

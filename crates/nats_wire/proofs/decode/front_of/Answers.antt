@@ -2,10 +2,10 @@
 use Rattle.std.proofs.Common.{sym, Some, None}
 use Rattle.nats_wire.specs.Decoder.{line_view}
 use Rattle.nats_wire.proofs.Fronts.{front_by_cut}
-use Rattle.nats_wire.proofs.decode.look_at.Goals as goal
+use Rattle.nats_wire.proofs.decode.front_of.Goals as goal
 
 pub returns-in-Some : goal.returns-in-Some
-returns-in-Some c = rw (front_by_cut c.args.bytes.now (Some (line_view c.in-Some.line)) c.in-Some.ensures.cut) c.look_at_line.ensures
+returns-in-Some c = rw (front_by_cut c.args.bytes.now (Some (line_view c.in-Some.line)) c.in-Some.ensures.cut) c.front_of_line.ensures
 
 pub returns-in-None : goal.returns-in-None
 returns-in-None c = sym (front_by_cut c.args.bytes.now None c.in-None.ensures.cut)
