@@ -1,8 +1,8 @@
 -- A text cut at its first byte of one value.
-use Rattle.std.proofs.Common.{◌≡◌, ℕ, zero, suc, ◌+◌, ◌<◌, ◌≤◌, Bool, true, false, cond, eqb, List, [], ◌∷◌, length, get_or, take, drop, Option, Some, None, unwrap_or, IfSome, refl, sym, ap, subst, ◌∙◌, arith, inl, inr}
-use Rattle.std.specs.List.{slice_split, onto_first}
+use Rattle.std.proofs.Common.{◌≡◌, ℕ, zero, suc, ◌<◌, Bool, true, false, cond, eqb, List, [], ◌∷◌, length, get_or, take, drop, Option, Some, None, refl, sym, ap, ◌∙◌, arith}
+use Rattle.std.specs.List.{onto_first}
 use Rattle.std.proofs.lemmas.List.Splits.{slice_split-cons_yes, slice_split-cons_no}
-use Rattle.nats_replay.specs.Script.{parts_at, without_empty_last, lines_of, only}
+use Rattle.nats_replay.specs.Script.{parts_at, without_empty_last, only}
 use Rattle.nats_replay.specs.Cut.{parts_behind, IsFirstLine}
 
 -- the parts of a list: a first one, and more

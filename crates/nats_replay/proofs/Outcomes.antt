@@ -1,14 +1,13 @@
 -- From what was read to what it comes to; and the words that play a script.
-use Rattle.std.proofs.Common.{◌≡◌, ℕ, zero, suc, ◌<◌, ◌≤◌, Bool, true, false, List, [], ◌∷◌, length, get_or, map, Option, Some, None, Result, Ok, Err, refl, sym, ap, subst, ◌∙◌, arith}
+use Rattle.std.proofs.Common.{◌≡◌, ℕ, ◌<◌, ◌≤◌, Bool, true, false, List, [], ◌∷◌, length, get_or, map, Option, Some, None, Result, Ok, Err, sym, ap, subst, ◌∙◌, arith}
 use Rattle.std.specs.Prelude.{◌≢◌, IfSome, MatchBool, codes}
 use Rattle.std.specs.Global.{Vec}
 use Rattle.std.specs.Str.{bytes_eq}
 use Rattle.std.proofs.lemmas.Slice.Eq.{bytes_eq-Decides}
 use Rattle.nats_replay.specs.declared.top.Refusal.{Refusal}
 use Rattle.nats_replay.specs.declared.top.Refusal.TheVariants.{ReadFault, Unreadable, OutOfTurn, NoMemory, TooLong}
-use Rattle.nats_replay.specs.declared.whole.ReadRefusal.{ReadRefusal}
 use Rattle.nats_replay.specs.Outside.{Rose}
-use Rattle.nats_replay.specs.Whole.{Tally, WholeRead}
+use Rattle.nats_replay.specs.Whole.{Tally}
 use Rattle.nats_replay.specs.Words.{run_words, IsTranscript, IsUnreadable, IsOutOfTurn}
 use Rattle.nats_replay.specs.Played.{Comes, Whole, Played}
 

@@ -1,5 +1,5 @@
 -- The lines of a script, one at a time.
-use Rattle.std.proofs.Common.{◌≡◌, ℕ, suc, ◌+◌, Bool, true, false, List, [], ◌∷◌, ◌++◌, Option, Some, None, Result, Ok, Err, refl, sym, ap, ◌∙◌, append_assoc, append-nil, add-one}
+use Rattle.std.proofs.Common.{◌≡◌, ℕ, suc, ◌+◌, List, [], ◌∷◌, ◌++◌, Option, Some, Result, Ok, Err, refl, sym, ap, ◌∙◌, append_assoc, add-one}
 use Rattle.nats_session.specs.declared.turn.Turn.{Turn}
 use Rattle.nats_replay.specs.Script.{lines_of, onto_turns, first_path, turn_of_line, turns_from}
 use Rattle.nats_replay.specs.Cut.{IsFirstLine}
@@ -29,6 +29,6 @@ pub read_more : (total : Result (List Turn) ℕ) (front : List Turn) (k : ℕ) (
     → total ≡ onto_read (front ++ turn ∷ []) (turns_from (k + 1) (lines_of rest))
 read_more total front k text line rest turn first is so_far =
     so_far ∙ ap (onto_read front) (first_of k text line rest first)
-        ∙ ap (λ (t : Option Turn). onto_read front (onto_turns k t (turns_from (suc k) (lines_of rest)))) (sym is)
-        ∙ onto_read_turn front k turn (turns_from (suc k) (lines_of rest))
-        ∙ ap (λ (n : ℕ). onto_read (front ++ turn ∷ []) (turns_from n (lines_of rest))) (sym (add-one k))
+    ∙ ap (λ (t : Option Turn). onto_read front (onto_turns k t (turns_from (suc k) (lines_of rest)))) (sym is)
+    ∙ onto_read_turn front k turn (turns_from (suc k) (lines_of rest))
+    ∙ ap (λ (n : ℕ). onto_read (front ++ turn ∷ []) (turns_from n (lines_of rest))) (sym (add-one k))

@@ -1,18 +1,17 @@
 -- What fields spell.
 use Rattle.std.proofs.lemmas.Bool.{cases_lt, lt-ltb, le-ltb}
 use Rattle.std.proofs.lemmas.Fmt.{IsAscii-from_digits}
-use Rattle.std.proofs.Common.{ltb, inl, inr, ◌≡◌, ℕ, ◌+◌, ◌<◌, ◌≤◌, ◌^◌, Bool, true, false, cond, eqb, List, [], ◌∷◌, ◌++◌, length, get_or, Option, Some, None, Result, Ok, Err, refl, sym, ap, ◌∙◌, append_assoc, arith, rules}
-use Rattle.std.specs.Prelude.{◌&&◌, not, nat_lt}
-use Rattle.std.specs.Bool.{IsTrue}
+use Rattle.std.proofs.Common.{inl, inr, ◌≡◌, ℕ, ◌<◌, ◌^◌, Bool, true, false, eqb, List, [], ◌∷◌, ◌++◌, length, Option, Some, None, Result, Ok, Err, refl, sym, ap, append_assoc, arith, rules}
+use Rattle.std.specs.Prelude.{◌&&◌, not}
 use Rattle.std.specs.Option.{option_map}
 use Rattle.std.specs.List.{flat_map, list_all}
 use Rattle.std.specs.Char.{is_ascii_digit}
-use Rattle.std.specs.Str.{IsAscii, IsUtf8, is_utf8}
-use Rattle.std.specs.Result.{result_ok, OkIff}
+use Rattle.std.specs.Str.{IsUtf8, is_utf8}
+use Rattle.std.specs.Result.{result_ok}
 use Rattle.std.specs.Str.Parse.{ParsesUnsigned, digits_value}
 use Rattle.std.proofs.lemmas.Str.Parse.{IsDigitsTest, IsNumeralModel, numerals_by_value, parse_digits}
 use Rattle.std.proofs.lemmas.Str.{IsUtf8-from_ascii, is_utf8-from_IsUtf8, IsUtf8-from_is_utf8}
-use Rattle.nats_replay.specs.Spelling.{letter, spelled, letters, utf8_text, has_leading_zero, is_numeral, number_of}
+use Rattle.nats_replay.specs.Spelling.{letter, spelled, utf8_text, has_leading_zero, is_numeral, number_of}
 
 -- what is spelled letter by letter
 pub spelled_letters : (bytes : List ℕ) → eqb (length bytes) 0 ≡ false → spelled bytes ≡ flat_map letter bytes

@@ -1,5 +1,5 @@
 -- One more write to a sink, and one more read of bytes in memory.
-use Rattle.std.proofs.Common.{◌≡◌, ℕ, ◌+◌, ◌-◌, ◌<◌, ◌≤◌, min, List, [], ◌++◌, length, take, drop, Option, Some, None, sym, ap, ◌∙◌, append_assoc, arith, length-append}
+use Rattle.std.proofs.Common.{◌≡◌, ℕ, ◌+◌, ◌-◌, ◌<◌, min, List, [], ◌++◌, length, take, drop, Option, Some, None, sym, ap, ◌∙◌, append_assoc, arith, length-append}
 use Rattle.std.proofs.lemmas.List.{length-take, length-drop, take_at, take-append-drop, drop_all, drop-drop}
 use Rattle.std.specs.Io.KnownBytes.{Appends}
 
@@ -16,6 +16,7 @@ pub memory_read : (bytes buf copied : List ℕ) (at n most : ℕ) → n ≡ min 
 memory_read bytes buf copied at n most is some copy =
     let len : length copied ≡ n = omega (arith, ap length copy, length-take n (drop at bytes), length-drop at bytes) in
     let front : take n (copied ++ drop n buf) ≡ take n (drop at bytes) = take_at copied (drop n buf) n len ∙ copy in
-    let back : drop n (drop at bytes) ≡ drop (at + n) bytes = drop-drop n at bytes in
-    (sym (take-append-drop n (drop at bytes)) ∙ ap (λ (t : List ℕ). t ++ drop n (drop at bytes)) (sym front) ∙ ap (λ (t : List ℕ). take n (copied ++ drop n buf) ++ t) back,
-    λ none room. drop_all (at + n) bytes (omega (arith, length-append copied (drop n buf), length-drop n buf)))
+    let back : drop n (drop at bytes) ≡ drop (at + n) bytes = drop-drop n at bytes in (
+      sym (take-append-drop n (drop at bytes)) ∙ ap (λ (t : List ℕ). t ++ drop n (drop at bytes)) (sym front) ∙ ap (λ (t : List ℕ). take n (copied ++ drop n buf) ++ t) back,
+      λ none room. drop_all (at + n) bytes (omega (arith, length-append copied (drop n buf), length-drop n buf)),
+    )

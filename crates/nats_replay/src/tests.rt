@@ -1,6 +1,8 @@
 ghost use Rattle.std.specs.Prelude.{◌<◌};
 
 use super::*;
+use nats_names::{Bytes, Event, Seq, Subject};
+use nats_session::{CallReply, LinkRow, LinkWord, Message, SubRow, TakeReply, Transcript};
 use std::alloc::Global;
 use std::io;
 use std::io::Read;
@@ -114,21 +116,92 @@ fn the_first_line_in_no_form_is_found(rt: HostRuntime) -> Result<(), Fail> {
         ("", 1),
         ("config 2048 65536 check _INBOX MUX1\n", 2),
         ("config 2048 65536 check _INBOX MUX1\nup 1048576", 3),
-        ("config 2048 65536 check _INBOX MUX1\nup 01048576\nsub a ~\n", 2),
+        (
+            "config 2048 65536 check _INBOX MUX1\nup 01048576\nsub a ~\n",
+            2,
+        ),
         ("config 2048 65536 check %FF MUX1\nup 1048576\nsub a ~\n", 1),
-        ("config 2048 65536 check _INBOX MUX-1\nup 1048576\nsub a ~\n", 1),
-        ("config 2048 65536 check _INBOX MUX1\nup 1048576\nsub a..b ~\n", 3),
-        ("config 2048 65536 check _INBOX MUX1\nup 1048576\nsub a ~\npiece %0d\n", 4),
-        ("config 2048 65536 check _INBOX MUX1\nup 1048576\nsub a ~\npiece %41\n", 4),
-        ("config 2048 65536 check _INBOX MUX1\nup 1048576\nsub a ~\npiece\n", 4),
-        ("config 2048 65536 check _INBOX MUX1\nup 1048576\nsub a ~\n\nwrite 1\n", 4),
-        ("config 2048 65536 check _INBOX MUX1\nup 1048576\nsub a ~\nwrite 1\nwrite  1\n", 5),
-        ("config 2048 65536 check _INBOX MUX1\nup 1048576\nsub a ~\nwrite 18446744073709551616\n", 4),
-        ("config 2048 65536 check _INBOX MUX1\nup 1048576\nsub a ~\ntake 1 ", 4),
+        (
+            "config 2048 65536 check _INBOX MUX-1\nup 1048576\nsub a ~\n",
+            1,
+        ),
+        (
+            "config 2048 65536 check _INBOX MUX1\nup 1048576\nsub a..b ~\n",
+            3,
+        ),
+        (
+            "config 2048 65536 check _INBOX MUX1\nup 1048576\nsub a ~\npiece %0d\n",
+            4,
+        ),
+        (
+            "config 2048 65536 check _INBOX MUX1\nup 1048576\nsub a ~\npiece %41\n",
+            4,
+        ),
+        (
+            "config 2048 65536 check _INBOX MUX1\nup 1048576\nsub a ~\npiece\n",
+            4,
+        ),
+        (
+            "config 2048 65536 check _INBOX MUX1\nup 1048576\nsub a ~\n\nwrite 1\n",
+            4,
+        ),
+        (
+            "config 2048 65536 check _INBOX MUX1\nup 1048576\nsub a ~\nwrite 1\nwrite  1\n",
+            5,
+        ),
+        (
+            "config 2048 65536 check _INBOX MUX1\nup 1048576\nsub a ~\nwrite 18446744073709551616\n",
+            4,
+        ),
+        (
+            "config 2048 65536 check _INBOX MUX1\nup 1048576\nsub a ~\ntake 1 ",
+            4,
+        ),
     ];
     for (text, want) in table {
         let read = read_script(rt.alloc(), text.as_bytes())?;
-        assert!(rt; matches!(read, Script::Bad(line) if line == want), "{text:?}");
+        assert!(rt;
+            matches!(read, Script::Bad(line) if line == want),
+            "{text:?}"
+        );
     }
+    Ok(())
+}
+
+fn only<T: Drop>(alloc: Global, item: T) -> Result<Seq<T>, NoMemory> {
+    let mut items = Seq::new(alloc);
+    items.push(item)?;
+    Ok(items)
+}
+
+#[test]
+fn rows_of_every_kind_are_printed(rt: HostRuntime) -> Result<(), Fail> {
+    let dropped = Message {
+        subject: Subject::from_text(rt.alloc(), "a")?,
+        reply: Some(Subject::from_text(rt.alloc(), "r\u{e9} ")?),
+        payload: Bytes::copy_from_slice(rt.alloc(), &[0, b'%', b'~', b'}'])?,
+        length: 9,
+    };
+    let link = LinkRow {
+        end: LinkWord::Fault,
+        taken: Seq::new(rt.alloc()),
+        left: only(rt.alloc(), b'\n')?,
+    };
+    let sub = SubRow {
+        puts: Seq::new(rt.alloc()),
+        drops: only(rt.alloc(), (5, dropped))?,
+        takes: only(rt.alloc(), (6, TakeReply::Empty))?,
+    };
+    let transcript = Transcript {
+        links: only(rt.alloc(), link)?,
+        subs: only(rt.alloc(), sub)?,
+        events: only(rt.alloc(), (5, Event::SlowConsumer(1)))?,
+        calls: only(rt.alloc(), (2, CallReply::Full))?,
+    };
+    let want = "link 1 fault\nout %\nleft %0A\nsub 1\n\
+drop 5 a r%C3%A9%20 %00%25%7E} ~ ~ 9 ~\ntake 6 empty\n\
+event 5 slow%20consumers%20for%20subscription%201\ncall 2 full\n";
+    let text = print_transcript(rt.alloc(), &transcript)?;
+    assert_eq!(rt; text.as_slice(), want.as_bytes());
     Ok(())
 }

@@ -17,10 +17,5 @@ fn main(rt: HostRuntime) -> ExitCode {
     let words = words(&rt).unwrap_or(Vec::new(rt.alloc()));
     let mut source = Reading::new(rt.stdin());
     let mut sink = Writing::new(rt.stdout());
-    ExitCode::from(replay(
-        rt.alloc(),
-        words.as_slice(),
-        &mut source,
-        &mut sink,
-    ))
+    ExitCode::from(replay(rt.alloc(), words.as_slice(), &mut source, &mut sink))
 }

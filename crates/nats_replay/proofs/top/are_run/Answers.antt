@@ -1,5 +1,5 @@
 -- One word is `run` exactly where its bytes are.
-use Rattle.std.proofs.Common.{◌∙◌, arith}
+use Rattle.std.proofs.Common.{arith}
 use Rattle.std.specs.String.{string_bytes}
 use Rattle.nats_replay.proofs.Outcomes.{one_word, run_is}
 use Rattle.nats_replay.proofs.top.are_run.Goals as goal

@@ -1,5 +1,5 @@
 -- The copied bytes are the first of those that were left.
-use Rattle.std.proofs.Common.{ℕ, List, take, drop, length, ap, ◌∙◌, arith}
+use Rattle.std.proofs.Common.{take, drop, length, ap, ◌∙◌, arith}
 use Rattle.std.proofs.lemmas.List.{take_rest, length-drop}
 use Rattle.nats_replay.proofs.Transfers.{memory_read}
 use Rattle.nats_replay.proofs.memory.MemorySourceSource.read.Goals as goal
