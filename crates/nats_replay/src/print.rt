@@ -150,8 +150,8 @@ fn push_subs(out: &mut Vec<u8>, subs: &[SubRow]) -> Result<(), NoMemory>
 
 // ---- events and calls
 
-fn push_event(alloc: Global, out: &mut Vec<u8>, event: Event) -> Result<(), NoMemory>
-    ensures { OnOk result (out.new.items ≡ out.old.items ++ spelled (event_text event)) }
+fn push_event(alloc: Global, out: &mut Vec<u8>, event: &Event) -> Result<(), NoMemory>
+    ensures { OnOk result (out.new.items ≡ out.old.items ++ spelled (event_text event.now)) }
 {
     let text = event.to_string(alloc)?;
     push_spelled(out, text.as_bytes())
@@ -162,7 +162,7 @@ fn push_events(alloc: Global, out: &mut Vec<u8>, events: &[(u64, Event)]) -> Res
 {
     for (place, event) in events {
         open_line(out, b"event", *place)?;
-        push_event(alloc, out, *event)?;
+        push_event(alloc, out, event)?;
         close_line(out)?;
     }
     Ok(())
