@@ -6,8 +6,7 @@ use Rattle.std.specs.Str.{bytes_eq}
 use Rattle.std.proofs.lemmas.Slice.Eq.{bytes_eq-Decides}
 use Rattle.nats_replay.specs.declared.top.Refusal.{Refusal}
 use Rattle.nats_replay.specs.declared.top.Refusal.TheVariants.{ReadFault, Unreadable, OutOfTurn, NoMemory, TooLong}
-use Rattle.nats_replay.specs.Outside.{Rose}
-use Rattle.nats_replay.specs.Whole.{Tally}
+use Rattle.nats_replay.specs.Outside.{Rose, Tally}
 use Rattle.nats_replay.specs.Words.{run_words, IsTranscript, IsUnreadable, IsOutOfTurn}
 use Rattle.nats_replay.specs.Played.{Comes, Whole, Played}
 

@@ -1,4 +1,6 @@
+pub mod Adapters
 pub mod Cut
+pub mod Memory
 pub mod Outside
 pub mod Played
 pub mod Printed

@@ -34,3 +34,9 @@ ends_by (Err e) buf = 0
 -- known bytes grow by a first part of the text
 abbrev pub AppendsFront : Option (List ℕ) → Option (List ℕ) → List ℕ → Type 0
 AppendsFront before now text = (n : ℕ) × Appends before now (take n text)
+
+-- the counts of a source
+pub record Tally : Type 0 where
+  pub given : ℕ
+  pub ends : ℕ
+  pub faults : ℕ

@@ -3,8 +3,7 @@ use Rattle.std.specs.Prelude.{ℕ, ◌<◌, ◌≤◌, List, length, Option, IfS
 use Rattle.std.specs.Global.{Vec}
 use Rattle.nats_replay.specs.declared.top.Refusal.{Refusal}
 use Rattle.nats_replay.specs.declared.top.Refusal.TheVariants.{ReadFault, Unreadable, OutOfTurn, NoMemory, TooLong}
-use Rattle.nats_replay.specs.Outside.{Rose, RoseBy}
-use Rattle.nats_replay.specs.Whole.{Tally}
+use Rattle.nats_replay.specs.Outside.{Rose, RoseBy, Tally}
 use Rattle.nats_replay.specs.Words.{IsTranscript, IsUnreadable, IsOutOfTurn}
 
 -- the printed transcript of what bytes spell, or why they have none

@@ -3,13 +3,7 @@ use Rattle.std.specs.Prelude.{◌≡◌, ℕ, ◌<◌, ◌≤◌, List, length, 
 use Rattle.std.specs.Global.{Vec}
 use Rattle.nats_replay.specs.declared.whole.ReadRefusal.{ReadRefusal}
 use Rattle.nats_replay.specs.declared.whole.ReadRefusal.TheVariants.{Fault, TooLong, NoMemory}
-use Rattle.nats_replay.specs.Outside.{Rose, RoseBy}
-
--- the counts of a source
-pub record Tally : Type 0 where
-  pub given : ℕ
-  pub ends : ℕ
-  pub faults : ℕ
+use Rattle.nats_replay.specs.Outside.{Rose, RoseBy, Tally}
 
 -- all bytes that were held are read, at most 2^24, and the end was met; or the source failed; or it gave more, having held
 -- more; or memory was wanting

@@ -1,10 +1,11 @@
 //! A source and a sink in memory, for tests.
-ghost use Rattle.std.specs.Prelude.{◌≡◌, ◌≤◌, ◌<◌, ◌++◌, [], drop, length, Some, vec_len};
-ghost use Rattle.nats_replay.specs.Outside.{HasCause};
+ghost use Rattle.std.specs.Prelude.{◌≡◌, ◌<◌, [], Some};
+ghost use Rattle.nats_replay.specs.Adapters.{failing_inner, failing_faults};
 
 use crate::outside::{Sink, Source};
 use nats_names::Failed;
 use std::alloc::Global;
+use std::marker::Model;
 
 /// A source that gives the bytes of a `Vec`, and never fails.
 #[derive(Drop)]
@@ -14,14 +15,24 @@ pub struct MemorySource {
     most: usize,
     given: u64,
     ends: u64,
-    ghost within: { at ≤ vec_len bytes },
-    ghost some: { 0 < most },
+}
+
+impl Model for MemorySource {
+    ghost use Rattle.std.specs.Prelude.{◌≤◌, ◌<◌, drop, length};
+    ghost use Rattle.nats_replay.specs.Memory.{Held};
+
+    ghost Value = { Held };
+
+    ghost view = { λ s. record { left = drop s.at s.bytes.items; given = s.given; ends = s.ends } };
+
+    ghost invariant = { λ s. (s.at ≤ length s.bytes.items) × (0 < s.most) };
 }
 
 impl MemorySource {
     /// A source that holds these bytes, and gives at most `most` of them at a read.
     pub fn new(bytes: Vec<u8>, most: usize) -> MemorySource
         requires { 0 < most }
+        ensures { result ≡ record { left = bytes.items; given = 0; ends = 0 } }
     {
         MemorySource {
             bytes,
@@ -34,7 +45,7 @@ impl MemorySource {
 }
 
 impl Source for MemorySource {
-    ghost left = { λ s. Some (drop s.at s.bytes.items) };
+    ghost left = { λ s. Some s.left };
 
     ghost given = { λ s. s.given };
 
@@ -60,13 +71,24 @@ pub struct MemorySink {
     bytes: Vec<u8>,
     most: usize,
     faults: u64,
-    ghost some: { 0 < most },
+}
+
+impl Model for MemorySink {
+    ghost use Rattle.std.specs.Prelude.{◌<◌};
+    ghost use Rattle.nats_replay.specs.Memory.{Kept};
+
+    ghost Value = { Kept };
+
+    ghost view = { λ s. record { written = s.bytes.items; faults = s.faults } };
+
+    ghost invariant = { λ s. 0 < s.most };
 }
 
 impl MemorySink {
     /// A sink without bytes that takes at most `most` bytes at a write.
     pub fn new(alloc: Global, most: usize) -> MemorySink
         requires { 0 < most }
+        ensures { result ≡ record { written = []; faults = 0 } }
     {
         MemorySink {
             bytes: Vec::new(alloc),
@@ -76,13 +98,15 @@ impl MemorySink {
     }
 
     /// The bytes that were written.
-    pub fn bytes(&self) -> &[u8] {
+    pub fn bytes(&self) -> &[u8]
+        ensures { result.now ≡ self.now.written }
+    {
         self.bytes.as_slice()
     }
 }
 
 impl Sink for MemorySink {
-    ghost written = { λ s. Some s.bytes.items };
+    ghost written = { λ s. Some s.written };
 
     ghost faults = { λ s. s.faults };
 
@@ -109,7 +133,10 @@ pub struct Failing<T> {
 
 impl<T> Failing<T> {
     /// `inner`, but that the calls of these numbers fail and do not reach it.
-    pub fn new(inner: T, failing: Vec<u64>) -> Failing<T> {
+    pub fn new(inner: T, failing: Vec<u64>) -> Failing<T>
+        ensures inner { failing_inner result ≡ inner }
+        ensures faults { failing_faults result ≡ 0 }
+    {
         Failing {
             inner,
             failing,
@@ -119,14 +146,16 @@ impl<T> Failing<T> {
     }
 
     /// What the other calls reach.
-    pub fn inner(&self) -> &T {
+    pub fn inner(&self) -> &T
+        ensures { result.now ≡ failing_inner self.now }
+    {
         &self.inner
     }
 
     /// Whether the call that begins fails.
     fn fails(&mut self) -> bool
-        ensures inner { self.new.inner ≡ self.old.inner }
-        ensures faults { self.new.faults ≡ self.old.faults }
+        ensures inner { failing_inner self.new ≡ failing_inner self.old }
+        ensures faults { failing_faults self.new ≡ failing_faults self.old }
     {
         self.calls = self.calls.saturating_add(1);
         self.failing.contains(&self.calls)

@@ -3,6 +3,7 @@ ghost use Rattle.std.specs.Prelude.{◌≡◌, ◌≤◌, ◌<◌, ℕ, List, Op
 ghost use Rattle.std.specs.Io.{ReadsAtMost};
 ghost use Rattle.std.specs.Io.KnownBytes.{ReadConsumes, WriteAppends};
 ghost use Rattle.nats_replay.specs.Outside.{HasCause, risen, given_by, ends_by};
+ghost use Rattle.nats_replay.specs.Adapters.{reading_inner, reading_counts, writing_inner, writing_faults};
 
 use nats_names::Failed;
 use std::io::{Read, Write};
@@ -60,7 +61,10 @@ pub struct Reading<R> {
 
 impl<R> Reading<R> {
     /// A source that gives what `inner` gives; its counts begin at 0.
-    pub fn new(inner: R) -> Reading<R> {
+    pub fn new(inner: R) -> Reading<R>
+        ensures inner { reading_inner result ≡ inner }
+        ensures counts { reading_counts result ≡ record { given = 0; ends = 0; faults = 0 } }
+    {
         Reading {
             inner,
             given: 0,
@@ -105,7 +109,10 @@ pub struct Writing<W> {
 
 impl<W> Writing<W> {
     /// A sink that hands what it takes to `inner`; its count begins at 0.
-    pub fn new(inner: W) -> Writing<W> {
+    pub fn new(inner: W) -> Writing<W>
+        ensures inner { writing_inner result ≡ inner }
+        ensures faults { writing_faults result ≡ 0 }
+    {
         Writing { inner, faults: 0 }
     }
 }
