@@ -41,6 +41,7 @@ bound_falls p step e = by_up p.is_up refl e
         subst (λ s. due_bound (after p s) < due_bound p) (same_Some (handled call) step e) (handled_falls p call more is)
     by_call true [] is e = absurd (none-some step e)
     by_call false calls is e = absurd (none-some step e)
+
     by_front : (f : Front) → front p.wire.unread ≡ f → due_by f p ≡ Some step → due_bound (after p step) < due_bound p
     by_front (got operation n) is e =
         subst (λ s. due_bound (after p s) < due_bound p) (same_Some (read operation) step e) (read_falls p operation n is)
@@ -48,6 +49,7 @@ bound_falls p step e = by_up p.is_up refl e
         let some = fault_there p.wire.unread n is in
         subst (λ s. due_bound (after p s) < due_bound p) (same_Some (link_end word.Fault) step e) (omega (arith, some))
     by_front unfinished is e = by_call (nat_lt (length p.wire.waiting) 65535) p.calls refl e
+
     by_up : (up : Bool) → p.is_up ≡ up → cond up (due_by (front p.wire.unread) p) None ≡ Some step → due_bound (after p step) < due_bound p
     by_up true is e = by_front (front p.wire.unread) refl e
     by_up false is e = absurd (none-some step e)

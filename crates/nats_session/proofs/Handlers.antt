@@ -84,7 +84,7 @@ handled_one [] call e = cc
 handled_one (Subscribe subject group ∷ calls) call e = refl
 
 pub handled_makes : (p : Parts) (call : Call) → p.is_up ≡ true → p.subscribed < length p.subs
-  → record p { wire = record p.wire { waiting = p.wire.waiting ++ command_text (command_of call (p.subscribed + 1)) }; calls = drop 1 p.calls; subs = at_index p.subscribed open_sub p.subs; subscribed = p.subscribed + 1 } ≡ after p (handled call)
+    → record p { wire = record p.wire { waiting = p.wire.waiting ++ command_text (command_of call (p.subscribed + 1)) }; calls = drop 1 p.calls; subs = at_index p.subscribed open_sub p.subs; subscribed = p.subscribed + 1 } ≡ after p (handled call)
 handled_makes p (Subscribe subject group) up less =
     let next : p.subscribed + 1 ≡ suc p.subscribed = omega arith in
     let kept : min (suc p.subscribed) (length p.subs) ≡ suc p.subscribed = omega arith in

@@ -32,7 +32,7 @@ AllEndUp [] p = Unit {0}
 AllEndUp (step ∷ steps) p = EndsUp p.is_up step × AllEndUp steps (parts_noted step p)
 
 tells_steps : (c : Config) (h : History) (answers : List (ℕ × Answer)) (place : ℕ) (steps : List Step) (p : Parts) (sheet : Sheet) → Tells c h answers p sheet → AllEndUp steps p
-  → Tells c (put_steps place steps h) answers (parts_recorded steps p) (sheet_recorded place steps p sheet)
+    → Tells c (put_steps place steps h) answers (parts_recorded steps p) (sheet_recorded place steps p sheet)
 tells_steps c h answers place [] p sheet tells up = tells
 tells_steps c h answers place (step ∷ steps) p sheet tells up =
     tells_steps c ((place, step) ∷ h) answers place steps (parts_noted step p) (sheet_noted place step p sheet) (tells_step c h answers place step p sheet tells up.0) up.1
@@ -155,29 +155,29 @@ answer_given c h place (Write n) steps valid = tt
 answer_given c h place (Do call) steps valid = tt
 
 tells_turn : (c : Config) (h : History) (answers : List (ℕ × Answer)) (place : ℕ) (turn : Turn) (p : Parts) (sheet : Sheet) → Tells c h answers p sheet → is_valid_turn (parts_of c 0 h) turn ≡ true
-  → Tells c (after_turn c place turn h) (answers ++ (place, answer_of c h turn) ∷ []) (turn_parts turn p) (turn_sheet place turn p sheet)
+    → Tells c (after_turn c place turn h) (answers ++ (place, answer_of c h turn) ∷ []) (turn_parts turn p) (turn_sheet place turn p sheet)
 tells_turn c h answers place turn p sheet tells valid =
     let old = parts_of c 0 h in
     let is = told_parts c h answers p sheet tells in
     let own = own_steps p turn in
     let own_is : own ≡ own_steps old turn =
-          ap (λ q. own_steps q turn) is ∙ own_events p.events old turn
+    ap (λ q. own_steps q turn) is ∙ own_events p.events old turn
     in
     let answer_here : answer_at p turn ≡ answer_of c h turn =
-          ap (λ q. answer_at q turn) is ∙ answer_is c h p.events turn
+    ap (λ q. answer_at q turn) is ∙ answer_is c h p.events turn
     in
     let moved = all_events own p.events old in
     let due_is : due_steps (own_parts turn p) ≡ due_steps (after_all old (own_steps old turn)) =
-          recorded_due own p ∙ (ap (λ q. due_steps (after_all q own)) is ∙ (ap due_steps moved.1 ∙ (due_steps_events moved.0 (after_all old own) ∙ ap (λ steps. due_steps (after_all old steps)) own_is)))
+    recorded_due own p ∙ (ap (λ q. due_steps (after_all q own)) is ∙ (ap due_steps moved.1 ∙ (due_steps_events moved.0 (after_all old own) ∙ ap (λ steps. due_steps (after_all old steps)) own_is)))
     in
     let first = tells_steps c h answers place own p sheet tells (own_end_up turn p) in
     let given_here : IsGiven (put_steps place own h) (answer_at p turn) =
-          subst (IsGiven (put_steps place own h)) (sym answer_here) (answer_given c h place turn own valid)
+    subst (IsGiven (put_steps place own h)) (sym answer_here) (answer_given c h place turn own valid)
     in
     let second = tells_answer c (put_steps place own h) answers place (answer_at p turn) (own_parts turn p) _ first given_here in
     let third = tells_steps c (put_steps place own h) _ place (due_steps (own_parts turn p)) (own_parts turn p) _ second (all_end_up (own_parts turn p)) in
     let history_is : put_steps place (due_steps (own_parts turn p)) (put_steps place own h) ≡ after_turn c place turn h =
-          ap (λ steps. put_steps place steps (put_steps place own h)) due_is ∙ (ap (λ steps. put_steps place (due_steps (after_all old (own_steps old turn))) (put_steps place steps h)) own_is ∙ sym (put_append place (own_steps old turn) (due_steps (after_all old (own_steps old turn))) h))
+    ap (λ steps. put_steps place steps (put_steps place own h)) due_is ∙ (ap (λ steps. put_steps place (due_steps (after_all old (own_steps old turn))) (put_steps place steps h)) own_is ∙ sym (put_append place (own_steps old turn) (due_steps (after_all old (own_steps old turn))) h))
     in
     subst (λ k. Tells c k (answers ++ (place, answer_of c h turn) ∷ []) (turn_parts turn p) (turn_sheet place turn p sheet)) history_is (subst (λ a. Tells c (put_steps place (due_steps (own_parts turn p)) (put_steps place own h)) (answers ++ (place, a) ∷ []) (turn_parts turn p) (turn_sheet place turn p sheet)) answer_here third)
 
@@ -188,28 +188,28 @@ same_validity c h answers turn p sheet tells =
     ap (λ q. is_valid_turn q turn) (told_parts c h answers p sheet tells) ∙ valid_events p.events (parts_of c 0 h) turn
 
 pub same_first : (c : Config) (h : History) (answers : List (ℕ × Answer)) (place : ℕ) (turns : List Turn) (p : Parts) (sheet : Sheet) → Tells c h answers p sheet
-  → first_out_of_turn place turns p ≡ out_of_turn_from c place turns h
+    → first_out_of_turn place turns p ≡ out_of_turn_from c place turns h
 same_first c h answers place [] p sheet tells = refl
 same_first c h answers place (turn ∷ turns) p sheet tells =
     by_valid (is_valid_turn (parts_of c 0 h) turn) refl (same_validity c h answers turn p sheet tells) (λ is. same_first c (after_turn c place turn h) (answers ++ (place, answer_of c h turn) ∷ []) (suc place) turns (turn_parts turn p) (turn_sheet place turn p sheet) (tells_turn c h answers place turn p sheet tells is))
   where
     by_valid : (b : Bool) → is_valid_turn (parts_of c 0 h) turn ≡ b → is_valid_turn p turn ≡ is_valid_turn (parts_of c 0 h) turn
-      → (is_valid_turn (parts_of c 0 h) turn ≡ true → first_out_of_turn (suc place) turns (turn_parts turn p) ≡ out_of_turn_from c (suc place) turns (after_turn c place turn h))
-      → first_out_of_turn place (turn ∷ turns) p ≡ out_of_turn_from c place (turn ∷ turns) h
+        → (is_valid_turn (parts_of c 0 h) turn ≡ true → first_out_of_turn (suc place) turns (turn_parts turn p) ≡ out_of_turn_from c (suc place) turns (after_turn c place turn h))
+        → first_out_of_turn place (turn ∷ turns) p ≡ out_of_turn_from c place (turn ∷ turns) h
     by_valid true is same later = rw (same, is) (later is)
     by_valid false is same later = rw (same, is) refl
 
 pub tells_played : (c : Config) (h : History) (before : List (ℕ × Answer)) (place : ℕ) (turns : List Turn) (p : Parts) (sheet : Sheet) → Tells c h before p sheet → out_of_turn_from c place turns h ≡ None
-  → Tells c (steps_from c place turns h) (before ++ answers_from c place turns h) (played_parts turns p) (played_sheet place turns p sheet)
+    → Tells c (steps_from c place turns h) (before ++ answers_from c place turns h) (played_parts turns p) (played_sheet place turns p sheet)
 tells_played c h before place [] p sheet tells none =
     subst (λ a. Tells c h a p sheet) (sym (append-nil before)) tells
 tells_played c h before place (turn ∷ turns) p sheet tells none =
     by_valid (is_valid_turn (parts_of c 0 h) turn) refl none (λ is later. tells_played c (after_turn c place turn h) (before ++ (place, answer_of c h turn) ∷ []) (suc place) turns (turn_parts turn p) (turn_sheet place turn p sheet) (tells_turn c h before place turn p sheet tells is) later)
   where
     by_valid : (b : Bool) → is_valid_turn (parts_of c 0 h) turn ≡ b → cond b (out_of_turn_from c (suc place) turns (after_turn c place turn h)) (Some place) ≡ None
-      → (is_valid_turn (parts_of c 0 h) turn ≡ true → out_of_turn_from c (suc place) turns (after_turn c place turn h) ≡ None
+        → (is_valid_turn (parts_of c 0 h) turn ≡ true → out_of_turn_from c (suc place) turns (after_turn c place turn h) ≡ None
         → Tells c (steps_from c (suc place) turns (after_turn c place turn h)) ((before ++ (place, answer_of c h turn) ∷ []) ++ answers_from c (suc place) turns (after_turn c place turn h)) (played_parts turns (turn_parts turn p)) (played_sheet (suc place) turns (turn_parts turn p) (turn_sheet place turn p sheet)))
-      → Tells c (steps_from c place (turn ∷ turns) h) (before ++ answers_from c place (turn ∷ turns) h) (played_parts (turn ∷ turns) p) (played_sheet place (turn ∷ turns) p sheet)
+        → Tells c (steps_from c place (turn ∷ turns) h) (before ++ answers_from c place (turn ∷ turns) h) (played_parts (turn ∷ turns) p) (played_sheet place (turn ∷ turns) p sheet)
     by_valid true is none later =
         subst (λ a. Tells c (steps_from c place (turn ∷ turns) h) a (played_parts (turn ∷ turns) p) (played_sheet place (turn ∷ turns) p sheet)) (append_assoc before ((place, answer_of c h turn) ∷ []) (answers_from c (suc place) turns (after_turn c place turn h))) (later is none)
     by_valid false is none later = absurd (none-some place (sym none))

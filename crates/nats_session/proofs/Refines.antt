@@ -33,12 +33,13 @@ told_nothing c s ((place, accepted (Subscribe subject group)) ∷ h) apart =
     not_next : (s n : ℕ) → (s ≡ 0) ⊎ (suc n < s) → s ≡ suc n → ⊥
     not_next s n (inl z) d = omega arith
     not_next s n (inr less) d = omega arith
+
     not_before : (s n : ℕ) → (s ≡ 0) ⊎ (suc n < s) → (s ≡ 0) ⊎ (n < s)
     not_before s n (inl z) = inl z
     not_before s n (inr less) = inr (omega arith)
 told_nothing c s ((place, handled (Subscribe subject group)) ∷ h) apart =
     let e : (ltb (subscribed h) (given h) && eqb s (suc (subscribed h))) ≡ false =
-          not_this (ltb (subscribed h) (given h)) s (subscribed h) (given h) refl apart
+    not_this (ltb (subscribed h) (given h)) s (subscribed h) (given h) refl apart
     in
     rw e (told_nothing c s h apart)
   where
@@ -65,6 +66,7 @@ takes_fit c s ((place, step) ∷ h) =
     either : (b : Bool) (t u : Told) → t.takes ≤ length t.puts → u.takes ≤ length u.puts → (cond b u t).takes ≤ length (cond b u t).puts
     either true t u p q = q
     either false t u p q = p
+
     still_fit : (c : Config) (place : ℕ) (step : Step) (t : Told) → t.takes ≤ length t.puts → (told_after c place step t).takes ≤ length (told_after c place step t).puts
     still_fit c place (took sid) t fits = rw append-nil (min-le_right (suc t.takes) (length t.puts))
     still_fit c place (read operation) t fits =
@@ -90,7 +92,7 @@ sub_delivered c place sid m t fits =
     rw (length-map (waiting t) second) (by_room (t.is_open && has_room c t))
   where
     by_room : (b : Bool) → sub_with t.is_open (map second (drop t.takes (t.puts ++ cond b ((place, m) ∷ []) [])))
-      ≡ sub_with t.is_open (cond b (map second (waiting t) ++ m ∷ []) (map second (waiting t)))
+        ≡ sub_with t.is_open (cond b (map second (waiting t) ++ m ∷ []) (map second (waiting t)))
     by_room true = ap (sub_with t.is_open) (ap (map second) (drop-append-le t.takes t.puts ((place, m) ∷ []) fits) ∙ map-append second (waiting t) ((place, m) ∷ []))
     by_room false = ap (λ xs. sub_with t.is_open (map second (drop t.takes xs))) (append-nil t.puts)
 
@@ -149,6 +151,7 @@ read_events c sid m h = by_range (range_of sid (given h))
     missing : (sid ≡ 0) ⊎ (given h < sid) → item_of sid (subs_of c h) ≡ None
     missing (inl z) = ap (λ k. item_of k (subs_of c h)) z
     missing (inr past) = item_missing (λ s. sub_of (told c s h)) (given h) sid past
+
     by_range : ((sid ≡ 0) ⊎ (given h < sid)) ⊎ ((0 < sid) × (sid ≤ given h)) → events_by c h (read (message sid m)) ≡ drop_events c sid (item_of sid (subs_of c h))
     by_range (inl apart) =
         ap (λ t. slow_events sid (drops_by c 0 t (read (message sid m)))) (told_nothing c sid h apart) ∙ sym (ap (drop_events c sid) (missing apart))
@@ -170,7 +173,7 @@ abbrev pub made : Config → ℕ → Bool → List ℕ → List ℕ → List Cal
 made c link up unread waiting calls subs subscribed events = record { config = c; link = link; is_up = up; wire = record { unread = unread; waiting = waiting }; calls = calls; subs = subs; subscribed = subscribed; events = events }
 
 same_made : (c : Config) (link : ℕ) (up : Bool) (u u' w w' : List ℕ) (cs cs' : List Call) (ss ss' : List Sub) (n n' : ℕ) (es es' : List Event)
-  → u ≡ u' → w ≡ w' → cs ≡ cs' → ss ≡ ss' → n ≡ n' → es ≡ es' → made c link up u w cs ss n es ≡ made c link up u' w' cs' ss' n' es'
+    → u ≡ u' → w ≡ w' → cs ≡ cs' → ss ≡ ss' → n ≡ n' → es ≡ es' → made c link up u w cs ss n es ≡ made c link up u' w' cs' ss' n' es'
 same_made c link up u u' w w' cs cs' ss ss' n n' es es' a b d e f g = rw (a, b, d, e, f, g) refl
 
 -- what is none while no link is up

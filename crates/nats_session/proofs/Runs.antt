@@ -29,12 +29,12 @@ next_turn turns i turn less at =
 pub stops_at : (c : Config) (turns : List Turn) (i : ℕ) (turn : Turn) (p : Parts) (sheet : Sheet) → Running c turns i p sheet → i < length turns → turn ≡ get_or turns i turn → is_valid_turn p turn ≡ false → out_of_turn c turns ≡ Some (i + 1)
 stops_at c turns i turn p sheet running less at bad =
     let here : first_out_of_turn (suc i) (drop i turns) p ≡ Some (i + 1) =
-          ap (λ ts. first_out_of_turn (suc i) ts p) (next_turn turns i turn less at) ∙ (ap (λ b. cond b (first_out_of_turn (suc (suc i)) (drop (suc i) turns) (turn_parts turn p)) (Some (suc i))) bad ∙ ap Some (sym (add-one i)))
+    ap (λ ts. first_out_of_turn (suc i) ts p) (next_turn turns i turn less at) ∙ (ap (λ b. cond b (first_out_of_turn (suc (suc i)) (drop (suc i) turns) (turn_parts turn p)) (Some (suc i))) bad ∙ ap Some (sym (add-one i)))
     in
     sym (first_from_idle c turns) ∙ (sym running.first ∙ here)
 
 pub goes_on : (c : Config) (turns : List Turn) (i : ℕ) (turn : Turn) (p p' : Parts) (sheet sheet' : Sheet) → Running c turns i p sheet → i < length turns → turn ≡ get_or turns i turn → is_valid_turn p turn ≡ true
-  → p' ≡ turn_parts turn p → sheet' ≡ turn_sheet (suc i) turn p sheet → p'.events ≡ [] → Running c turns (suc i) p' sheet'
+    → p' ≡ turn_parts turn p → sheet' ≡ turn_sheet (suc i) turn p sheet → p'.events ≡ [] → Running c turns (suc i) p' sheet'
 goes_on c turns i turn p p' sheet sheet' running less at good a b none =
     let next = next_turn turns i turn less at in
     record {
@@ -48,10 +48,10 @@ pub ends_at : (c : Config) (turns : List Turn) (i : ℕ) (p : Parts) (sheet : Sh
 ends_at c turns i p sheet running past =
     let over = drop_all i turns past in
     let none : out_of_turn c turns ≡ None =
-          sym (first_from_idle c turns) ∙ (sym running.first ∙ ap (λ ts. first_out_of_turn (suc i) ts p) over)
+    sym (first_from_idle c turns) ∙ (sym running.first ∙ ap (λ ts. first_out_of_turn (suc i) ts p) over)
     in
     let parts : p ≡ played_parts turns (idle c) = sym (ap (λ ts. played_parts ts p) over) ∙ running.parts in
     let written : sheet ≡ played_sheet 1 turns (idle c) empty_sheet =
-          sym (ap (λ ts. played_sheet (suc i) ts p sheet) over) ∙ running.written
+    sym (ap (λ ts. played_sheet (suc i) ts p sheet) over) ∙ running.written
     in
     (none, ap (λ q. finished q sheet) parts ∙ (ap (finished (played_parts turns (idle c))) written ∙ transcript_from_idle c turns none))

@@ -84,10 +84,12 @@ due_fault p end e = by_up p.is_up e
     by_call true (call ∷ more) e = cc
     by_call true [] e = cc
     by_call false calls e = cc
+
     by_front : (f : Front) → due_by f p ≡ Some (link_end end) → end ≡ word.Fault
     by_front (got operation n) e = cc
     by_front (fault n) e = cc
     by_front unfinished e = by_call _ p.calls e
+
     by_up : (up : Bool) → cond up (due_by (front p.wire.unread) p) None ≡ Some (link_end end) → end ≡ word.Fault
     by_up true e = by_front (front p.wire.unread) e
     by_up false e = cc
@@ -112,8 +114,8 @@ write_due place p (accepted call) sheet e some = absurd (false≢true (sym some)
 write_due place p (took sid) sheet e some = absurd (false≢true (sym some))
 
 pub noted : (place : ℕ) (next : Option Step) (p p' p'' : Parts) (says : Played) (sheet sheet' sheet'' : Sheet) → due p ≡ next → PlaysDue next p says p' → is_nothing says ≡ false
-  → sheet' ≡ write_played place p' says sheet → sheet'' ≡ write_events place p'.events sheet' → p'' ≡ with_events [] p'
-  → NotesDue next place p sheet true p'' sheet''
+    → sheet' ≡ write_played place p' says sheet → sheet'' ≡ write_events place p'.events sheet' → p'' ≡ with_events [] p'
+    → NotesDue next place p sheet true p'' sheet''
 noted place None p p' p'' says sheet sheet' sheet'' is plays some a b e =
     absurd (false≢true (sym some ∙ ap is_nothing plays.0))
 noted place (Some step) p p' p'' says sheet sheet' sheet'' is plays some a b e = (

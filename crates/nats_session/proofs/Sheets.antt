@@ -43,8 +43,8 @@ row_same false t u takes p d = refl
 
 -- a step that puts nothing and drops nothing leaves the rows
 rows_kept : (c : Config) (h : History) (answers : List (ℕ × Answer)) (place : ℕ) (step : Step) → given ((place, step) ∷ h) ≡ given h
-  → ((t : Told) → (told_after c place step t).puts ≡ t.puts) → ((t : Told) → (told_after c place step t).drops ≡ t.drops)
-  → sub_rows c ((place, step) ∷ h) answers ≡ sub_rows c h answers
+    → ((t : Told) → (told_after c place step t).puts ≡ t.puts) → ((t : Told) → (told_after c place step t).drops ≡ t.drops)
+    → sub_rows c ((place, step) ∷ h) answers ≡ sub_rows c h answers
 rows_kept c h answers place step e puts drops =
     ap (λ n. map (λ s. sub_row (told c s ((place, step) ∷ h)) (take_replies s answers)) (count_from 1 n)) e ∙ same_table _ _ (numbers h) (λ s. row_same (concerns s h step) (told c s h) (told_after c place step (told c s h)) (take_replies s answers) (puts (told c s h)) (drops (told c s h)))
 
@@ -58,7 +58,7 @@ row_read : (c : Config) (place sid : ℕ) (m : Message) (t : Told) (takes : Take
 row_read c place sid m t takes = rw (length-map (waiting t) second) (by_case t.is_open (has_room c t))
   where
     by_case : (opened room : Bool) → row_of (t.puts ++ cond (opened && room) ((place, m) ∷ []) []) (t.drops ++ cond (opened && not room) ((place, m) ∷ []) []) takes
-      ≡ write_one place m (cond opened (cond room Put (Dropped m)) Ignored) (row_of t.puts t.drops takes)
+        ≡ write_one place m (cond opened (cond room Put (Dropped m)) Ignored) (row_of t.puts t.drops takes)
     by_case true true = ap (λ xs. row_of (t.puts ++ (place, m) ∷ []) xs takes) (append-nil t.drops)
     by_case true false = ap (λ xs. row_of xs (t.drops ++ (place, m) ∷ []) takes) (append-nil t.puts)
     by_case false room = rw (append-nil t.puts, append-nil t.drops) refl
@@ -70,6 +70,7 @@ delivery_is c h sid m = by_range (range_of sid (given h))
     missing : (sid ≡ 0) ⊎ (given h < sid) → item_of sid (subs_of c h) ≡ None
     missing (inl z) = ap (λ k. item_of k (subs_of c h)) z
     missing (inr past) = item_missing (λ s. sub_of (told c s h)) (given h) sid past
+
     by_range : ((sid ≡ 0) ⊎ (given h < sid)) ⊎ ((0 < sid) × (sid ≤ given h)) → delivery_at c m (item_of sid (subs_of c h)) ≡ delivery c m (sub_of (told c sid h))
     by_range (inl apart) =
         ap (delivery_at c m) (missing apart) ∙ sym (ap (λ t. delivery c m (sub_of t)) (told_nothing c sid h apart))
@@ -82,13 +83,13 @@ delivery_rows place sid m (Dropped dropped) rows = refl
 delivery_rows place sid m Ignored rows = at_number_same sid rows
 
 rows_read : (c : Config) (h : History) (answers : List (ℕ × Answer)) (place sid : ℕ) (m : Message)
-  → sub_rows c ((place, read (message sid m)) ∷ h) answers ≡ write_delivery place sid m (delivery_at c m (item_of sid (subs_of c h))) (sub_rows c h answers)
+    → sub_rows c ((place, read (message sid m)) ∷ h) answers ≡ write_delivery place sid m (delivery_at c m (item_of sid (subs_of c h))) (sub_rows c h answers)
 rows_read c h answers place sid m =
     let d = delivery c m (sub_of (told c sid h)) in
     numbered (λ s t. sub_row t (take_replies s answers)) (write_one place m d) (λ s. told_after c place (read (message sid m)) (told c s h)) (λ s. told c s h) (given h) sid (row_read c place sid m (told c sid h) (take_replies sid answers)) ∙ (delivery_rows place sid m d (sub_rows c h answers) ∙ sym (ap (λ e. write_delivery place sid m e (sub_rows c h answers)) (delivery_is c h sid m)))
 
 rows_accepted : (c : Config) (h : History) (answers : List (ℕ × Answer)) (place : ℕ) (subject : List ℕ) (group : Option (List ℕ)) → AreGiven h answers
-  → sub_rows c ((place, accepted (Subscribe subject group)) ∷ h) answers ≡ sub_rows c h answers ++ new_row ∷ []
+    → sub_rows c ((place, accepted (Subscribe subject group)) ∷ h) answers ≡ sub_rows c h answers ++ new_row ∷ []
 rows_accepted c h answers place subject group named =
     let step = accepted (Subscribe subject group) in
     let less : given h < suc (given h) = omega arith in
@@ -125,7 +126,7 @@ EndsUp up (link_end end) = up ≡ true
 EndsUp up step = Unit {0}
 
 sheet_after : (c : Config) (n : ℕ) (h : History) (answers : List (ℕ × Answer)) (place : ℕ) (step : Step) → AreGiven h answers → EndsUp (is_up h) step
-  → sheet_of c ((place, step) ∷ h) answers ≡ write_events place (events_by c h step) (write_step place (parts_of c n h) step (sheet_of c h answers))
+    → sheet_of c ((place, step) ∷ h) answers ≡ write_events place (events_by c h step) (write_step place (parts_of c n h) step (sheet_of c h answers))
 sheet_after c n h answers place (opened info) named up = refl
 sheet_after c n h answers place (fed bytes) named up =
     same_sheet _ _ _ _ _ _ _ _ refl (taken_kept h []) refl
@@ -158,7 +159,7 @@ two_ways : (place : ℕ) (step : Step) (p q : Parts) (s t : Sheet) → p ≡ q �
 two_ways place step p q s t a b = rw (a, b) refl
 
 pub tells_step : (c : Config) (h : History) (answers : List (ℕ × Answer)) (place : ℕ) (step : Step) (p : Parts) (sheet : Sheet) → Tells c h answers p sheet → EndsUp p.is_up step
-  → Tells c ((place, step) ∷ h) answers (with_events [] (after p step)) (write_events place (after p step).events (write_step place p step sheet))
+    → Tells c ((place, step) ∷ h) answers (with_events [] (after p step)) (write_events place (after p step).events (write_step place p step sheet))
 tells_step c h answers place step p sheet tells up =
     let n = length (events c h) in
     let more = length (events c ((place, step) ∷ h)) in
@@ -189,7 +190,7 @@ calls_append ((place, nothing) ∷ xs) ys = calls_append xs ys
 calls_append ((place, asked sid reply) ∷ xs) ys = calls_append xs ys
 
 rows_asked : (c : Config) (h : History) (answers : List (ℕ × Answer)) (place sid : ℕ) (reply : TakeReply)
-  → sub_rows c h (answers ++ (place, asked sid reply) ∷ []) ≡ at_number sid (write_take place reply) (sub_rows c h answers)
+    → sub_rows c h (answers ++ (place, asked sid reply) ∷ []) ≡ at_number sid (write_take place reply) (sub_rows c h answers)
 rows_asked c h answers place sid reply =
     same_table _ _ (numbers h) (λ s. ap (sub_row (told c s h)) (takes_append s answers ((place, asked sid reply) ∷ []) ∙ by_number (eqb s sid) (take_replies s answers))) ∙ numbered (λ s takes. sub_row (told c s h) takes) (write_take place reply) (λ s. take_replies s answers ++ (place, reply) ∷ []) (λ s. take_replies s answers) (given h) sid refl
   where
@@ -223,7 +224,7 @@ given_still h answers place (called reply) named there s past =
     takes_append s answers ((place, called reply) ∷ []) ∙ ap (λ xs. xs ++ []) (named s past)
 
 pub tells_answer : (c : Config) (h : History) (answers : List (ℕ × Answer)) (place : ℕ) (answer : Answer) (p : Parts) (sheet : Sheet) → Tells c h answers p sheet → IsGiven h answer
-  → Tells c h (answers ++ (place, answer) ∷ []) p (write_answer place answer sheet)
+    → Tells c h (answers ++ (place, answer) ∷ []) p (write_answer place answer sheet)
 tells_answer c h answers place answer p sheet tells there = record {
   stands = tells.stands;
   written = ap (write_answer place answer) tells.written ∙ sym (sheet_answered c h answers place answer);

@@ -38,13 +38,13 @@ at_index_past (suc i) f (x ∷ xs) past = ap (λ ys. x ∷ ys) (at_index_past i 
 -- ---- the numbers that a change leaves alone
 
 pub above : {A B : Type 0} (view : ℕ → A → B) (new old : ℕ → A) (n first k : ℕ) → k < first
-  → map (λ s. view s (cond (eqb s k) (new s) (old s))) (count_from first n) ≡ map (λ s. view s (old s)) (count_from first n)
+    → map (λ s. view s (cond (eqb s k) (new s) (old s))) (count_from first n) ≡ map (λ s. view s (old s)) (count_from first n)
 above view new old zero first k less = refl
 above view new old (suc n) first k less =
     same_cons _ _ _ _ (ap (λ b. view first (cond b (new first) (old first))) (ne_eqb first k (λ e. omega arith))) (above view new old n (suc first) k (omega arith))
 
 pub below : {A B : Type 0} (view : ℕ → A → B) (new old : ℕ → A) (n first k : ℕ) → first + n ≤ k
-  → map (λ s. view s (cond (eqb s k) (new s) (old s))) (count_from first n) ≡ map (λ s. view s (old s)) (count_from first n)
+    → map (λ s. view s (cond (eqb s k) (new s) (old s))) (count_from first n) ≡ map (λ s. view s (old s)) (count_from first n)
 below view new old zero first k less = refl
 below view new old (suc n) first k less =
     same_cons _ _ _ _ (ap (λ b. view first (cond b (new first) (old first))) (ne_eqb first k (λ e. omega arith))) (below view new old n (suc first) k (omega arith))
@@ -52,7 +52,7 @@ below view new old (suc n) first k less =
 -- ---- the table after the thing of one number changed
 
 numbered_from : {A B : Type 0} (view : ℕ → A → B) (f : B → B) (new old : ℕ → A) (n i first k : ℕ) → view k (new k) ≡ f (view k (old k)) → k ≡ first + i
-  → map (λ s. view s (cond (eqb s k) (new s) (old s))) (count_from first n) ≡ at_index i f (map (λ s. view s (old s)) (count_from first n))
+    → map (λ s. view s (cond (eqb s k) (new s) (old s))) (count_from first n) ≡ at_index i f (map (λ s. view s (old s)) (count_from first n))
 numbered_from view f new old zero i first k changed e = refl
 numbered_from view f new old (suc n) zero first k changed e =
     let here : k ≡ first = omega arith in
@@ -61,13 +61,13 @@ numbered_from view f new old (suc n) (suc i) first k changed e =
     same_cons _ _ _ _ (ap (λ b. view first (cond b (new first) (old first))) (ne_eqb first k (λ d. omega arith))) (numbered_from view f new old n i (suc first) k changed (omega arith))
 
 pub numbered : {A B : Type 0} (view : ℕ → A → B) (f : B → B) (new old : ℕ → A) (n k : ℕ) → view k (new k) ≡ f (view k (old k))
-  → map (λ s. view s (cond (eqb s k) (new s) (old s))) (count_from 1 n) ≡ at_number k f (map (λ s. view s (old s)) (count_from 1 n))
+    → map (λ s. view s (cond (eqb s k) (new s) (old s))) (count_from 1 n) ≡ at_number k f (map (λ s. view s (old s)) (count_from 1 n))
 numbered view f new old n zero changed = above view new old n 1 zero (omega arith)
 numbered view f new old n (suc i) changed = numbered_from view f new old n i 1 (suc i) changed (omega arith)
 
 -- the same under a condition that does not hang on the number, and that holds where there is such a number
 pub numbered_if : {A B : Type 0} (view : ℕ → A → B) (f : B → B) (new old : ℕ → A) (n i : ℕ) (b : Bool) → view (suc i) (new (suc i)) ≡ f (view (suc i) (old (suc i))) → b ≡ ltb i n
-  → map (λ s. view s (cond (b && eqb s (suc i)) (new s) (old s))) (count_from 1 n) ≡ at_number (suc i) f (map (λ s. view s (old s)) (count_from 1 n))
+    → map (λ s. view s (cond (b && eqb s (suc i)) (new s) (old s))) (count_from 1 n) ≡ at_number (suc i) f (map (λ s. view s (old s)) (count_from 1 n))
 numbered_if view f new old n i true changed e = numbered view f new old n (suc i) changed
 numbered_if view f new old n i false changed e =
     let past = ltb-false i n (sym e) in
@@ -76,12 +76,12 @@ numbered_if view f new old n i false changed e =
 -- ---- the table after one more thing came, of the next number
 
 pub one_more : {A B : Type 0} (view : ℕ → A → B) (new old : ℕ → A) (n : ℕ) (last : B) → view (suc n) (new (suc n)) ≡ last
-  → map (λ s. view s (cond (eqb s (suc n)) (new s) (old s))) (count_from 1 (suc n)) ≡ map (λ s. view s (old s)) (count_from 1 n) ++ last ∷ []
+    → map (λ s. view s (cond (eqb s (suc n)) (new s) (old s))) (count_from 1 (suc n)) ≡ map (λ s. view s (old s)) (count_from 1 n) ++ last ∷ []
 one_more view new old n last e =
     let told = λ (s : ℕ). view s (cond (eqb s (suc n)) (new s) (old s)) in
     let next : 1 + n ≡ suc n = omega arith in
     let here : told (1 + n) ≡ last =
-          ap told next ∙ (ap (λ b. view (suc n) (cond b (new (suc n)) (old (suc n)))) (eq-eqb (suc n) (suc n) refl) ∙ e)
+    ap told next ∙ (ap (λ b. view (suc n) (cond b (new (suc n)) (old (suc n)))) (eq-eqb (suc n) (suc n) refl) ∙ e)
     in
     ap (map told) (count_from_last 1 n) ∙ (map-append told (count_from 1 n) ((1 + n) ∷ []) ∙ (ap (λ xs. xs ++ told (1 + n) ∷ []) (below view new old n 1 (suc n) (omega arith)) ∙ ap (λ x. map (λ s. view s (old s)) (count_from 1 n) ++ x ∷ []) here))
 

@@ -137,7 +137,11 @@ impl Draft {
     }
 
     /// The transcript, where `up` is the last link with the bytes that it left, if it is up.
-    pub fn finish(mut self, alloc: Global, handler: &ConnectionHandler) -> Result<Transcript, NoMemory>
+    pub fn finish(
+        mut self,
+        alloc: Global,
+        handler: &ConnectionHandler,
+    ) -> Result<Transcript, NoMemory>
         ensures { IfOk result (λ t. t ≡ finished handler.now self) }
     {
         if handler.is_up() {

@@ -8,12 +8,11 @@ mod calls;
 mod due;
 mod turns;
 
-pub use due::Played;
-
 use crate::call::Call;
 use crate::config::Config;
 use crate::queue::Queue;
 use crate::subs::Subscriptions;
+pub use due::Played;
 use nats_wire::{Connection, Event, NoMemory};
 use std::alloc::Global;
 use std::marker::Model;

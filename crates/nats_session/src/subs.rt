@@ -7,12 +7,11 @@ ghost use Rattle.nats_session.specs.Delivery.{delivery_at, oldest_of, youngest, 
 
 mod subscription;
 
-pub use subscription::{Delivery, Subscription};
-
 use crate::config::Config;
 use nats_wire::{Message, NoMemory};
 use std::alloc::Global;
 use std::marker::Model;
+pub use subscription::{Delivery, Subscription};
 
 /// The subscriptions by their numbers, from 1.
 #[derive(Drop)]

@@ -1,4 +1,7 @@
-use crate::{Bytes, Call, CallReply, Config, ConnectionHandler, Due, LinkWord, NoMemory, ServerInfo, Subject, TakeReply, Token, Turn, run};
+use crate::{
+    Bytes, Call, CallReply, Config, ConnectionHandler, Due, LinkWord, NoMemory, ServerInfo,
+    Subject, TakeReply, Token, Turn, run,
+};
 use std::alloc::Global;
 use std::process::Abort;
 use std::test::Fail;

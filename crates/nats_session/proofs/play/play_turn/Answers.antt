@@ -11,6 +11,6 @@ returns-clause-none c =
     let old = c.args.handler.now in
     let own = c.play_own.new.handler in
     let none : own.events ≡ [] =
-          ap (λ (p : Parts). p.events) c.in_ok-play_own.ensures.parts ∙ recorded_none (own_steps old c.args.turn.now) old c.requires.none
+    ap (λ (p : Parts). p.events) c.in_ok-play_own.ensures.parts ∙ recorded_none (own_steps old c.args.turn.now) old c.requires.none
     in
     on_ok_weaker c.settle.result (λ e. ap (λ (p : Parts). p.events) e ∙ recorded_none (due_steps own) own none) c.settle.ensures.parts

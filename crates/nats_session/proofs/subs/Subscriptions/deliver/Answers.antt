@@ -28,6 +28,6 @@ returns-clause-answer c =
     let found = c.in-Some.ensures in
     let less : c.in-Some.index < length xs = rw c.self.view_is found.1 in
     let item : item_of c.args.sid c.args.self.now ≡ Some c.index_mut-slot.result.now =
-          ap (item_of c.args.sid) (sym c.self.view_is) ∙ item_read xs c.args.sid c.in-Some.index c.index_mut-slot.result.now found.0 less (search rules)
+    ap (item_of c.args.sid) (sym c.self.view_is) ∙ item_read xs c.args.sid c.in-Some.index c.index_mut-slot.result.now found.0 less (search rules)
     in
     IfOk-weaker c.deliver.result _ _ (λ d e. e ∙ sym (ap (delivery_at c.args.config.now c.args.message) item)) c.deliver.ensures.answer

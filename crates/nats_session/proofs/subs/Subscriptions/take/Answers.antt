@@ -15,7 +15,7 @@ returns-clause-message c =
     let found = c.in_ok-index.ensures in
     let less : c.in_ok-index.index < length xs = rw c.self.view_is found.1 in
     let item : item_of c.args.sid c.args.self.now ≡ Some c.index_mut-slot.result.now =
-          ap (item_of c.args.sid) (sym c.self.view_is) ∙ item_read xs c.args.sid c.in_ok-index.index c.index_mut-slot.result.now found.0 less (search rules)
+    ap (item_of c.args.sid) (sym c.self.view_is) ∙ item_read xs c.args.sid c.in_ok-index.index c.index_mut-slot.result.now found.0 less (search rules)
     in
     c.take.ensures.message ∙ sym (ap oldest_of item)
 
