@@ -5,14 +5,20 @@ ghost use Rattle.nats_wire.specs.declared.op.WireError.TheVariants as refused;
 use crate::message::Message;
 use nats_names::{NoMemory, Subject};
 
-/// An operation read from the server. The crate's `ServerOp`.
+/// An operation read from the server, by the NATS client protocol. The crate's `ServerOp`.
 #[derive(Drop)]
 pub enum ServerOp {
+    /// The protocol's `+OK`: the server took what the client sent.
+    Ok,
+    /// The protocol's `PING`: the server asks for a `PONG`.
+    Ping,
+    /// The protocol's `PONG`: the server's answer to a `PING`.
+    Pong,
     /// A message delivered to the subscription `sid`.
     Message { sid: u64, message: Message },
 }
 
-/// An operation for the server. The crate's `ClientOp`.
+/// An operation for the server, by the NATS client protocol. The crate's `ClientOp`.
 #[derive(Drop)]
 pub enum ClientOp {
     /// Asks for the messages of `subject`, under the number `sid`, shared with the others of the queue group.
@@ -21,6 +27,10 @@ pub enum ClientOp {
         subject: Subject,
         queue_group: Option<Subject>,
     },
+    /// The protocol's `PING`: asks for a `PONG`.
+    Ping,
+    /// The protocol's `PONG`: the answer to a `PING`.
+    Pong,
 }
 
 /// Why no operation was read.
