@@ -154,6 +154,33 @@ fn a_subscription_is_written_as_its_line(rt: HostRuntime) -> Result<(), Fail> {
     Ok(())
 }
 
+fn publish(alloc: Global, payload: &str, respond: Option<&str>) -> Result<ClientOp, NoMemory> {
+    let respond = match respond {
+        Some(respond) => Some(Subject::from_text(alloc, respond)?),
+        None => None,
+    };
+    Ok(ClientOp::Publish {
+        subject: Subject::from_text(alloc, "FOO")?,
+        payload: Bytes::copy_from_slice(alloc, payload.as_bytes())?,
+        respond,
+    })
+}
+
+#[test]
+fn a_payload_is_written_behind_its_length(rt: HostRuntime) -> Result<(), Fail> {
+    for (payload, respond, text) in [
+        ("Hello NATS!", None, "PUB FOO 11\r\nHello NATS!\r\n"),
+        ("", None, "PUB FOO 0\r\n\r\n"),
+        ("a\r\nb", Some("BAR.1"), "PUB FOO BAR.1 4\r\na\r\nb\r\n"),
+    ] {
+        let mut connection = Connection::new(rt.alloc());
+        let op = publish(rt.alloc(), payload, respond)?;
+        connection.enqueue_write_op(rt.alloc(), &op)?;
+        assert_eq!(rt; connection.waiting(), text.as_bytes());
+    }
+    Ok(())
+}
+
 #[test]
 fn a_sign_of_life_is_written_as_its_line(rt: HostRuntime) -> Result<(), Fail> {
     let mut connection = Connection::new(rt.alloc());
