@@ -4,7 +4,7 @@ use Rattle.std.specs.Prelude.{◌==◌, ◌&&◌, nat_lt, if◌then◌else◌}
 use Rattle.std.specs.Option.{option_map}
 use Rattle.std.proofs.lemmas.List.{take-append-le, drop-append-le}
 use Rattle.std.proofs.lemmas.Bool.{ltb-false, le-ltb}
-use Rattle.nats_wire.specs.Operations.{Operation, message, Front, unfinished, got, fault, Cut, onto_line, cut_line, Word, ok, ping, pong, error, info, message_word, header_message, other, word_of, Head, message_of, message_or_fault, head_of, front_of_word, front_of_cut, front, past, behind}
+use Rattle.nats_wire.specs.Operations.{Operation, message, ok_op, ping_op, pong_op, Front, unfinished, got, fault, Cut, onto_line, cut_line, Word, ok, ping, pong, error, info, message_word, header_message, other, word_of, Head, message_of, message_or_fault, head_of, front_of_word, front_of_cut, front, past, behind}
 use Rattle.nats_wire.specs.Laws.{IsGot, AllThere}
 
 -- a cut of a longer text
@@ -71,13 +71,20 @@ message_stays end rest more None op n is = cc
 message_stays end rest more (Some head) op n is =
     message_there (nat_lt (length rest) (head.count + 2)) end rest more head op n refl is
 
+-- an operation that takes its line and CR LF
+line_fits : (first op : Operation) (line rest : List ℕ) (n : ℕ) → got first (length line + 2) ≡ got op n → n ≤ length line + 2 + length rest
+line_fits first op line rest n is = let e : length line + 2 ≡ n = cc in omega arith
+
+line_takes : (first op : Operation) (line : List ℕ) (n : ℕ) → got first (length line + 2) ≡ got op n → 0 < n
+line_takes first op line n is = let e : length line + 2 ≡ n = cc in omega arith
+
 word_stays : (word : Word) (line rest more : List ℕ) (op : Operation) (n : ℕ)
     → front_of_word word line rest ≡ got op n
     → (front_of_word word line (rest ++ more) ≡ got op n) × (n ≤ length line + 2 + length rest) × (0 < n)
 word_stays message_word line rest more op n is = message_stays (length line) rest more (head_of (drop 4 line)) op n is
-word_stays ok line rest more op n is = cc
-word_stays ping line rest more op n is = cc
-word_stays pong line rest more op n is = cc
+word_stays ok line rest more op n is = (is, line_fits ok_op op line rest n is, line_takes ok_op op line n is)
+word_stays ping line rest more op n is = (is, line_fits ping_op op line rest n is, line_takes ping_op op line n is)
+word_stays pong line rest more op n is = (is, line_fits pong_op op line rest n is, line_takes pong_op op line n is)
 word_stays error line rest more op n is = cc
 word_stays info line rest more op n is = cc
 word_stays header_message line rest more op n is = cc
@@ -126,9 +133,9 @@ word_fault_stays : (word : Word) (line rest more : List ℕ) (n : ℕ)
     → front_of_word word line rest ≡ fault n
     → (front_of_word word line (rest ++ more) ≡ fault n) × (n ≤ length line + 2)
 word_fault_stays message_word line rest more n is = message_fault_stays (length line) rest more (head_of (drop 4 line)) n is
-word_fault_stays ok line rest more n is = (is, (let e : 0 ≡ n = cc in omega arith))
-word_fault_stays ping line rest more n is = (is, (let e : 0 ≡ n = cc in omega arith))
-word_fault_stays pong line rest more n is = (is, (let e : 0 ≡ n = cc in omega arith))
+word_fault_stays ok line rest more n is = cc
+word_fault_stays ping line rest more n is = cc
+word_fault_stays pong line rest more n is = cc
 word_fault_stays error line rest more n is = (is, (let e : 0 ≡ n = cc in omega arith))
 word_fault_stays info line rest more n is = (is, (let e : 0 ≡ n = cc in omega arith))
 word_fault_stays header_message line rest more n is = (is, (let e : 0 ≡ n = cc in omega arith))

@@ -13,7 +13,7 @@ use Rattle.nats_wire.specs.declared.decode.Line.{Line}
 use Rattle.nats_wire.specs.declared.decode.Piece.{Piece}
 use Rattle.nats_wire.specs.declared.decode.Head.{Head}
 use Rattle.nats_wire.specs.Operations as grammar
-use Rattle.nats_wire.specs.Operations.{Operation, message, unfinished, got, fault, Cut, pieces_of}
+use Rattle.nats_wire.specs.Operations.{Operation, message, ok_op, ping_op, pong_op, unfinished, got, fault, Cut, pieces_of}
 
 abbrev pub message_view : MessageText → Message
 message_view m = record {
@@ -24,6 +24,9 @@ message_view m = record {
 }
 
 abbrev pub op_text_view : OpText → Operation
+op_text_view op.Ok = ok_op
+op_text_view op.Ping = ping_op
+op_text_view op.Pong = pong_op
 op_text_view (op.Message sid m) = message sid (message_view m)
 
 abbrev pub front_view : Front → grammar.Front

@@ -11,9 +11,13 @@ use Rattle.nats_wire.specs.declared.op.ServerOp.TheVariants as server
 -- an operation by its content
 pub data Operation : Type 0 where
   message : ℕ → Message → Operation
+  ok_op ping_op pong_op : Operation
 
 abbrev pub op_view : ServerOp → Operation
 op_view (server.Message sid m) = message sid m
+op_view server.Ok = ok_op
+op_view server.Ping = ping_op
+op_view server.Pong = pong_op
 
 -- what stands at the front of a text: less than an operation, one operation in its first n bytes, or a fault that
 -- takes the first n bytes
@@ -108,12 +112,13 @@ message_or_fault end rest (Some head) =
     if nat_lt (length rest) (head.count + 2) then unfinished else
     got (message head.sid (message_of head (take head.count rest))) (end + head.count + 4)
 
+-- a line by its word: `+OK`, `PING` and `PONG` take the line and its CR LF, whatever follows the word in the line
 abbrev pub front_of_word : Word → List ℕ → List ℕ → Front
 front_of_word message_word line rest = message_or_fault (length line) rest (head_of (drop 4 line))
 front_of_word other line rest = fault (length line + 2)
-front_of_word ok line rest = fault 0
-front_of_word ping line rest = fault 0
-front_of_word pong line rest = fault 0
+front_of_word ok line rest = got ok_op (length line + 2)
+front_of_word ping line rest = got ping_op (length line + 2)
+front_of_word pong line rest = got pong_op (length line + 2)
 front_of_word error line rest = fault 0
 front_of_word info line rest = fault 0
 front_of_word header_message line rest = fault 0

@@ -119,14 +119,13 @@ impl Connection {
         }
     }
 
-    /// Puts the text of an operation behind the bytes that wait to be written. The crate's `enqueue_write_op`.
+    /// Puts the text of an operation behind the bytes that wait to be written, whole or not at all. The crate's
+    /// `enqueue_write_op`.
     pub fn enqueue_write_op(&mut self, alloc: Global, op: &ClientOp) -> Result<(), NoMemory>
         ensures ok { OnOk result (self.new ≡ record self.old { waiting = self.old.waiting ++ command_text op.now }) }
         ensures err { OnErr result (self.new ≡ self.old) }
     {
-        let text = command::text(alloc, op)?;
-        self.write_buf.extend_from_slice(text.as_bytes())?;
-        Ok(())
+        command::append(alloc, op, &mut self.write_buf)
     }
 
     /// The number of bytes that wait to be written.

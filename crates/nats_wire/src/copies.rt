@@ -34,6 +34,9 @@ pub fn operation(alloc: Global, text: &OpText<'_>) -> Result<ServerOp, NoMemory>
     ensures { IfOk result (λ op. op_view op ≡ op_text_view text.now) }
 {
     match text {
+        OpText::Ok => Ok(ServerOp::Ok),
+        OpText::Ping => Ok(ServerOp::Ping),
+        OpText::Pong => Ok(ServerOp::Pong),
         OpText::Message { sid, message: text } => Ok(ServerOp::Message {
             sid: *sid,
             message: message(alloc, text)?,

@@ -19,6 +19,9 @@ pub enum Front<'a> {
 /// A `ServerOp` in the text that it is read from.
 #[derive(Clone, Copy)]
 pub enum OpText<'a> {
+    Ok,
+    Ping,
+    Pong,
     Message { sid: u64, message: MessageText<'a> },
 }
 
@@ -31,7 +34,8 @@ pub struct MessageText<'a> {
     pub length: usize,
 }
 
-/// The words that a line may begin with.
+/// The words of the protocol that a line may begin with. `+OK`, `PING` and `PONG` are operations whatever follows them in
+/// the line.
 #[derive(Clone, Copy)]
 pub enum Word {
     Ok,
@@ -226,11 +230,12 @@ fn front_of_line<'a>(line: &Line<'a>) -> Front<'a>
 {
     match first_word(line.text) {
         Word::Message => front_of_message(line),
+        Word::Ok => Front::Got(OpText::Ok, line.text.len() + 2),
+        Word::Ping => Front::Got(OpText::Ping, line.text.len() + 2),
+        Word::Pong => Front::Got(OpText::Pong, line.text.len() + 2),
         Word::Other => Front::Fault(line.text.len() + 2),
         // Words of the protocol whose operations are not read.
-        Word::Ok | Word::Ping | Word::Pong | Word::Error | Word::Info | Word::HeaderMessage => {
-            Front::Fault(0)
-        }
+        Word::Error | Word::Info | Word::HeaderMessage => Front::Fault(0),
     }
 }
 

@@ -3,24 +3,40 @@ ghost use Rattle.std.specs.Prelude.{◌≡◌};
 ghost use Rattle.nats_wire.specs.declared.op.WireError.TheVariants as refused;
 
 use crate::message::Message;
-use nats_names::{NoMemory, Subject};
+use nats_names::{Bytes, NoMemory, Subject};
 
-/// An operation read from the server. The crate's `ServerOp`.
+/// An operation read from the server, by the NATS client protocol. The crate's `ServerOp`.
 #[derive(Drop)]
 pub enum ServerOp {
+    /// The protocol's `+OK`: the server took what the client sent.
+    Ok,
+    /// The protocol's `PING`: the server asks for a `PONG`.
+    Ping,
+    /// The protocol's `PONG`: the server's answer to a `PING`.
+    Pong,
     /// A message delivered to the subscription `sid`.
     Message { sid: u64, message: Message },
 }
 
-/// An operation for the server. The crate's `ClientOp`.
+/// An operation for the server, by the NATS client protocol. The crate's `ClientOp`.
 #[derive(Drop)]
 pub enum ClientOp {
-    /// Asks for the messages of `subject`, under the number `sid`, shared with the others of the queue group.
+    /// The protocol's `SUB`: asks for the messages of `subject`, under the number `sid`, shared with the others of the queue group.
     Subscribe {
         sid: u64,
         subject: Subject,
         queue_group: Option<Subject>,
     },
+    /// The protocol's `PUB`: sends a payload to the subscribers of `subject`, and says where an answer is asked to go.
+    Publish {
+        subject: Subject,
+        payload: Bytes,
+        respond: Option<Subject>,
+    },
+    /// The protocol's `PING`: asks for a `PONG`.
+    Ping,
+    /// The protocol's `PONG`: the answer to a `PING`.
+    Pong,
 }
 
 /// Why no operation was read.

@@ -75,11 +75,14 @@ fn a_payload_may_be_any_length_below_two_to_64(rt: HostRuntime) -> Result<(), Fa
 }
 
 #[test]
-fn a_bad_line_of_a_message_is_a_fault_and_stays(rt: HostRuntime) -> Result<(), Fail> {
+fn a_line_that_is_not_read_is_a_fault_and_stays(rt: HostRuntime) -> Result<(), Fail> {
     for text in [
         b"MSG a 1 184467440737095516150\r\n".as_slice(),
         b"MSG balance.\xff 1 2\r\nhi\r\n".as_slice(),
         b"MSG a 1\r\n".as_slice(),
+        b"-ERR 'x'\r\n".as_slice(),
+        b"INFO {}\r\n".as_slice(),
+        b"HMSG a 1 2 2\r\n\r\n\r\n".as_slice(),
     ] {
         let mut connection = fed(rt.alloc(), text)?;
         assert_eq!(rt;
@@ -94,14 +97,35 @@ fn a_bad_line_of_a_message_is_a_fault_and_stays(rt: HostRuntime) -> Result<(), F
     Ok(())
 }
 
+fn word(op: &ServerOp) -> &'static str {
+    match op {
+        ServerOp::Ok => "+OK",
+        ServerOp::Ping => "PING",
+        ServerOp::Pong => "PONG",
+        ServerOp::Message { .. } => "MSG",
+    }
+}
+
 #[test]
-fn an_unknown_line_is_a_fault_and_taken(rt: HostRuntime) -> Result<(), Fail> {
-    let mut connection = fed(rt.alloc(), b"ONE\r\nMSG a 1 2\r\nhi\r\n")?;
-    assert_eq!(rt;
-        connection.try_read_op(rt.alloc()).err(),
-        Some(WireError::ReadFault)
-    );
-    assert!(rt; connection.try_read_op(rt.alloc())?.is_some());
+fn a_line_is_read_by_the_word_that_it_begins_with(rt: HostRuntime) -> Result<(), Fail> {
+    for (text, faults, read) in [
+        ("+OK\r\n", 0, "+OK"),
+        ("PING\r\n", 0, "PING"),
+        ("PINGX\r\n", 0, "PING"),
+        ("PONG\r\n", 0, "PONG"),
+        ("ONE\r\nPING\r\n", 1, "PING"),
+    ] {
+        let mut connection = fed(rt.alloc(), text.as_bytes())?;
+        for _ in 0..faults {
+            assert_eq!(rt;
+                connection.try_read_op(rt.alloc()).err(),
+                Some(WireError::ReadFault)
+            );
+        }
+        let op = connection.try_read_op(rt.alloc())?.ok_or("no operation")?;
+        assert_eq!(rt; word(&op), read);
+        assert!(rt; connection.is_unfinished());
+    }
     Ok(())
 }
 
@@ -127,6 +151,42 @@ fn a_subscription_is_written_as_its_line(rt: HostRuntime) -> Result<(), Fail> {
         connection.enqueue_write_op(rt.alloc(), &op)?;
         assert_eq!(rt; connection.waiting(), line.as_bytes());
     }
+    Ok(())
+}
+
+fn publish(alloc: Global, payload: &str, respond: Option<&str>) -> Result<ClientOp, NoMemory> {
+    let respond = match respond {
+        Some(respond) => Some(Subject::from_text(alloc, respond)?),
+        None => None,
+    };
+    Ok(ClientOp::Publish {
+        subject: Subject::from_text(alloc, "FOO")?,
+        payload: Bytes::copy_from_slice(alloc, payload.as_bytes())?,
+        respond,
+    })
+}
+
+#[test]
+fn a_payload_is_written_behind_its_length(rt: HostRuntime) -> Result<(), Fail> {
+    for (payload, respond, text) in [
+        ("Hello NATS!", None, "PUB FOO 11\r\nHello NATS!\r\n"),
+        ("", None, "PUB FOO 0\r\n\r\n"),
+        ("a\r\nb", Some("BAR.1"), "PUB FOO BAR.1 4\r\na\r\nb\r\n"),
+    ] {
+        let mut connection = Connection::new(rt.alloc());
+        let op = publish(rt.alloc(), payload, respond)?;
+        connection.enqueue_write_op(rt.alloc(), &op)?;
+        assert_eq!(rt; connection.waiting(), text.as_bytes());
+    }
+    Ok(())
+}
+
+#[test]
+fn a_sign_of_life_is_written_as_its_line(rt: HostRuntime) -> Result<(), Fail> {
+    let mut connection = Connection::new(rt.alloc());
+    connection.enqueue_write_op(rt.alloc(), &ClientOp::Ping)?;
+    connection.enqueue_write_op(rt.alloc(), &ClientOp::Pong)?;
+    assert_eq!(rt; connection.waiting(), b"PING\r\nPONG\r\n".as_slice());
     Ok(())
 }
 
