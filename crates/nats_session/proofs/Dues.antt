@@ -3,7 +3,7 @@ use Rattle.std.proofs.Common.{◌≡◌, ℕ, zero, suc, ◌+◌, ◌-◌, ◌�
 use Rattle.std.proofs.lemmas.List.{length-drop}
 use Rattle.std.proofs.lemmas.Option.{none-some, same_Some}
 use Rattle.nats_names.specs.declared.event.Event.{Event}
-use Rattle.nats_wire.specs.Operations.{Operation, message, Front, got, unfinished, fault, front, past}
+use Rattle.nats_wire.specs.Operations.{Operation, message, ok_op, ping_op, pong_op, Front, got, unfinished, fault, front, past}
 use Rattle.nats_wire.proofs.Fronts.{front_takes, front_fits}
 use Rattle.nats_session.specs.declared.call.Call.{Call}
 use Rattle.nats_session.specs.declared.call.Call.TheVariants.{Subscribe}
@@ -28,6 +28,18 @@ read_falls : (p : Parts) (operation : Operation) (n : ℕ) → front p.wire.unre
 read_falls p (message sid m) n e =
     let some = front_takes p.wire.unread (message sid m) n e in
     let fits = front_fits p.wire.unread (message sid m) n e in
+    rw (e, length-drop) (omega (arith, some, fits))
+read_falls p ok_op n e =
+    let some = front_takes p.wire.unread ok_op n e in
+    let fits = front_fits p.wire.unread ok_op n e in
+    rw (e, length-drop) (omega (arith, some, fits))
+read_falls p ping_op n e =
+    let some = front_takes p.wire.unread ping_op n e in
+    let fits = front_fits p.wire.unread ping_op n e in
+    rw (e, length-drop) (omega (arith, some, fits))
+read_falls p pong_op n e =
+    let some = front_takes p.wire.unread pong_op n e in
+    let fits = front_fits p.wire.unread pong_op n e in
     rw (e, length-drop) (omega (arith, some, fits))
 
 handled_falls : (p : Parts) (call : Call) (more : List Call) → p.calls ≡ call ∷ more → due_bound (after p (handled call)) < due_bound p
@@ -86,6 +98,9 @@ pub after_events : (events : List Event) (p : Parts) (step : Step) → after (wi
 after_events events p (opened info) = refl
 after_events events p (fed bytes) = refl
 after_events events p (read (message sid m)) = refl
+after_events events p (read ok_op) = refl
+after_events events p (read ping_op) = refl
+after_events events p (read pong_op) = refl
 after_events events p (taken n) = refl
 after_events events p (accepted (Subscribe subject group)) = refl
 after_events events p (handled (Subscribe subject group)) = refl

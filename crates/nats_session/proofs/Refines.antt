@@ -9,7 +9,7 @@ use Rattle.nats_names.specs.declared.event.Event.TheVariants.{Connected, Disconn
 use Rattle.nats_wire.specs.declared.message.Message.{Message}
 use Rattle.nats_wire.specs.declared.op.ClientOp.TheVariants as client
 use Rattle.nats_wire.specs.Commands.{command_text}
-use Rattle.nats_wire.specs.Operations.{Operation, message, Front, got, unfinished, fault, front, past, behind}
+use Rattle.nats_wire.specs.Operations.{Operation, message, ok_op, ping_op, pong_op, Front, got, unfinished, fault, front, past, behind}
 use Rattle.nats_session.specs.declared.config.Config.{Config}
 use Rattle.nats_session.specs.declared.call.Call.{Call}
 use Rattle.nats_session.specs.declared.call.Call.TheVariants.{Subscribe}
@@ -215,6 +215,12 @@ parts_after c handed h place (fed bytes) fits =
     same_made c _ _ _ _ _ _ _ _ _ _ _ _ _ _ (up_or_none (is_up h) _ (behind (reads h) (joined h)) bytes (unread_fed h bytes)) (unwritten h) refl refl refl (uneventful c handed h)
 parts_after c handed h place (read (message sid m)) fits =
     same_made c _ _ _ _ _ _ _ _ _ _ _ _ _ _ (unread_after (is_up h) (reads h) (joined h)) (unwritten h) refl (subs_delivered c place sid m h) refl (events_more handed (events c h) place (events_by c h (read (message sid m))) fits ∙ ap (λ es. drop handed (map second (events c h)) ++ es) (read_events c sid m h))
+parts_after c handed h place (read ping_op) fits =
+    same_made c _ _ _ _ _ _ _ _ _ _ _ _ _ _ (unread_after (is_up h) (reads h) (joined h)) (written h (command_text client.Pong)) refl refl refl (uneventful c handed h)
+parts_after c handed h place (read ok_op) fits =
+    same_made c _ _ _ _ _ _ _ _ _ _ _ _ _ _ (unread_after (is_up h) (reads h) (joined h)) (unwritten h) refl refl refl (uneventful c handed h)
+parts_after c handed h place (read pong_op) fits =
+    same_made c _ _ _ _ _ _ _ _ _ _ _ _ _ _ (unread_after (is_up h) (reads h) (joined h)) (unwritten h) refl refl refl (uneventful c handed h)
 parts_after c handed h place (taken n) fits =
     same_made c _ _ _ _ _ _ _ _ _ _ _ _ _ _ refl (taken_after (is_up h) (taken_count h) n (link_text h)) refl refl refl (uneventful c handed h)
 parts_after c handed h place (accepted (Subscribe subject group)) fits =

@@ -6,7 +6,7 @@ use Rattle.std.proofs.lemmas.Bool.{false≢true}
 use Rattle.std.proofs.lemmas.Option.{none-some, same_Some}
 use Rattle.nats_names.specs.declared.event.Event.{Event}
 use Rattle.nats_wire.specs.declared.message.Message.{Message}
-use Rattle.nats_wire.specs.Operations.{Operation, message, Front, got, unfinished, fault, front}
+use Rattle.nats_wire.specs.Operations.{Operation, message, ok_op, ping_op, pong_op, Front, got, unfinished, fault, front}
 use Rattle.nats_session.specs.declared.config.Config.{Config}
 use Rattle.nats_session.specs.declared.call.Call.{Call}
 use Rattle.nats_session.specs.declared.call.TakeReply.{TakeReply}
@@ -104,6 +104,9 @@ write_due place p (read (message sid m)) sheet e some =
     by_delivery (Dropped dropped) is =
         ap (λ n. record sheet { subs = at_number sid (write_drop place n) sheet.subs }) (dropped_message p.config m dropped (item_of sid p.subs) is)
     by_delivery Ignored is = refl
+write_due place p (read ok_op) sheet e some = refl
+write_due place p (read ping_op) sheet e some = refl
+write_due place p (read pong_op) sheet e some = refl
 write_due place p (handled call) sheet e some = refl
 write_due place p (link_end end) sheet e some =
     ap (λ w. record sheet { links = sheet.links ++ row_with w sheet.taken p.wire.waiting ∷ []; taken = [] }) (sym (due_fault p end e))

@@ -4,7 +4,7 @@ use Rattle.std.proofs.lemmas.List.{append-nil, append_assoc, map-append, length-
 use Rattle.std.proofs.Math.Seq.{take-add}
 use Rattle.nats_names.specs.declared.event.Event.{Event}
 use Rattle.nats_wire.specs.declared.message.Message.{Message}
-use Rattle.nats_wire.specs.Operations.{message}
+use Rattle.nats_wire.specs.Operations.{message, ok_op, ping_op, pong_op}
 use Rattle.nats_session.specs.declared.config.Config.{Config}
 use Rattle.nats_session.specs.declared.call.Call.{Call}
 use Rattle.nats_session.specs.declared.call.Call.TheVariants.{Subscribe}
@@ -132,6 +132,12 @@ sheet_after c n h answers place (fed bytes) named up =
     same_sheet _ _ _ _ _ _ _ _ refl (taken_kept h []) refl
 sheet_after c n h answers place (read (message sid m)) named up =
     same_sheet _ _ _ _ _ _ _ _ refl (taken_kept h []) (rows_read c h answers place sid m)
+sheet_after c n h answers place (read ok_op) named up =
+    same_sheet _ _ _ _ _ _ _ _ refl (taken_kept h (texts (commands h (read ok_op)))) refl
+sheet_after c n h answers place (read ping_op) named up =
+    same_sheet _ _ _ _ _ _ _ _ refl (taken_kept h (texts (commands h (read ping_op)))) refl
+sheet_after c n h answers place (read pong_op) named up =
+    same_sheet _ _ _ _ _ _ _ _ refl (taken_kept h (texts (commands h (read pong_op)))) refl
 sheet_after c n h answers place (taken k) named up =
     same_sheet _ _ _ _ _ _ _ _ refl (more_taken (is_up h) (taken_count h) k (link_text h)) refl
 sheet_after c n h answers place (accepted (Subscribe subject group)) named up =

@@ -55,6 +55,7 @@ LeadTo old steps new =
 -- what the handler says of a step that it played
 abbrev pub played_by : Parts → Step → Played
 played_by p (read (message sid m)) = played.Delivered sid (delivery_at p.config m (item_of sid p.subs))
+played_by p (read operation) = played.Read
 played_by p (handled call) = played.Handled
 played_by p (link_end word) = played.Ended p.wire
 played_by p step = played.Nothing
@@ -72,6 +73,7 @@ delivery_name sid Ignored = due_names.Read
 abbrev pub due_name : Played → Due
 due_name played.Nothing = due_names.Nothing
 due_name (played.Delivered sid delivery) = delivery_name sid delivery
+due_name played.Read = due_names.Read
 due_name played.Handled = due_names.Handled
 due_name (played.Ended wire) = due_names.Ended
 

@@ -6,7 +6,7 @@ use Rattle.nats_wire.specs.declared.info.ServerInfo.{ServerInfo}
 use Rattle.nats_wire.specs.declared.message.Message.{Message}
 use Rattle.nats_wire.specs.declared.op.ClientOp.{ClientOp}
 use Rattle.nats_wire.specs.declared.op.ClientOp.TheVariants as client
-use Rattle.nats_wire.specs.Operations.{Operation, message, Front, got, unfinished, fault, front, behind}
+use Rattle.nats_wire.specs.Operations.{Operation, message, ping_op, Front, got, unfinished, fault, front, behind}
 use Rattle.nats_wire.specs.Commands.{command_text}
 use Rattle.nats_session.specs.declared.config.Config.{Config}
 use Rattle.nats_session.specs.declared.call.Call.{Call}
@@ -190,6 +190,7 @@ numbers h = count_from 1 (given h)
 -- the commands that a step writes after a history
 abbrev pub commands : History → Step → List ClientOp
 commands h (handled (Subscribe subject group)) = client.Subscribe (suc (subscribed h)) subject group ∷ []
+commands h (read ping_op) = client.Pong ∷ []
 commands h step = []
 
 abbrev pub texts : List ClientOp → List ℕ

@@ -92,12 +92,14 @@ write_played place p played.Nothing sheet = sheet
 write_played place p (played.Delivered sid Put) sheet = write_message place sid (youngest (item_of sid p.subs)) sheet
 write_played place p (played.Delivered sid (Dropped m)) sheet = record sheet { subs = at_number sid (write_drop place m) sheet.subs }
 write_played place p (played.Delivered sid Ignored) sheet = sheet
+write_played place p played.Read sheet = sheet
 write_played place p played.Handled sheet = sheet
 write_played place p (played.Ended wire) sheet = record sheet { links = sheet.links ++ row_with Fault sheet.taken wire.waiting ∷ []; taken = [] }
 
 abbrev pub is_nothing : Played → Bool
 is_nothing played.Nothing = true
 is_nothing (played.Delivered sid delivery) = false
+is_nothing played.Read = false
 is_nothing played.Handled = false
 is_nothing (played.Ended wire) = false
 

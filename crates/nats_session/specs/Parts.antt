@@ -4,7 +4,7 @@ use Rattle.nats_names.specs.declared.event.Event.{Event}
 use Rattle.nats_names.specs.declared.event.Event.TheVariants.{Connected, Disconnected, SlowConsumer}
 use Rattle.nats_wire.specs.declared.message.Message.{Message}
 use Rattle.nats_wire.specs.declared.op.ClientOp.TheVariants as client
-use Rattle.nats_wire.specs.Operations.{message, front, past}
+use Rattle.nats_wire.specs.Operations.{Operation, message, ok_op, ping_op, pong_op, front, past}
 use Rattle.nats_wire.specs.Commands.{command_text}
 use Rattle.nats_wire.specs.Wire.{Wire, fresh}
 use Rattle.nats_session.specs.declared.config.Config.{Config}
@@ -122,14 +122,24 @@ after_handled (Subscribe subject group) p = record p {
   subscribed = min (suc p.subscribed) (length p.subs);
 }
 
-abbrev pub after : Parts → Step → Parts
-after p (opened info) = record p { link = cut (suc p.link); is_up = true; wire = fresh; events = p.events ++ Connected ∷ [] }
-after p (fed bytes) = record p { wire = record p.wire { unread = while_up p (p.wire.unread ++ bytes) } }
-after p (read (message sid m)) = record p {
+-- what an operation at the front makes of the parts
+abbrev pub after_read : Operation → Parts → Parts
+after_read (message sid m) p = record p {
   wire = record p.wire { unread = past (front p.wire.unread) p.wire.unread };
   subs = at_number sid (deliver p.config m) p.subs;
   events = p.events ++ drop_events p.config sid (item_of sid p.subs);
 }
+after_read ping_op p = record p { wire = record {
+  unread = past (front p.wire.unread) p.wire.unread;
+  waiting = while_up p (p.wire.waiting ++ command_text client.Pong);
+} }
+after_read ok_op p = record p { wire = record p.wire { unread = past (front p.wire.unread) p.wire.unread } }
+after_read pong_op p = record p { wire = record p.wire { unread = past (front p.wire.unread) p.wire.unread } }
+
+abbrev pub after : Parts → Step → Parts
+after p (opened info) = record p { link = cut (suc p.link); is_up = true; wire = fresh; events = p.events ++ Connected ∷ [] }
+after p (fed bytes) = record p { wire = record p.wire { unread = while_up p (p.wire.unread ++ bytes) } }
+after p (read operation) = after_read operation p
 after p (taken n) = record p { wire = record p.wire { waiting = drop n p.wire.waiting } }
 after p (accepted call) = after_accepted call p
 after p (handled call) = after_handled call p

@@ -80,6 +80,7 @@ abbrev pub write_step : ℕ → Parts → Step → Sheet → Sheet
 write_step place p (opened info) sheet = record sheet { taken = [] }
 write_step place p (fed bytes) sheet = sheet
 write_step place p (read (message sid m)) sheet = record sheet { subs = write_delivery place sid m (delivery_at p.config m (item_of sid p.subs)) sheet.subs }
+write_step place p (read operation) sheet = sheet
 write_step place p (taken n) sheet = record sheet { taken = taken_bytes p n sheet.taken }
 write_step place p (accepted call) sheet = record sheet { subs = write_accepted call sheet.subs }
 write_step place p (handled call) sheet = sheet

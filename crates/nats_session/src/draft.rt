@@ -112,7 +112,10 @@ impl Draft {
             Played::Ended(connection) => {
                 self.end_link(alloc, LinkWord::Fault, connection.waiting())
             }
-            Played::Nothing | Played::Handled | Played::Delivered(_, Delivery::Ignored) => Ok(()),
+            Played::Nothing
+            | Played::Read
+            | Played::Handled
+            | Played::Delivered(_, Delivery::Ignored) => Ok(()),
         }
     }
 

@@ -1,6 +1,7 @@
 //! Due steps.
 ghost use Rattle.std.specs.Prelude.{◌≡◌, ◌+◌, ◌<◌, ◌++◌, ◌≤◌, length, OnOk, OnErr, IfOk, nat_lt, suc, IsTrue};
 ghost use Rattle.nats_wire.specs.Operations.{front, unfinished, got, message, op_view};
+ghost use Rattle.nats_wire.specs.Commands.{command_text};
 ghost use Rattle.nats_session.specs.declared.transcript.LinkWord.TheVariants.{Fault};
 ghost use Rattle.nats_session.specs.History.{link_end, read, handled};
 ghost use Rattle.nats_session.specs.Parts.{after, at_number, deliver, drop_events, item_of};
@@ -26,6 +27,8 @@ pub enum Played {
     Nothing,
     /// A message for the subscription of this number was read.
     Delivered(u64, Delivery),
+    /// An operation was read that is no message.
+    Read,
     /// The oldest waiting call was handled.
     Handled,
     /// The link ended, with these buffers.
@@ -48,7 +51,7 @@ impl Played {
             Played::Nothing => Due::Nothing,
             Played::Delivered(sid, Delivery::Put) => Due::Put(sid),
             Played::Delivered(sid, Delivery::Dropped(message)) => Due::Dropped(sid, message),
-            Played::Delivered(_, Delivery::Ignored) => Due::Read,
+            Played::Delivered(_, Delivery::Ignored) | Played::Read => Due::Read,
             Played::Handled => Due::Handled,
             Played::Ended(_) => Due::Ended,
         }
@@ -70,6 +73,20 @@ fn command_of(call: &Call, sid: u64) -> Result<ClientOp, NoMemory>
     }
 }
 
+/// Writes the command of a call that is handled; `sid` is the number that it subscribes under.
+fn write_call(
+    connection: &mut Connection,
+    alloc: Global,
+    call: &Call,
+    sid: u64,
+) -> Result<(), NoMemory>
+    ensures ok { OnOk result (connection.new ≡ record connection.old { waiting = connection.old.waiting ++ command_text (command_of call.now sid) }) }
+    ensures err { OnErr result (connection.new ≡ connection.old) }
+{
+    let op = command_of(call, sid)?;
+    connection.enqueue_write_op(alloc, &op)
+}
+
 impl ConnectionHandler {
     /// Plays the step that is due. Reading comes first, then the calls that wait.
     pub(crate) fn play_due(&mut self, alloc: Global) -> Result<Played, NoMemory>
@@ -80,7 +97,7 @@ impl ConnectionHandler {
             return Ok(Played::Nothing);
         }
         match self.connection.peek_op(alloc) {
-            Ok(Some(peeked)) => self.read(peeked),
+            Ok(Some(peeked)) => self.read(alloc, peeked),
             Ok(None) => self.handle_next(alloc),
             Err(WireError::ReadFault) => Ok(Played::Ended(self.end_link(alloc)?)),
             Err(WireError::NoMemory) => Err(NoMemory),
@@ -98,8 +115,9 @@ impl ConnectionHandler {
         Ok(mem::replace(&mut self.connection, Connection::new(alloc)))
     }
 
-    fn read(&mut self, peeked: Peeked) -> Result<Played, NoMemory>
+    fn read(&mut self, alloc: Global, peeked: Peeked) -> Result<Played, NoMemory>
         requires fits { peeked.len ≤ length self.old.wire.unread }
+        requires up { IsTrue self.old.is_up }
         requires front { front self.old.wire.unread ≡ got (op_view peeked.op) peeked.len }
         ensures ok { OnOk result (self.new ≡ after self.old (read (op_view peeked.op))) }
         ensures says { IfOk result (λ says. says ≡ played_by self.old (read (op_view peeked.op))) }
@@ -111,6 +129,15 @@ impl ConnectionHandler {
                 let delivery = self.deliver(sid, message)?;
                 self.connection.consume(len);
                 Ok(Played::Delivered(sid, delivery))
+            }
+            ServerOp::Ping => {
+                self.connection.enqueue_write_op(alloc, &ClientOp::Pong)?;
+                self.connection.consume(len);
+                Ok(Played::Read)
+            }
+            ServerOp::Ok | ServerOp::Pong => {
+                self.connection.consume(len);
+                Ok(Played::Read)
             }
         }
     }
@@ -140,8 +167,7 @@ impl ConnectionHandler {
         };
         // What waits was given a number.
         prove!(self.subscribed < self.subs.len());
-        let op = command_of(call, self.subscribed as u64 + 1)?;
-        self.connection.enqueue_write_op(alloc, &op)?;
+        write_call(&mut self.connection, alloc, call, self.subscribed as u64 + 1)?;
         self.subs.open(self.subscribed);
         self.subscribed += 1;
         self.calls.discard();
