@@ -1,5 +1,5 @@
 -- A script: a line of settings, then a line for each turn.
-use Rattle.std.specs.Prelude.{ℕ, suc, Bool, false, ◌&&◌, ◌==◌, nat_lt, List, [], ◌∷◌, Option, Some, None, Result, Ok, Err, option_and_then, if◌then◌else◌, codes}
+use Rattle.std.specs.Prelude.{ℕ, suc, Bool, true, false, ◌&&◌, ◌==◌, List, [], ◌∷◌, Option, Some, None, Result, Ok, Err, option_and_then, if◌then◌else◌, codes}
 use Rattle.std.specs.Option.{option_map}
 use Rattle.std.specs.List.{slice_split}
 use Rattle.std.specs.Str.{bytes_eq}
@@ -98,31 +98,20 @@ turn_of_fields (first ∷ fields) = turn_of (word_of first) fields
 abbrev pub turn_of_line : List ℕ → Option Turn
 turn_of_line line = turn_of_fields (fields_of line)
 
--- ---- what is read so far: one link, one subscription
+-- ---- what is built so far
 
--- the settings that a script may have so far
-abbrev pub fits_first_config : Config → Bool
-fits_first_config c = c.client_capacity == 2048 && c.subscription_capacity == 65536
+-- whether a turn can be played so far: a link of one greatest size alone, and a subscribe of a valid subject alone
+abbrev pub is_built : Turn → Bool
+is_built (Up info) = info.max_payload == 1048576
+is_built (Piece bytes) = true
+is_built (Write n) = true
+is_built (Do (Subscribe subject group)) = is_valid subject
+is_built (Take s) = true
 
--- the turn that line k may be so far: line 2 brings the link, line 3 subscribes, and every later line is one of the others
-abbrev pub fits_first_path : ℕ → Turn → Bool
-fits_first_path k (Up info) = k == 2 && info.max_payload == 1048576
-fits_first_path k (Do (Subscribe subject group)) = k == 3 && is_valid subject
-fits_first_path k (Piece bytes) = nat_lt 3 k
-fits_first_path k (Write n) = nat_lt 3 k
-fits_first_path k (Take s) = nat_lt 3 k && s == 1
-
--- whether a script may end before line k so far
-abbrev pub may_end_before : ℕ → Bool
-may_end_before k = nat_lt 3 k
-
-abbrev pub first_config : Option Config → Option Config
-first_config None = None
-first_config (Some config) = if fits_first_config config then Some config else None
-
-abbrev pub first_path : ℕ → Option Turn → Option Turn
-first_path k None = None
-first_path k (Some turn) = if fits_first_path k turn then Some turn else None
+-- the turn, where it can be played so far
+abbrev pub built_turn : Option Turn → Option Turn
+built_turn None = None
+built_turn (Some turn) = if is_built turn then Some turn else None
 
 -- ---- the whole
 
@@ -133,8 +122,8 @@ onto_turns k (Some turn) (Err line) = Err line
 
 -- the turns of the lines from line k on, or the number of the first that is none
 abbrev pub turns_from : ℕ → List (List ℕ) → Result (List Turn) ℕ
-turns_from k [] = if may_end_before k then Ok [] else Err k
-turns_from k (line ∷ lines) = onto_turns k (first_path k (turn_of_line line)) (turns_from (suc k) lines)
+turns_from k [] = Ok []
+turns_from k (line ∷ lines) = onto_turns k (built_turn (turn_of_line line)) (turns_from (suc k) lines)
 
 abbrev pub script_with : Config → Result (List Turn) ℕ → Script
 script_with config (Ok turns) = Good config turns
@@ -146,7 +135,7 @@ script_by (Some config) lines = script_with config (turns_from 2 lines)
 
 abbrev pub script_of_lines : List (List ℕ) → Script
 script_of_lines [] = Bad 1
-script_of_lines (line ∷ lines) = script_by (first_config (config_of_line line)) lines
+script_of_lines (line ∷ lines) = script_by (config_of_line line) lines
 
 -- what bytes say as a script: its settings and turns, or the number of its first line that cannot be read
 abbrev pub script : List ℕ → Script

@@ -29,6 +29,15 @@ fn source(alloc: Global, text: &str, most: usize) -> Result<MemorySource, NoMemo
     Ok(MemorySource::new(bytes, most))
 }
 
+/// The status that a script ends with, and what it prints.
+fn played(alloc: Global, text: &str) -> Result<(u8, MemorySink), NoMemory> {
+    let words = word(alloc, "run")?;
+    let mut source = source(alloc, text, 65_536)?;
+    let mut sink = MemorySink::new(alloc, 65_536);
+    let status = replay(alloc, words.as_slice(), &mut source, &mut sink);
+    Ok((status, sink))
+}
+
 /// A body that always answers want of memory meets every clause, and fails here.
 #[test]
 fn the_plain_path_prints_its_transcript(rt: HostRuntime) -> Result<(), Fail> {
@@ -45,13 +54,38 @@ fn the_plain_path_prints_its_transcript(rt: HostRuntime) -> Result<(), Fail> {
 
 #[test]
 fn a_turn_out_of_turn_is_refused(rt: HostRuntime) -> Result<(), Fail> {
-    let words = word(rt.alloc(), "run")?;
     let text = "config 2048 65536 check _INBOX MUX1\nup 1048576\nsub a ~\npiece a%0D%0A\npiece a\n";
-    let mut source = source(rt.alloc(), text, 65_536)?;
-    let mut sink = MemorySink::new(rt.alloc(), 65_536);
-    let status = replay(rt.alloc(), words.as_slice(), &mut source, &mut sink);
+    let (status, sink) = played(rt.alloc(), text)?;
     assert_eq!(rt; status, 6);
     assert!(rt; sink.bytes().is_empty());
+    Ok(())
+}
+
+#[test]
+fn a_second_link_is_out_of_turn(rt: HostRuntime) -> Result<(), Fail> {
+    let text = "config 2048 65536 check P X\nup 1048576\nup 1048576\n";
+    let (status, sink) = played(rt.alloc(), text)?;
+    assert_eq!(rt; status, 6);
+    assert!(rt; sink.bytes().is_empty());
+    Ok(())
+}
+
+#[test]
+fn a_line_in_no_form_prints_nothing(rt: HostRuntime) -> Result<(), Fail> {
+    let (status, sink) = played(rt.alloc(), "config 2048 65536 check P X\nbogus\n")?;
+    assert_eq!(rt; status, 5);
+    assert!(rt; sink.bytes().is_empty());
+    Ok(())
+}
+
+#[test]
+fn a_call_before_any_link_waits_for_it(rt: HostRuntime) -> Result<(), Fail> {
+    let text = "config 2048 65536 check _INBOX MUX1\nsub FOO.BAR ~\nup 1048576\nwrite 100\n";
+    let want = "link 1 up\nout SUB%20FOO.BAR%201%0D%0A\nleft %\nsub 1\n\
+event 2 connected\ncall 1 numbered 1\n";
+    let (status, sink) = played(rt.alloc(), text)?;
+    assert_eq!(rt; status, 0);
+    assert_eq!(rt; sink.bytes(), want.as_bytes());
     Ok(())
 }
 
@@ -111,59 +145,83 @@ fn other_words_are_called_unknown(rt: HostRuntime) -> Result<(), Fail> {
 }
 
 #[test]
+fn settings_in_no_form_are_found(rt: HostRuntime) -> Result<(), Fail> {
+    let table = [
+        "",
+        "\n",
+        "up 1048576\n",
+        "config 2048 check _INBOX MUX1\n",
+        "config 2048 65536 skip _INBOX MUX1\n",
+        "config 2048 65536 check %FF MUX1\n",
+        "config 2048 65536 check _INBOX MUX-1\n",
+    ];
+    for text in table {
+        let read = read_script(rt.alloc(), text.as_bytes())?;
+        assert!(rt; matches!(read, Script::Bad(1)), "{text:?}");
+    }
+    Ok(())
+}
+
+#[test]
 fn the_first_line_in_no_form_is_found(rt: HostRuntime) -> Result<(), Fail> {
     let table = [
-        ("", 1),
-        ("config 2048 65536 check _INBOX MUX1\n", 2),
-        ("config 2048 65536 check _INBOX MUX1\nup 1048576", 3),
+        "up 5",
+        "up 01048576",
+        "sub a..b ~",
+        "sub a q",
+        "pub a ~ x",
+        "piece %0d",
+        "piece %41",
+        "piece",
+        "",
+        "write  1",
+        "write 18446744073709551616",
+        "take 1 ",
+    ];
+    for line in table {
+        let mut text = String::from_str(
+            rt.alloc(),
+            "config 2048 65536 check _INBOX MUX1\nup 1048576\n",
+        )?;
+        text.push_str(line)?;
+        text.push_str("\nwrite 1\nbogus\n")?;
+        let read = read_script(rt.alloc(), text.as_bytes())?;
+        assert!(rt; matches!(read, Script::Bad(3)), "{line:?}");
+    }
+    Ok(())
+}
+
+#[test]
+fn turns_are_read_in_any_order(rt: HostRuntime) -> Result<(), Fail> {
+    let table = [
+        ("config 2048 65536 check _INBOX MUX1\n", 2048, 65_536, 0),
+        ("config 3 2 check _INBOX MUX1", 3, 2, 0),
         (
-            "config 2048 65536 check _INBOX MUX1\nup 01048576\nsub a ~\n",
-            2,
-        ),
-        ("config 2048 65536 check %FF MUX1\nup 1048576\nsub a ~\n", 1),
-        (
-            "config 2048 65536 check _INBOX MUX-1\nup 1048576\nsub a ~\n",
+            "config 0 18446744073709551615 check _INBOX MUX1\nup 1048576\n",
+            0,
+            u64::MAX,
             1,
         ),
         (
-            "config 2048 65536 check _INBOX MUX1\nup 1048576\nsub a..b ~\n",
+            "config 1 1 check _INBOX MUX1\nsub a ~\nsub a.* ~\n",
+            1,
+            1,
+            2,
+        ),
+        (
+            "config 2 3 check _INBOX MUX1\ntake 7\nwrite 0\npiece %\nup 1048576\nup 1048576\n",
+            2,
             3,
-        ),
-        (
-            "config 2048 65536 check _INBOX MUX1\nup 1048576\nsub a ~\npiece %0d\n",
-            4,
-        ),
-        (
-            "config 2048 65536 check _INBOX MUX1\nup 1048576\nsub a ~\npiece %41\n",
-            4,
-        ),
-        (
-            "config 2048 65536 check _INBOX MUX1\nup 1048576\nsub a ~\npiece\n",
-            4,
-        ),
-        (
-            "config 2048 65536 check _INBOX MUX1\nup 1048576\nsub a ~\n\nwrite 1\n",
-            4,
-        ),
-        (
-            "config 2048 65536 check _INBOX MUX1\nup 1048576\nsub a ~\nwrite 1\nwrite  1\n",
             5,
         ),
-        (
-            "config 2048 65536 check _INBOX MUX1\nup 1048576\nsub a ~\nwrite 18446744073709551616\n",
-            4,
-        ),
-        (
-            "config 2048 65536 check _INBOX MUX1\nup 1048576\nsub a ~\ntake 1 ",
-            4,
-        ),
     ];
-    for (text, want) in table {
-        let read = read_script(rt.alloc(), text.as_bytes())?;
-        assert!(rt;
-            matches!(read, Script::Bad(line) if line == want),
-            "{text:?}"
-        );
+    for (text, clients, messages, count) in table {
+        let Script::Good { config, turns } = read_script(rt.alloc(), text.as_bytes())? else {
+            panic!(rt; "{text:?} has a line in no form");
+        };
+        assert_eq!(rt; config.client_capacity, clients, "{text:?}");
+        assert_eq!(rt; config.subscription_capacity, messages, "{text:?}");
+        assert_eq!(rt; turns.as_slice().len(), count, "{text:?}");
     }
     Ok(())
 }
