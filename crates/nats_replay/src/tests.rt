@@ -90,6 +90,44 @@ event 2 connected\ncall 1 numbered 1\n";
 }
 
 #[test]
+fn a_full_queue_drops_what_comes_and_takes_again_after_a_take(rt: HostRuntime) -> Result<(), Fail> {
+    let text = "config 2048 1 check _INBOX MUX1\nup 1048576\nsub a ~\n\
+piece MSG%20a%201%201%0D%0A1%0D%0AMSG%20a%201%201%0D%0A2%0D%0AMSG%20a%201%201%0D%0A3%0D%0A\n\
+take 1\npiece MSG%20a%201%201%0D%0A4%0D%0A\n";
+    let want = "link 1 up\nout %\nleft SUB%20a%201%0D%0A\nsub 1\nput 3 a ~ 1 ~ ~ 2 ~\nput 5 a ~ 4 ~ ~ 2 ~\n\
+drop 3 a ~ 2 ~ ~ 2 ~\ndrop 3 a ~ 3 ~ ~ 2 ~\ntake 4 message a ~ 1 ~ ~ 2 ~\nevent 1 connected\n\
+event 3 slow%20consumers%20for%20subscription%201\nevent 3 slow%20consumers%20for%20subscription%201\n\
+call 2 numbered 1\n";
+    let (status, sink) = played(rt.alloc(), text)?;
+    assert_eq!(rt; status, 0);
+    assert_eq!(rt; sink.bytes(), want.as_bytes());
+    Ok(())
+}
+
+#[test]
+fn a_line_that_is_no_operation_ends_the_link(rt: HostRuntime) -> Result<(), Fail> {
+    let text = "config 2048 65536 check _INBOX MUX1\nup 1048576\npiece ONE%0D%0APING%0D%0A\n";
+    let want = "link 1 fault\nout %\nleft %\nevent 1 connected\nevent 2 disconnected\n";
+    let (status, sink) = played(rt.alloc(), text)?;
+    assert_eq!(rt; status, 0);
+    assert_eq!(rt; sink.bytes(), want.as_bytes());
+    Ok(())
+}
+
+#[test]
+fn a_ping_is_answered_and_two_subscriptions_keep_apart(rt: HostRuntime) -> Result<(), Fail> {
+    let text = "config 2048 65536 check _INBOX MUX1\nup 1048576\nsub a ~\nsub b ~\n\
+piece PING%0D%0AMSG%20b%202%202%0D%0Ahi%0D%0A\nwrite 9\ntake 1\ntake 2\n";
+    let want = "link 1 up\nout SUB%20a%201%0D%0A\nleft SUB%20b%202%0D%0APONG%0D%0A\n\
+sub 1\ntake 6 empty\nsub 2\nput 4 b ~ hi ~ ~ 3 ~\ntake 7 message b ~ hi ~ ~ 3 ~\n\
+event 1 connected\ncall 2 numbered 1\ncall 3 numbered 2\n";
+    let (status, sink) = played(rt.alloc(), text)?;
+    assert_eq!(rt; status, 0);
+    assert_eq!(rt; sink.bytes(), want.as_bytes());
+    Ok(())
+}
+
+#[test]
 fn a_sink_that_fails_leaves_a_first_part(rt: HostRuntime) -> Result<(), Fail> {
     let words = word(rt.alloc(), "run")?;
     let mut source = source(rt.alloc(), SCRIPT, 65_536)?;
