@@ -6,7 +6,7 @@ use Rattle.nats_names.specs.declared.event.Event.{Event}
 use Rattle.nats_wire.specs.Operations.{Operation, message, ok_op, ping_op, pong_op, Front, got, unfinished, fault, front, past}
 use Rattle.nats_wire.proofs.Fronts.{front_takes, front_fits}
 use Rattle.nats_session.specs.declared.call.Call.{Call}
-use Rattle.nats_session.specs.declared.call.Call.TheVariants.{Subscribe}
+use Rattle.nats_session.specs.declared.call.Call.TheVariants.{Publish, Subscribe}
 use Rattle.nats_session.specs.declared.transcript.LinkWord.TheVariants as word
 use Rattle.nats_session.specs.History.{Step, opened, fed, read, taken, accepted, handled, took, link_end}
 use Rattle.nats_session.specs.Parts.{Parts, after}
@@ -43,6 +43,7 @@ read_falls p pong_op n e =
     rw (e, length-drop) (omega (arith, some, fits))
 
 handled_falls : (p : Parts) (call : Call) (more : List Call) → p.calls ≡ call ∷ more → due_bound (after p (handled call)) < due_bound p
+handled_falls p (Publish m) more e = rw e (omega arith)
 handled_falls p (Subscribe subject group) more e = rw e (omega arith)
 
 pub bound_falls : (p : Parts) (step : Step) → due p ≡ Some step → due_bound (after p step) < due_bound p
@@ -102,6 +103,8 @@ after_events events p (read ok_op) = refl
 after_events events p (read ping_op) = refl
 after_events events p (read pong_op) = refl
 after_events events p (taken n) = refl
+after_events events p (accepted (Publish m)) = refl
+after_events events p (handled (Publish m)) = refl
 after_events events p (accepted (Subscribe subject group)) = refl
 after_events events p (handled (Subscribe subject group)) = refl
 after_events events p (took sid) = refl

@@ -8,7 +8,7 @@ use Rattle.nats_names.specs.declared.event.Event.{Event}
 use Rattle.nats_wire.specs.declared.message.Message.{Message}
 use Rattle.nats_session.specs.declared.config.Config.{Config}
 use Rattle.nats_session.specs.declared.call.Call.{Call}
-use Rattle.nats_session.specs.declared.call.Call.TheVariants.{Subscribe}
+use Rattle.nats_session.specs.declared.call.Call.TheVariants.{Publish, Subscribe}
 use Rattle.nats_session.specs.declared.call.CallReply.{CallReply}
 use Rattle.nats_session.specs.declared.call.TakeReply.{TakeReply}
 use Rattle.nats_session.specs.declared.turn.Turn.TheVariants.{Do}
@@ -21,15 +21,23 @@ use Rattle.nats_session.specs.Delivery.{delivery, delivery_at}
 use Rattle.nats_session.specs.History.{Step, History, took, handled, accepted, events_by, at_place, events}
 use Rattle.nats_session.specs.Parts.{Sub, Parts, parts_of, StandsFor, at_index, at_number, item_of, take_from, open_sub, sub_has_room, deliver, after}
 use Rattle.nats_session.specs.Schedule.{is_full, oldest, take_reply_of, take_reply, took_step, own_steps, after_all, put_steps, due_call, write_limit}
-use Rattle.nats_session.specs.Handler.{subscribes, LeadTo, Submits, command_of, PlaysDue, list_of}
+use Rattle.nats_session.specs.Handler.{is_subscribe, subscribes, LeadTo, Submits, command_of, PlaysDue, list_of}
 use Rattle.std.proofs.lemmas.List.{length-append}
 use Rattle.std.proofs.lemmas.Result.{on_ok_weaker}
 use Rattle.nats_session.proofs.Refines.{sub_with, parts_after}
 use Rattle.nats_session.proofs.Tables.{length-at_number}
 
-pub subscribes_more : (calls : List Call) (call : Call) → subscribes (calls ++ call ∷ []) ≡ suc (subscribes calls)
-subscribes_more [] (Subscribe subject group) = refl
-subscribes_more (Subscribe subject group ∷ calls) call = ap suc (subscribes_more calls call)
+pub subscribes_more : (calls : List Call) (call : Call) → is_subscribe call ≡ true → subscribes (calls ++ call ∷ []) ≡ suc (subscribes calls)
+subscribes_more [] (Subscribe subject group) e = refl
+subscribes_more [] (Publish m) e = absurd (false≢true e)
+subscribes_more (Subscribe subject group ∷ calls) call e = ap suc (subscribes_more calls call e)
+subscribes_more (Publish m ∷ calls) call e = subscribes_more calls call e
+
+pub subscribes_same : (calls : List Call) (call : Call) → is_subscribe call ≡ false → subscribes (calls ++ call ∷ []) ≡ subscribes calls
+subscribes_same [] (Publish m) e = refl
+subscribes_same [] (Subscribe subject group) e = absurd (false≢true (sym e))
+subscribes_same (Subscribe subject group ∷ calls) call e = ap suc (subscribes_same calls call e)
+subscribes_same (Publish m ∷ calls) call e = subscribes_same calls call e
 
 -- ---- a take where nothing waits changes nothing
 
@@ -79,16 +87,30 @@ unchanged p subs events a b = rw (a, b) refl
 
 -- ---- a call that is handled
 
-pub handled_one : (calls : List Call) (call : Call) → Some call ≡ first calls → subscribes calls ≡ suc (subscribes (drop 1 calls))
-handled_one [] call e = cc
-handled_one (Subscribe subject group ∷ calls) call e = refl
+pub handled_one : (calls : List Call) (call : Call) → Some call ≡ first calls → is_subscribe call ≡ true → subscribes calls ≡ suc (subscribes (drop 1 calls))
+handled_one [] call e is = cc
+handled_one (Subscribe subject group ∷ calls) call e is = refl
+handled_one (Publish m ∷ calls) call e is =
+    absurd (false≢true (ap is_subscribe (same_Some (Publish m) call (sym e)) ∙ is))
 
-pub handled_makes : (p : Parts) (call : Call) → p.is_up ≡ true → p.subscribed < length p.subs
+pub handled_none : (calls : List Call) (call : Call) → Some call ≡ first calls → is_subscribe call ≡ false → subscribes calls ≡ subscribes (drop 1 calls)
+handled_none [] call e is = cc
+handled_none (Publish m ∷ calls) call e is = refl
+handled_none (Subscribe subject group ∷ calls) call e is =
+    absurd (false≢true (sym (ap is_subscribe (same_Some (Subscribe subject group) call (sym e)) ∙ is)))
+
+pub handled_makes : (p : Parts) (call : Call) → p.is_up ≡ true → is_subscribe call ≡ true → p.subscribed < length p.subs
     → record p { wire = record p.wire { waiting = p.wire.waiting ++ command_text (command_of call (p.subscribed + 1)) }; calls = drop 1 p.calls; subs = at_index p.subscribed open_sub p.subs; subscribed = p.subscribed + 1 } ≡ after p (handled call)
-handled_makes p (Subscribe subject group) up less =
+handled_makes p (Subscribe subject group) up is less =
     let next : p.subscribed + 1 ≡ suc p.subscribed = omega arith in
     let kept : min (suc p.subscribed) (length p.subs) ≡ suc p.subscribed = omega arith in
     rw (up, kept, next) refl
+handled_makes p (Publish m) up is less = absurd (false≢true is)
+
+pub published_makes : (p : Parts) (call : Call) (sid : ℕ) → p.is_up ≡ true → is_subscribe call ≡ false
+    → record p { wire = record p.wire { waiting = p.wire.waiting ++ command_text (command_of call sid) }; calls = drop 1 p.calls } ≡ after p (handled call)
+published_makes p (Publish m) sid up is = rw up refl
+published_makes p (Subscribe subject group) sid up is = absurd (false≢true (sym is))
 
 pub handled_plays : (p new : Parts) (call : Call) → nat_le 65535 (length p.wire.waiting) ≡ false → Some call ≡ first p.calls → new ≡ after p (handled call) → PlaysDue (due_call (nat_lt (length p.wire.waiting) write_limit) p.calls) p played.Handled new
 handled_plays p new call room e makes =

@@ -12,7 +12,7 @@ use Rattle.nats_wire.specs.Commands.{command_text}
 use Rattle.nats_wire.specs.Operations.{Operation, message, ok_op, ping_op, pong_op, Front, got, unfinished, fault, front, past, behind}
 use Rattle.nats_session.specs.declared.config.Config.{Config}
 use Rattle.nats_session.specs.declared.call.Call.{Call}
-use Rattle.nats_session.specs.declared.call.Call.TheVariants.{Subscribe}
+use Rattle.nats_session.specs.declared.call.Call.TheVariants.{Publish, Subscribe}
 use Rattle.nats_session.specs.History.{Step, opened, fed, read, taken, accepted, handled, took, link_end, History, links, is_up, joined, is_got, reads, unread, calls, handled_count, waiting_calls, given, subscribed, Told, nothing_told, concerns, waiting, has_room, puts_by, told_after, told, count_from, numbers, texts, commands, link_text, taken_count, waiting_bytes, drops_by, slow_events, events_by, at_place, events}
 use Rattle.nats_session.specs.Parts.{Sub, Parts, second, sub_of, subs_of, parts_of, at_number, item_of, new_sub, open_sub, deliver, sub_drops, drop_events, take_from, after}
 use Rattle.nats_session.proofs.Words.{drop_one_more, drop_more_of, calls_accepted, unread_read, unread_fed, waiting_written}
@@ -225,6 +225,10 @@ parts_after c handed h place (taken n) fits =
     same_made c _ _ _ _ _ _ _ _ _ _ _ _ _ _ refl (taken_after (is_up h) (taken_count h) n (link_text h)) refl refl refl (uneventful c handed h)
 parts_after c handed h place (accepted (Subscribe subject group)) fits =
     same_made c _ _ _ _ _ _ _ _ _ _ _ _ _ _ refl (unwritten h) (calls_accepted h (Subscribe subject group)) (subs_accepted c place subject group h) refl (uneventful c handed h)
+parts_after c handed h place (accepted (Publish m)) fits =
+    same_made c _ _ _ _ _ _ _ _ _ _ _ _ _ _ refl (unwritten h) (calls_accepted h (Publish m)) refl refl (uneventful c handed h)
+parts_after c handed h place (handled (Publish m)) fits =
+    same_made c _ _ _ _ _ _ _ _ _ _ _ _ _ _ refl (written h (command_text (client.Publish m.subject m.payload m.reply))) (drop_one_more (handled_count h) (calls h)) refl refl (uneventful c handed h)
 parts_after c handed h place (handled (Subscribe subject group)) fits =
     same_made c _ _ _ _ _ _ _ _ _ _ _ _ _ _ refl (written h (command_text (client.Subscribe (suc (subscribed h)) subject group))) (drop_one_more (handled_count h) (calls h)) (subs_opened c place subject group h) (ap (min (suc (subscribed h))) (sym (length-subs c h))) (uneventful c handed h)
 parts_after c handed h place (took sid) fits =

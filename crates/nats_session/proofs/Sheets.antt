@@ -7,7 +7,7 @@ use Rattle.nats_wire.specs.declared.message.Message.{Message}
 use Rattle.nats_wire.specs.Operations.{message, ok_op, ping_op, pong_op}
 use Rattle.nats_session.specs.declared.config.Config.{Config}
 use Rattle.nats_session.specs.declared.call.Call.{Call}
-use Rattle.nats_session.specs.declared.call.Call.TheVariants.{Subscribe}
+use Rattle.nats_session.specs.declared.call.Call.TheVariants.{Publish, Subscribe}
 use Rattle.nats_session.specs.declared.call.TakeReply.{TakeReply}
 use Rattle.nats_session.specs.declared.call.CallReply.{CallReply}
 use Rattle.nats_session.specs.declared.transcript.LinkWord.{LinkWord}
@@ -140,6 +140,8 @@ sheet_after c n h answers place (read pong_op) named up =
     same_sheet _ _ _ _ _ _ _ _ refl (taken_kept h (texts (commands h (read pong_op)))) refl
 sheet_after c n h answers place (taken k) named up =
     same_sheet _ _ _ _ _ _ _ _ refl (more_taken (is_up h) (taken_count h) k (link_text h)) refl
+sheet_after c n h answers place (accepted (Publish m)) named up =
+    same_sheet _ _ _ _ _ _ _ _ refl (taken_kept h []) refl
 sheet_after c n h answers place (accepted (Subscribe subject group)) named up =
     same_sheet _ _ _ _ _ _ _ _ refl (taken_kept h []) (rows_accepted c h answers place subject group named)
 sheet_after c n h answers place (handled call) named up =

@@ -8,7 +8,7 @@ use Rattle.nats_wire.specs.Operations.{message}
 use Rattle.nats_wire.specs.Wire.{fresh}
 use Rattle.nats_session.specs.declared.config.Config.{Config}
 use Rattle.nats_session.specs.declared.call.Call.{Call}
-use Rattle.nats_session.specs.declared.call.Call.TheVariants.{Subscribe}
+use Rattle.nats_session.specs.declared.call.Call.TheVariants.{Publish, Subscribe}
 use Rattle.nats_session.specs.declared.call.CallReply.{CallReply}
 use Rattle.nats_session.specs.declared.turn.Turn.{Turn}
 use Rattle.nats_session.specs.declared.turn.Due.{Due}
@@ -35,9 +35,15 @@ idle c = record {
   events = [];
 }
 
+-- a call that gets a number
+abbrev pub is_subscribe : Call → Bool
+is_subscribe (Publish m) = false
+is_subscribe (Subscribe subject group) = true
+
 -- how many of the calls are subscribes
 abbrev pub subscribes : List Call → ℕ
 subscribes [] = 0
+subscribes (Publish m ∷ calls) = subscribes calls
 subscribes (Subscribe subject group ∷ calls) = suc (subscribes calls)
 
 -- a turn may be played: it may come here and no step is due
@@ -97,6 +103,7 @@ abbrev pub Submits : Parts → Call → Result CallReply Call → Parts → Type
 Submits old call (Ok reply) new = (reply ≡ call_reply old call) × (new ≡ (if is_full old then old else after old (accepted call)))
 Submits old call (Err back) new = (back ≡ call) × (new ≡ old)
 
--- the command that a handled call writes
+-- the command that a handled call writes; a subscribe has this number
 abbrev pub command_of : Call → ℕ → ClientOp
+command_of (Publish m) sid = client.Publish m.subject m.payload m.reply
 command_of (Subscribe subject group) sid = client.Subscribe sid subject group

@@ -10,7 +10,7 @@ use Rattle.nats_wire.specs.Operations.{Operation, message, ping_op, Front, got, 
 use Rattle.nats_wire.specs.Commands.{command_text}
 use Rattle.nats_session.specs.declared.config.Config.{Config}
 use Rattle.nats_session.specs.declared.call.Call.{Call}
-use Rattle.nats_session.specs.declared.call.Call.TheVariants.{Subscribe}
+use Rattle.nats_session.specs.declared.call.Call.TheVariants.{Publish, Subscribe}
 use Rattle.nats_session.specs.declared.transcript.LinkWord.{LinkWord}
 use Rattle.nats_session.specs.declared.transcript.LinkWord.TheVariants.{Up, Fault}
 
@@ -190,6 +190,7 @@ numbers h = count_from 1 (given h)
 -- the commands that a step writes after a history
 abbrev pub commands : History → Step → List ClientOp
 commands h (handled (Subscribe subject group)) = client.Subscribe (suc (subscribed h)) subject group ∷ []
+commands h (handled (Publish m)) = client.Publish m.subject m.payload m.reply ∷ []
 commands h (read ping_op) = client.Pong ∷ []
 commands h step = []
 

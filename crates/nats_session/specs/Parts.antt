@@ -9,7 +9,7 @@ use Rattle.nats_wire.specs.Commands.{command_text}
 use Rattle.nats_wire.specs.Wire.{Wire, fresh}
 use Rattle.nats_session.specs.declared.config.Config.{Config}
 use Rattle.nats_session.specs.declared.call.Call.{Call}
-use Rattle.nats_session.specs.declared.call.Call.TheVariants.{Subscribe}
+use Rattle.nats_session.specs.declared.call.Call.TheVariants.{Publish, Subscribe}
 use Rattle.nats_session.specs.declared.transcript.LinkWord.{LinkWord}
 use Rattle.nats_session.specs.History.{Step, opened, fed, read, taken, accepted, handled, took, link_end, History, cut, links, is_up, unread, waiting_calls, subscribed, Told, told, waiting, numbers, waiting_bytes, end_events, events}
 
@@ -109,12 +109,18 @@ abbrev pub while_up : Parts → List ℕ → List ℕ
 while_up p bytes = if p.is_up then bytes else []
 
 abbrev pub call_text : ℕ → Call → List ℕ
+call_text subscribed (Publish m) = command_text (client.Publish m.subject m.payload m.reply)
 call_text subscribed (Subscribe subject group) = command_text (client.Subscribe (suc subscribed) subject group)
 
 abbrev pub after_accepted : Call → Parts → Parts
+after_accepted (Publish m) p = record p { calls = p.calls ++ Publish m ∷ [] }
 after_accepted (Subscribe subject group) p = record p { calls = p.calls ++ Subscribe subject group ∷ []; subs = p.subs ++ new_sub ∷ [] }
 
 abbrev pub after_handled : Call → Parts → Parts
+after_handled (Publish m) p = record p {
+  wire = record p.wire { waiting = while_up p (p.wire.waiting ++ call_text p.subscribed (Publish m)) };
+  calls = drop 1 p.calls;
+}
 after_handled (Subscribe subject group) p = record p {
   wire = record p.wire { waiting = while_up p (p.wire.waiting ++ call_text p.subscribed (Subscribe subject group)) };
   calls = drop 1 p.calls;
@@ -129,10 +135,12 @@ after_read (message sid m) p = record p {
   subs = at_number sid (deliver p.config m) p.subs;
   events = p.events ++ drop_events p.config sid (item_of sid p.subs);
 }
-after_read ping_op p = record p { wire = record {
-  unread = past (front p.wire.unread) p.wire.unread;
-  waiting = while_up p (p.wire.waiting ++ command_text client.Pong);
-} }
+after_read ping_op p = record p {
+  wire = record {
+    unread = past (front p.wire.unread) p.wire.unread;
+    waiting = while_up p (p.wire.waiting ++ command_text client.Pong);
+  };
+}
 after_read ok_op p = record p { wire = record p.wire { unread = past (front p.wire.unread) p.wire.unread } }
 after_read pong_op p = record p { wire = record p.wire { unread = past (front p.wire.unread) p.wire.unread } }
 

@@ -5,10 +5,10 @@ use Rattle.nats_wire.specs.Operations.{Front, unfinished, got, fault, front}
 use Rattle.nats_session.specs.declared.config.Config.{Config}
 use Rattle.nats_session.specs.declared.call.Call.{Call}
 use Rattle.nats_session.specs.declared.call.CallReply.{CallReply}
-use Rattle.nats_session.specs.declared.call.CallReply.TheVariants.{Numbered, Full}
+use Rattle.nats_session.specs.declared.call.CallReply.TheVariants.{Accepted, Numbered, Full}
 use Rattle.nats_session.specs.declared.call.TakeReply.{TakeReply}
 use Rattle.nats_session.specs.declared.call.TakeReply.TheVariants as takes
-use Rattle.nats_session.specs.declared.call.Call.TheVariants.{Subscribe}
+use Rattle.nats_session.specs.declared.call.Call.TheVariants.{Publish, Subscribe}
 use Rattle.nats_session.specs.declared.turn.Turn.{Turn}
 use Rattle.nats_session.specs.declared.turn.Turn.TheVariants.{Up, Piece, Write, Do, Take}
 use Rattle.nats_session.specs.declared.transcript.LinkWord.TheVariants as word
@@ -23,6 +23,7 @@ is_full p = nat_le p.config.client_capacity (length p.calls)
 
 -- the reply of a call that was accepted
 abbrev pub accepted_reply : Parts → Call → CallReply
+accepted_reply p (Publish m) = Accepted
 accepted_reply p (Subscribe subject group) = Numbered (suc (length p.subs))
 
 abbrev pub call_reply : Parts → Call → CallReply

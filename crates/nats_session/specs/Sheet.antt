@@ -5,7 +5,7 @@ use Rattle.nats_wire.specs.declared.message.Message.{Message}
 use Rattle.nats_wire.specs.Operations.{message}
 use Rattle.nats_session.specs.declared.config.Config.{Config}
 use Rattle.nats_session.specs.declared.call.Call.{Call}
-use Rattle.nats_session.specs.declared.call.Call.TheVariants.{Subscribe}
+use Rattle.nats_session.specs.declared.call.Call.TheVariants.{Publish, Subscribe}
 use Rattle.nats_session.specs.declared.call.CallReply.{CallReply}
 use Rattle.nats_session.specs.declared.call.TakeReply.{TakeReply}
 use Rattle.nats_session.specs.declared.transcript.LinkWord.{LinkWord}
@@ -66,6 +66,7 @@ write_delivery place sid m (Dropped dropped) rows = at_number sid (write_drop pl
 write_delivery place sid m Ignored rows = rows
 
 abbrev pub write_accepted : Call → List SubRow → List SubRow
+write_accepted (Publish m) rows = rows
 write_accepted (Subscribe subject group) rows = rows ++ new_row ∷ []
 
 abbrev pub taken_bytes : Parts → ℕ → List ℕ → List ℕ

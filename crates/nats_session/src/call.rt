@@ -1,11 +1,14 @@
 //! What a user asks of a session, and what it answers.
 ghost use Rattle.std.specs.Prelude.{◌≡◌, IfOk};
+ghost use Rattle.nats_session.specs.Handler.{is_subscribe};
 
-use nats_wire::{Message, NoMemory, Subject, copy_subject};
+use nats_wire::{Message, NoMemory, OutboundMessage, Subject, copy_subject};
 
 /// What a user asks of a session.
 #[derive(Drop)]
 pub enum Call {
+    /// A message for the subscribers of its subject.
+    Publish(OutboundMessage),
     /// A subscription to `subject`, shared with the others of the queue group where one is given.
     Subscribe {
         subject: Subject,
@@ -16,6 +19,8 @@ pub enum Call {
 /// The answer to a call.
 #[derive(Drop)]
 pub enum CallReply {
+    /// The call was accepted.
+    Accepted,
     /// The call was accepted, and this is the number that it gave, from 1.
     Numbered(u64),
     /// As many accepted calls wait as the client capacity: nothing changed.
@@ -32,11 +37,19 @@ pub enum TakeReply {
 }
 
 impl Call {
+    /// Whether it is a subscribe, which gets a number.
+    pub(crate) fn is_subscribe(&self) -> bool
+        ensures { result ≡ is_subscribe self.now }
+    {
+        matches!(self, Call::Subscribe { .. })
+    }
+
     /// An equal call, which shares its bytes.
     pub fn copy(&self) -> Result<Call, NoMemory>
         ensures { IfOk result (λ c. c ≡ self.now) }
     {
         match self {
+            Call::Publish(message) => Ok(Call::Publish(message.copy()?)),
             Call::Subscribe {
                 subject,
                 queue_group,
@@ -54,6 +67,7 @@ impl CallReply {
         ensures { IfOk result (λ r. r ≡ self.now) }
     {
         match self {
+            CallReply::Accepted => Ok(CallReply::Accepted),
             CallReply::Numbered(number) => Ok(CallReply::Numbered(*number)),
             CallReply::Full => Ok(CallReply::Full),
         }

@@ -90,6 +90,10 @@ fn play_call(
 {
     match handler.play_call(alloc, call.copy()?) {
         Ok(CallReply::Full) => draft.note_call(place, CallReply::Full),
+        Ok(CallReply::Accepted) => {
+            draft.note_events(place, handler)?;
+            draft.note_call(place, CallReply::Accepted)
+        }
         Ok(CallReply::Numbered(number)) => {
             draft.add_sub(alloc)?;
             draft.note_events(place, handler)?;

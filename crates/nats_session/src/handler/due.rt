@@ -62,6 +62,11 @@ fn command_of(call: &Call, sid: u64) -> Result<ClientOp, NoMemory>
     ensures { IfOk result (λ op. op ≡ command_of call.now sid) }
 {
     match call {
+        Call::Publish(message) => Ok(ClientOp::Publish {
+            subject: message.subject.copy()?,
+            payload: message.payload.clone()?,
+            respond: copy_subject(&message.reply)?,
+        }),
         Call::Subscribe {
             subject,
             queue_group,
@@ -165,9 +170,19 @@ impl ConnectionHandler {
         let Some(call) = self.calls.front() else {
             return Ok(Played::Nothing);
         };
+        if !call.is_subscribe() {
+            write_call(&mut self.connection, alloc, call, 0)?;
+            self.calls.discard();
+            return Ok(Played::Handled);
+        }
         // What waits was given a number.
         prove!(self.subscribed < self.subs.len());
-        write_call(&mut self.connection, alloc, call, self.subscribed as u64 + 1)?;
+        write_call(
+            &mut self.connection,
+            alloc,
+            call,
+            self.subscribed as u64 + 1,
+        )?;
         self.subs.open(self.subscribed);
         self.subscribed += 1;
         self.calls.discard();

@@ -66,8 +66,12 @@ impl ConnectionHandler {
         if self.calls.len() as u64 >= self.config.client_capacity {
             return Ok(CallReply::Full);
         }
+        let is_subscribe = call.is_subscribe();
         if let Err(refused) = self.calls.push(call) {
             return Err(refused.value);
+        }
+        if !is_subscribe {
+            return Ok(CallReply::Accepted);
         }
         match self.subs.give(alloc) {
             Ok(()) => Ok(CallReply::Numbered(self.subs.len() as u64)),

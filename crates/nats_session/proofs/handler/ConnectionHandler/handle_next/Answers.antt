@@ -1,5 +1,5 @@
 -- One call less waits, and one subscription more is subscribed.
-use Rattle.std.proofs.Common.{◌≡◌, arith}
+use Rattle.std.proofs.Common.{◌≡◌, sym, arith}
 use Rattle.nats_session.specs.Parts.{Sub, open_sub}
 use Rattle.nats_session.proofs.Tables.{length-at_index}
 use Rattle.nats_session.proofs.Handlers.{handled_one}
@@ -7,5 +7,5 @@ use Rattle.nats_session.proofs.handler.ConnectionHandler.handle_next.Goals as go
 
 pub invariant_of-self-2 : goal.invariant_of-self-2
 invariant_of-self-2 c =
-    let one = handled_one c.self.inside.calls c.in-Some.call.now c.in-Some.ensures in
-    rw (c.discard.ensures, c.open.ensures, length-at_index) (omega (arith, one, c.self.invariant))
+    let one = handled_one c.self.inside.calls c.in-Some.call.now c.in-Some.ensures (sym c.if-not-is_subscribe.ensures) in
+    rw (c.discard-2.ensures, c.open.ensures, length-at_index) (omega (arith, one, c.self.invariant))
