@@ -1,7 +1,9 @@
 //! What is counted of a transcript.
-ghost use Rattle.std.specs.Prelude.{◌≡◌, length};
+ghost use Rattle.std.specs.Prelude.{◌≡◌, ◌-◌, ◌^◌, length, min};
+ghost use Rattle.std.specs.List.{sum_by};
+ghost use Rattle.nats_session.specs.declared.transcript.SubRow.{SubRow};
 
-use nats_session::{SubRow, Transcript};
+use nats_session::Transcript;
 use std::fmt;
 
 /// How much of each kind a played list of turns showed.
@@ -21,39 +23,29 @@ pub struct Counts {
     pub calls: usize,
 }
 
-fn puts(rows: &[SubRow]) -> usize {
-    rows.iter().fold(0, |sum: usize, row| {
-        sum.saturating_add(row.puts.as_slice().len())
-    })
-}
-
-fn takes(rows: &[SubRow]) -> usize {
-    rows.iter().fold(0, |sum: usize, row| {
-        sum.saturating_add(row.takes.as_slice().len())
-    })
-}
-
-fn drops(rows: &[SubRow]) -> usize {
-    rows.iter().fold(0, |sum: usize, row| {
-        sum.saturating_add(row.drops.as_slice().len())
-    })
-}
-
-/// The counts of the transcript of `turns` turns.
+/// The counts of the transcript of `turns` turns. A sum that would not fit is cut to the greatest number.
 pub fn counts_of(turns: usize, transcript: &Transcript) -> Counts
     ensures turns { result.turns ≡ turns }
+    ensures puts { result.puts ≡ min (sum_by (λ (row : SubRow). length row.puts) transcript.now.subs) (2 ^ 64 - 1) }
+    ensures takes { result.takes ≡ min (sum_by (λ (row : SubRow). length row.takes) transcript.now.subs) (2 ^ 64 - 1) }
+    ensures drops { result.drops ≡ min (sum_by (λ (row : SubRow). length row.drops) transcript.now.subs) (2 ^ 64 - 1) }
     ensures events { result.events ≡ length transcript.now.events }
     ensures calls { result.calls ≡ length transcript.now.calls }
 {
-    let rows = transcript.subs.as_slice();
-    Counts {
+    let mut counts = Counts {
         turns,
-        puts: puts(rows),
-        takes: takes(rows),
-        drops: drops(rows),
+        puts: 0,
+        takes: 0,
+        drops: 0,
         events: transcript.events.as_slice().len(),
         calls: transcript.calls.as_slice().len(),
+    };
+    for row in transcript.subs.as_slice() {
+        counts.puts = counts.puts.saturating_add(row.puts.as_slice().len());
+        counts.takes = counts.takes.saturating_add(row.takes.as_slice().len());
+        counts.drops = counts.drops.saturating_add(row.drops.as_slice().len());
     }
+    counts
 }
 
 /// Prints a line for each count.

@@ -1,5 +1,7 @@
 //! The list of turns that is played.
-ghost use Rattle.std.specs.Prelude.{◌≡◌, ◌<◌, length, IfOk};
+ghost use Rattle.std.specs.Prelude.{◌≡◌, ◌<◌, ◌++◌, length, codes, decimal, IfOk, None};
+ghost use Rattle.nats_session.specs.declared.call.Call.TheVariants as calls;
+ghost use Rattle.nats_session.specs.declared.turn.Turn.TheVariants as turns;
 
 use nats_session::{Bytes, Call, NoMemory, ServerInfo, Subject, Turn};
 use std::alloc::Global;
@@ -10,7 +12,9 @@ const SUBSCRIPTIONS: u64 = 100;
 /// How many bytes the link takes at a time.
 const WRITTEN: u64 = 64;
 
-fn subscribe(alloc: Global, number: u64) -> Result<Turn, NoMemory> {
+fn subscribe(alloc: Global, number: u64) -> Result<Turn, NoMemory>
+    ensures { IfOk result (λ turn. turn ≡ turns.Do (calls.Subscribe (codes "bench." ++ decimal number) None)) }
+{
     let subject = format!(in alloc; "bench.{number}")?;
     Ok(Turn::Do(Call::Subscribe {
         subject: Subject::from_text(alloc, subject.as_str())?,
@@ -18,7 +22,10 @@ fn subscribe(alloc: Global, number: u64) -> Result<Turn, NoMemory> {
     }))
 }
 
-fn message(alloc: Global, number: u64) -> Result<Turn, NoMemory> {
+fn message(alloc: Global, number: u64) -> Result<Turn, NoMemory>
+    ensures { IfOk result (λ turn. turn ≡ turns.Piece
+        (codes "MSG bench." ++ (decimal number ++ (codes " " ++ (decimal number ++ codes " 11\r\nHello World\r\n"))))) }
+{
     let text = format!(in alloc; "MSG bench.{number} {number} 11\r\nHello World\r\n")?;
     let bytes = Bytes::copy_from_slice(alloc, text.as_bytes())?;
     Ok(Turn::Piece(bytes))
