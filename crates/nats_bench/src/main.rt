@@ -6,18 +6,17 @@ ghost use Rattle.std.specs.Prelude.{◌≡◌, ◌≤◌, ◌*◌, ◌/◌, max,
 ghost use Rattle.std.specs.Duration.{as_nanos};
 
 mod counts;
-mod failure;
 mod mix;
 
-use crate::counts::counts_of;
-use crate::failure::Failure;
+use crate::counts::{Counts, counts_of};
 use crate::mix::mixed_turns;
+use anyhow::{Result, anyhow};
 use nats_session::{Config, NoMemory, Subject, Token, run};
 use std::alloc::Global;
+use std::env;
 use std::process::ExitCode;
 use std::rt::{Clock, Env};
 use std::time::{Duration, Instant};
-use std::{env, io};
 
 /// The most turns of a list.
 const TURN_LIMIT: usize = 10_000_000;
@@ -72,12 +71,19 @@ fn settings(alloc: Global) -> Result<Config, NoMemory> {
     })
 }
 
-fn count_turns<R: Print + AllocGlobal>(rt: &R, count: usize) -> Result<(), Failure> {
+/// Plays a list of `count` turns: what they showed, and how long they took.
+fn play<R: Clock + AllocGlobal>(rt: &R, count: usize) -> Result<(Counts, Duration)> {
     let alloc = rt.alloc();
     let turns = mixed_turns(alloc, count)?;
-    let transcript = run(alloc, settings(alloc)?, turns.as_slice())?;
-    print!(rt; "{}", counts_of(count, &transcript))?;
-    Ok(())
+    let config = settings(alloc)?;
+    let start = Instant::now(rt)?;
+    match run(alloc, config, turns.as_slice()) {
+        Ok(transcript) => {
+            let elapsed = start.elapsed(rt)?;
+            Ok((counts_of(count, &transcript), elapsed))
+        }
+        Err(refusal) => Err(anyhow!("{refusal:?}")),
+    }
 }
 
 /// How many of `count` are a second's share; a time of nothing is taken as one nanosecond.
@@ -87,30 +93,25 @@ fn per_second(count: usize, elapsed: Duration) -> u128
     count as u128 * 1_000_000_000 / elapsed.as_nanos().max(1)
 }
 
-fn time_turns<R: Print + Clock + AllocGlobal>(rt: &R, count: usize) -> Result<(), Failure> {
-    let alloc = rt.alloc();
-    let turns = mixed_turns(alloc, count)?;
-    let config = settings(alloc)?;
-    let start = Instant::now(rt)?;
-    let _transcript = run(alloc, config, turns.as_slice())?;
-    let elapsed = start.elapsed(rt)?;
-    let millis = elapsed.as_millis();
-    let rate = per_second(count, elapsed);
-    println!(rt; "{count} turns in {millis} ms, {rate} turns per second")?;
-    Ok(())
-}
-
 /// The words of the command line, without the program's name.
-fn words<R: Env + AllocGlobal>(rt: &R) -> io::Result<Vec<String>> {
+fn words<R: Env + AllocGlobal>(rt: &R) -> Result<Vec<String>> {
     let words = env::args(rt)?.skip(1).collect(rt.alloc())?;
     Ok(words)
 }
 
-fn measure<R: Print + Eprint + Clock + Env + AllocGlobal>(rt: &R) -> Result<u8, Failure> {
+fn measure<R: Print + Eprint + Clock + Env + AllocGlobal>(rt: &R) -> Result<u8> {
     let words = words(rt)?;
     match command_of(words.as_slice()) {
-        Some(Command::Count(count)) => count_turns(rt, count)?,
-        Some(Command::Time(count)) => time_turns(rt, count)?,
+        Some(Command::Count(count)) => {
+            let (counts, _) = play(rt, count)?;
+            print!(rt; "{counts}")?;
+        }
+        Some(Command::Time(count)) => {
+            let (_, elapsed) = play(rt, count)?;
+            let millis = elapsed.as_millis();
+            let rate = per_second(count, elapsed);
+            println!(rt; "{count} turns in {millis} ms, {rate} turns per second")?;
+        }
         None => {
             eprintln!(rt; "usage: nats_bench count N, or time N; N is at most {TURN_LIMIT}")?;
             return Ok(UNKNOWN);
