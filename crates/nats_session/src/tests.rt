@@ -1,6 +1,6 @@
 use crate::{
-    Bytes, Call, CallReply, Config, ConnectionHandler, Due, LinkWord, NoMemory, ServerInfo,
-    Subject, TakeReply, Token, Turn, run,
+    Bytes, Call, CallReply, Config, ConnectionHandler, Due, LinkWord, NoMemory, OutboundMessage,
+    ServerInfo, Subject, TakeReply, Token, Turn, run,
 };
 use std::alloc::Global;
 use std::process::Abort;
@@ -73,7 +73,7 @@ fn a_session_is_driven_turn_by_turn(rt: HostRuntime) -> Result<(), Fail> {
     assert!(rt; handler.check(&Turn::Do(call.copy()?)));
     match handler.submit(alloc, call) {
         Ok(CallReply::Numbered(number)) => assert_eq!(rt; number, 1),
-        Ok(CallReply::Full) | Err(_) => assert!(rt; false),
+        Ok(_) | Err(_) => assert!(rt; false),
     }
     assert_eq!(rt; settle(&mut handler, alloc)?, 1);
     assert_eq!(rt; handler.pending(), 15);
@@ -111,5 +111,46 @@ fn a_message_is_put_and_taken(rt: HostRuntime) -> Result<(), Fail> {
     }
     assert!(rt; handler.last_put(1).is_none());
     assert!(rt; handler.next_event().is_some());
+    Ok(())
+}
+
+#[test]
+fn a_publish_waits_for_a_link_and_is_written_whole(rt: HostRuntime) -> Result<(), Fail> {
+    let alloc = rt.alloc();
+    let mut handler = ConnectionHandler::new(alloc, settings(alloc, &rt)?)?;
+    let call = Call::Publish(OutboundMessage {
+        subject: Subject::from_text(alloc, "a")?,
+        reply: None,
+        payload: Bytes::from_static(b"hi"),
+    });
+    assert!(rt; handler.check(&Turn::Do(call.copy()?)));
+    match handler.submit(alloc, call) {
+        Ok(CallReply::Accepted) => {},
+        Ok(_) | Err(_) => assert!(rt; false),
+    }
+    assert!(rt; !handler.is_due());
+    let info = ServerInfo::default(alloc);
+    assert!(rt; handler.check(&Turn::Up(info.copy(alloc)?)));
+    handler.up(alloc, info)?;
+    match handler.advance(alloc)? {
+        Due::Handled => assert_eq!(rt; handler.pending(), 13),
+        _ => assert!(rt; false),
+    }
+    Ok(())
+}
+
+#[test]
+fn a_ping_is_answered(rt: HostRuntime) -> Result<(), Fail> {
+    let alloc = rt.alloc();
+    let mut handler = ConnectionHandler::new(alloc, settings(alloc, &rt)?)?;
+    let info = ServerInfo::default(alloc);
+    assert!(rt; handler.check(&Turn::Up(info.copy(alloc)?)));
+    handler.up(alloc, info)?;
+    assert!(rt; handler.check(&Turn::Piece(Bytes::from_static(b"PING\r\n"))));
+    handler.piece(b"PING\r\n")?;
+    match handler.advance(alloc)? {
+        Due::Read => assert_eq!(rt; handler.pending(), 6),
+        _ => assert!(rt; false),
+    }
     Ok(())
 }

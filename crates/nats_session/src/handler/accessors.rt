@@ -12,14 +12,15 @@ use crate::turn::Turn;
 use nats_wire::{Event, Message};
 
 impl ConnectionHandler {
-    /// The number of the newest link, from 1; 0 before any.
+    /// The number of the newest link, from 1; 0 before any. Our own count: the crate numbers no links.
     pub fn link(&self) -> u64
         ensures { result ≡ self.now.link }
     {
         self.link
     }
 
-    /// Whether a step is due, which `advance` plays. It takes no memory.
+    /// Whether a step is due, which `advance` plays: an operation or a fault is at the front of the unread bytes, or a call
+    /// waits while fewer than 65,535 bytes do. It takes no memory. Our own name for what the crate's loop does next.
     pub fn is_due(&self) -> bool
         ensures { result ≡ is_some (due self.now) }
     {
@@ -40,14 +41,14 @@ impl ConnectionHandler {
         self.is_valid(turn) && !self.is_due()
     }
 
-    /// Whether a link is up.
+    /// Whether a link is up: it came up and has not ended.
     pub fn is_up(&self) -> bool
         ensures { result ≡ self.now.is_up }
     {
         self.is_up
     }
 
-    /// How many bytes wait to be taken.
+    /// How many bytes wait to be taken by the link; 0 while no link is up.
     pub fn pending(&self) -> u64
         ensures { result ≡ length self.now.wire.waiting }
     {
@@ -61,14 +62,15 @@ impl ConnectionHandler {
         self.connection.waiting()
     }
 
-    /// The youngest waiting message of the subscription of number `s`.
+    /// The youngest waiting message of the subscription of number `s`, from 1; `None` where none waits or the number was not
+    /// given. After `Due::Put(s)` it is the message that was put.
     pub fn last_put(&self, s: u64) -> Option<&Message>
         ensures { option_copied result ≡ youngest (item_of s self.now.subs) }
     {
         self.subs.last(s)
     }
 
-    /// Hands out the oldest event that was not handed out yet, if there is one.
+    /// Hands out the oldest event that was not handed out yet, if there is one. It takes no memory. The crate's event callback.
     pub fn next_event(&mut self) -> Option<Event>
         ensures event { result ≡ first self.old.events }
         ensures rest { self.new ≡ record self.old { events = drop 1 self.old.events } }

@@ -14,7 +14,8 @@ use nats_wire::{Bytes, NoMemory, ServerInfo};
 use std::alloc::Global;
 
 impl ConnectionHandler {
-    /// A link came up, and its server said `info`. Its condition is `check` of that turn.
+    /// A link came up, and its server said `info`. Its condition is `check` of that turn: no link came up yet, as a second
+    /// link is not built. The crate's connector answers so.
     ///
     /// # Errors
     ///
@@ -52,8 +53,9 @@ impl ConnectionHandler {
         self.play_written(n);
     }
 
-    /// Takes in a call, or refuses it: `Full` exactly where as many accepted calls wait as the client capacity. Its
-    /// condition is `check` of that turn. An accepted call is handled by `advance`.
+    /// Takes in a call, or refuses it: `Full` exactly where as many accepted calls wait as the client capacity, and then
+    /// nothing changed. Its condition is `check` of that turn. An accepted call is handled by `advance`, in the order of
+    /// acceptance. The crate's bounded channel of commands.
     ///
     /// # Errors
     ///
@@ -66,7 +68,8 @@ impl ConnectionHandler {
         self.play_call(alloc, call)
     }
 
-    /// Takes the oldest waiting message of the subscription of number `s` out of its queue. Its condition is `check` of
+    /// Takes the oldest waiting message of the subscription of number `s` out of its queue, or answers `Empty`, and then nothing
+    /// changed. Its condition is `check` of
     /// that turn. It takes no memory.
     pub fn take(&mut self, s: u64) -> TakeReply
         requires { IsTrue (can_play self.old (turns.Take s)) }
@@ -77,7 +80,8 @@ impl ConnectionHandler {
         self.play_take(s)
     }
 
-    /// Plays the one step that is due, and names it; `Nothing` exactly where none is due.
+    /// Plays the one step that is due, with what follows it at once, and names it; `Nothing` exactly where none is due.
+    /// Reading comes before the calls that wait, as in the crate.
     ///
     /// # Errors
     ///
