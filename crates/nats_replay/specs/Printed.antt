@@ -6,7 +6,7 @@ use Rattle.nats_names.specs.declared.event.Event.{Event}
 use Rattle.nats_names.specs.Events.{event_text}
 use Rattle.nats_wire.specs.declared.message.Message.{Message}
 use Rattle.nats_session.specs.declared.call.CallReply.{CallReply}
-use Rattle.nats_session.specs.declared.call.CallReply.TheVariants.{Numbered, Full}
+use Rattle.nats_session.specs.declared.call.CallReply.TheVariants.{Accepted, Numbered, Full}
 use Rattle.nats_session.specs.declared.call.TakeReply.{TakeReply}
 use Rattle.nats_session.specs.declared.call.TakeReply.TheVariants as took
 use Rattle.nats_session.specs.declared.transcript.LinkWord.{LinkWord}
@@ -74,6 +74,7 @@ abbrev pub event_line : ℕ × Event → List ℕ
 event_line (place, event) = placed (codes "event") place (spelled (event_text event))
 
 abbrev pub reply_text : CallReply → List ℕ
+reply_text Accepted = codes "accepted"
 reply_text (Numbered n) = codes "numbered " ++ decimal n
 reply_text Full = codes "full"
 

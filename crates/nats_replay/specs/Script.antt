@@ -1,12 +1,12 @@
 -- A script: a line of settings, then a line for each turn.
-use Rattle.std.specs.Prelude.{ℕ, suc, Bool, true, false, ◌&&◌, ◌==◌, List, [], ◌∷◌, Option, Some, None, Result, Ok, Err, option_and_then, if◌then◌else◌, codes}
+use Rattle.std.specs.Prelude.{ℕ, suc, nat_le, length, Bool, true, false, ◌&&◌, ◌==◌, List, [], ◌∷◌, Option, Some, None, Result, Ok, Err, option_and_then, if◌then◌else◌, codes}
 use Rattle.std.specs.Option.{option_map}
 use Rattle.std.specs.List.{slice_split}
 use Rattle.std.specs.Str.{bytes_eq}
-use Rattle.nats_names.specs.Names.{is_valid}
+use Rattle.nats_names.specs.Names.{is_valid, is_publishable}
 use Rattle.nats_wire.specs.Info.{default_info}
 use Rattle.nats_session.specs.declared.config.Config.{Config}
-use Rattle.nats_session.specs.declared.call.Call.TheVariants.{Subscribe}
+use Rattle.nats_session.specs.declared.call.Call.TheVariants.{Publish, Subscribe}
 use Rattle.nats_session.specs.declared.turn.Turn.{Turn}
 use Rattle.nats_session.specs.declared.turn.Turn.TheVariants.{Up, Piece, Write, Do, Take}
 use Rattle.nats_replay.specs.declared.turns.Word.{Word}
@@ -67,7 +67,8 @@ word_of field =
     (if bytes_eq field (codes "piece") then word.Piece else
     (if bytes_eq field (codes "write") then word.Write else
     (if bytes_eq field (codes "sub") then word.Sub else
-    (if bytes_eq field (codes "take") then word.Take else word.Other))))
+    (if bytes_eq field (codes "pub") then word.Pub else
+    (if bytes_eq field (codes "take") then word.Take else word.Other)))))
 
 -- a link that came up, with the INFO of a server that says its greatest size of a message alone
 abbrev pub up_turn : ℕ → Turn
@@ -82,12 +83,26 @@ abbrev pub sub_of : List (List ℕ) → Option Turn
 sub_of (subject ∷ group ∷ []) = if bytes_eq group (codes "~") then option_map sub_turn (text_of subject) else None
 sub_of fields = None
 
--- a turn by its word and its further fields: `up N`, `piece B`, `write N`, `sub S ~`, `take s`
+-- a publish that asks for no answer
+abbrev pub pub_turn : List ℕ → List ℕ → Turn
+pub_turn subject payload = Do (Publish (record { subject = subject; reply = None; payload = payload }))
+
+abbrev pub pub_with : Option (List ℕ) → Option (List ℕ) → Option Turn
+pub_with (Some subject) (Some payload) = Some (pub_turn subject payload)
+pub_with subject payload = None
+
+-- `pub S ~ B`
+abbrev pub pub_of : List (List ℕ) → Option Turn
+pub_of (subject ∷ reply ∷ payload ∷ []) = if bytes_eq reply (codes "~") then pub_with (text_of subject) (bytes_of payload) else None
+pub_of fields = None
+
+-- a turn by its word and its further fields: `up N`, `piece B`, `write N`, `sub S ~`, `pub S ~ B`, `take s`
 abbrev pub turn_of : Word → List (List ℕ) → Option Turn
 turn_of word.Up fields = option_map up_turn (option_and_then number_of (only fields))
 turn_of word.Piece fields = option_map Piece (option_and_then bytes_of (only fields))
 turn_of word.Write fields = option_map Write (option_and_then number_of (only fields))
 turn_of word.Sub fields = sub_of fields
+turn_of word.Pub fields = pub_of fields
 turn_of word.Take fields = option_map Take (option_and_then number_of (only fields))
 turn_of word.Other fields = None
 
@@ -100,12 +115,14 @@ turn_of_line line = turn_of_fields (fields_of line)
 
 -- ---- what is built so far
 
--- whether a turn can be played so far: a link of one greatest size alone, and a subscribe of a valid subject alone
+-- whether a turn can be played so far: a link of one greatest size alone, a subscribe of a valid subject alone, and a
+-- publish to a publishable subject alone, of no more bytes than that size
 abbrev pub is_built : Turn → Bool
 is_built (Up info) = info.max_payload == 1048576
 is_built (Piece bytes) = true
 is_built (Write n) = true
 is_built (Do (Subscribe subject group)) = is_valid subject
+is_built (Do (Publish m)) = is_publishable m.subject && nat_le (length m.payload) 1048576
 is_built (Take s) = true
 
 -- the turn, where it can be played so far

@@ -172,6 +172,7 @@ fn push_reply(out: &mut Vec<u8>, reply: &CallReply) -> Result<(), NoMemory>
     ensures { OnOk result (out.new.items ≡ out.old.items ++ reply_text reply.now) }
 {
     match reply {
+        CallReply::Accepted => out.extend_from_slice(b"accepted")?,
         CallReply::Numbered(n) => {
             out.extend_from_slice(b"numbered ")?;
             push_number(out, *n)?;

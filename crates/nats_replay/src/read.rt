@@ -17,6 +17,9 @@ fn is_built(turn: &Turn) -> bool
     match turn {
         Turn::Up(info) => info.max_payload == 1_048_576,
         Turn::Do(Call::Subscribe { subject, .. }) => subject.is_valid(),
+        Turn::Do(Call::Publish(message)) => {
+            message.subject.is_publishable() && message.payload.len() <= 1_048_576
+        }
         Turn::Piece(_) | Turn::Write(_) | Turn::Take(_) => true,
     }
 }

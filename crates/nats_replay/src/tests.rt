@@ -94,7 +94,8 @@ fn a_full_queue_drops_what_comes_and_takes_again_after_a_take(rt: HostRuntime) -
     let text = "config 2048 1 check _INBOX MUX1\nup 1048576\nsub a ~\n\
 piece MSG%20a%201%201%0D%0A1%0D%0AMSG%20a%201%201%0D%0A2%0D%0AMSG%20a%201%201%0D%0A3%0D%0A\n\
 take 1\npiece MSG%20a%201%201%0D%0A4%0D%0A\n";
-    let want = "link 1 up\nout %\nleft SUB%20a%201%0D%0A\nsub 1\nput 3 a ~ 1 ~ ~ 2 ~\nput 5 a ~ 4 ~ ~ 2 ~\n\
+    let want =
+        "link 1 up\nout %\nleft SUB%20a%201%0D%0A\nsub 1\nput 3 a ~ 1 ~ ~ 2 ~\nput 5 a ~ 4 ~ ~ 2 ~\n\
 drop 3 a ~ 2 ~ ~ 2 ~\ndrop 3 a ~ 3 ~ ~ 2 ~\ntake 4 message a ~ 1 ~ ~ 2 ~\nevent 1 connected\n\
 event 3 slow%20consumers%20for%20subscription%201\nevent 3 slow%20consumers%20for%20subscription%201\n\
 call 2 numbered 1\n";
@@ -124,6 +125,68 @@ event 1 connected\ncall 2 numbered 1\ncall 3 numbered 2\n";
     let (status, sink) = played(rt.alloc(), text)?;
     assert_eq!(rt; status, 0);
     assert_eq!(rt; sink.bytes(), want.as_bytes());
+    Ok(())
+}
+
+/// A script of publishes of this many bytes each, with lines between and after them.
+fn publishes(
+    alloc: Global,
+    first: &str,
+    size: usize,
+    between: &[&str],
+) -> Result<Vec<u8>, NoMemory> {
+    let mut text = Vec::from_slice(alloc, first.as_bytes())?;
+    for lines in between {
+        text.extend_from_slice(b"pub a ~ ".as_slice())?;
+        let length = text.len().saturating_add(size);
+        text.resize(length, b'x')?;
+        text.extend_from_slice(lines.as_bytes())?;
+    }
+    Ok(text)
+}
+
+#[test]
+fn a_call_waits_while_the_link_is_full(rt: HostRuntime) -> Result<(), Fail> {
+    let alloc = rt.alloc();
+    let first = "config 1 65536 check _INBOX MUX1\nup 1048576\n";
+    let text = publishes(alloc, first, 65_522, &["\npub a ~ y\npub a ~ z\nwrite 3\n"])?;
+    let words = word(alloc, "run")?;
+    let mut source = MemorySource::new(text, 65_536);
+    let mut sink = MemorySink::new(alloc, 65_536);
+    assert_eq!(rt; replay(alloc, words.as_slice(), &mut source, &mut sink), 0);
+    let printed = sink.bytes();
+    assert!(rt; printed.starts_with(b"link 1 up\nout PUB\nleft %20a%2065522%0D%0Axxx"));
+    assert!(rt;
+        printed.ends_with(
+            b"xxx%0D%0APUB%20a%201%0D%0Ay%0D%0A\nevent 1 connected\ncall 2 accepted\ncall 3 accepted\ncall 4 full\n"
+        )
+    );
+    Ok(())
+}
+
+#[test]
+fn calls_go_on_whenever_fewer_bytes_wait_than_the_limit(rt: HostRuntime) -> Result<(), Fail> {
+    let alloc = rt.alloc();
+    let first = "config 2048 65536 check _INBOX MUX1\nup 1048576\n";
+    let between = [
+        "\n",
+        "\n",
+        "\nwrite 20000\nwrite 100000\n",
+        "\n",
+        "\nwrite 1\nwrite 80000\n",
+    ];
+    let text = publishes(alloc, first, 40_000, between.as_slice())?;
+    let words = word(alloc, "run")?;
+    let mut source = MemorySource::new(text, 65_536);
+    let mut sink = MemorySink::new(alloc, 65_536);
+    assert_eq!(rt; replay(alloc, words.as_slice(), &mut source, &mut sink), 0);
+    let printed = sink.bytes();
+    assert!(rt; printed.starts_with(b"link 1 up\nout PUB%20a%2040000%0D%0Axxx"));
+    assert!(rt;
+        printed.ends_with(
+            b"\nevent 1 connected\ncall 2 accepted\ncall 3 accepted\ncall 4 accepted\ncall 7 accepted\ncall 8 accepted\n"
+        )
+    );
     Ok(())
 }
 
@@ -207,7 +270,8 @@ fn the_first_line_in_no_form_is_found(rt: HostRuntime) -> Result<(), Fail> {
         "up 01048576",
         "sub a..b ~",
         "sub a q",
-        "pub a ~ x",
+        "pub a q x",
+        "pub %20 ~ x",
         "piece %0d",
         "piece %41",
         "piece",

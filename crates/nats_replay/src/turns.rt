@@ -2,13 +2,13 @@
 ghost use Rattle.std.specs.Prelude.{◌≡◌, ◌∷◌, [], None, IfOk, MatchOption, option_and_then};
 ghost use Rattle.std.specs.Option.{option_copied};
 ghost use Rattle.nats_replay.specs.Spelling.{bytes_of, number_of};
-ghost use Rattle.nats_replay.specs.Script.{fields_of, only, config_with, config_of_fields, config_of_line, word_of, up_turn, sub_turn, sub_of, turn_of, turn_of_line};
+ghost use Rattle.nats_replay.specs.Script.{fields_of, only, config_with, config_of_fields, config_of_line, word_of, up_turn, sub_turn, sub_of, pub_with, pub_of, turn_of, turn_of_line};
 ghost use Rattle.nats_replay.specs.Cut.{parts_behind};
 
 use crate::cut::{cut, only};
 use crate::fields::{bytes_of, number_of, text_of, token_of};
 use nats_names::{Bytes, NoMemory, Subject, Token};
-use nats_session::{Call, Config, ServerInfo, Turn};
+use nats_session::{Call, Config, OutboundMessage, ServerInfo, Turn};
 use std::alloc::Global;
 
 // ---- settings
@@ -88,6 +88,7 @@ pub enum Word {
     Piece,
     Write,
     Sub,
+    Pub,
     Take,
     Other,
 }
@@ -100,6 +101,7 @@ fn word_of(field: &[u8]) -> Word
         b"piece" => Word::Piece,
         b"write" => Word::Write,
         b"sub" => Word::Sub,
+        b"pub" => Word::Pub,
         b"take" => Word::Take,
         _ => Word::Other,
     }
@@ -111,16 +113,22 @@ fn number_in(fields: Option<&[u8]>) -> Option<u64>
     number_of(only(fields)?)
 }
 
+fn bytes_field(alloc: Global, field: &[u8]) -> Result<Option<Bytes>, NoMemory>
+    ensures { IfOk result (λ b. b ≡ bytes_of field.now) }
+{
+    match bytes_of(alloc, field)? {
+        Some(bytes) => Ok(Some(Bytes::from_vec(bytes)?)),
+        None => Ok(None),
+    }
+}
+
 fn bytes_in(alloc: Global, fields: Option<&[u8]>) -> Result<Option<Bytes>, NoMemory>
     ensures { IfOk result (λ b. b ≡ option_and_then bytes_of (only (parts_behind 32 (option_copied fields.entry)))) }
 {
     let Some(field) = only(fields) else {
         return Ok(None);
     };
-    match bytes_of(alloc, field)? {
-        Some(bytes) => Ok(Some(Bytes::from_vec(bytes)?)),
-        None => Ok(None),
-    }
+    bytes_field(alloc, field)
 }
 
 fn up_turn(alloc: Global, max_payload: u64) -> Turn
@@ -165,6 +173,39 @@ fn sub_of(alloc: Global, fields: Option<&[u8]>) -> Result<Option<Turn>, NoMemory
     }
 }
 
+/// The three fields that are left, where they are three.
+fn three(fields: Option<&[u8]>) -> Option<(&[u8], &[u8], &[u8])>
+    ensures { MatchOption result (pub_of (parts_behind 32 (option_copied fields.entry)) ≡ None)
+        (λ f. parts_behind 32 (option_copied fields.entry) ≡ f.0.now ∷ f.1.now ∷ f.2.now ∷ []) }
+{
+    let (subject, rest) = cut(fields?, b' ');
+    let (reply, rest) = cut(rest?, b' ');
+    let payload = only(rest)?;
+    Some((subject, reply, payload))
+}
+
+fn pub_with(subject: Option<Subject>, payload: Option<Bytes>) -> Option<Turn>
+    ensures { result ≡ pub_with subject payload }
+{
+    Some(Turn::Do(Call::Publish(OutboundMessage {
+        subject: subject?,
+        reply: None,
+        payload: payload?,
+    })))
+}
+
+fn pub_of(alloc: Global, fields: Option<&[u8]>) -> Result<Option<Turn>, NoMemory>
+    ensures { IfOk result (λ t. t ≡ pub_of (parts_behind 32 (option_copied fields.entry))) }
+{
+    let Some((subject, reply, payload)) = three(fields) else {
+        return Ok(None);
+    };
+    if reply != b"~".as_slice() {
+        return Ok(None);
+    }
+    Ok(pub_with(text_of(alloc, subject)?, bytes_field(alloc, payload)?))
+}
+
 fn turn_of(alloc: Global, word: Word, fields: Option<&[u8]>) -> Result<Option<Turn>, NoMemory>
     ensures { IfOk result (λ t. t ≡ turn_of word (parts_behind 32 (option_copied fields.entry))) }
 {
@@ -173,6 +214,7 @@ fn turn_of(alloc: Global, word: Word, fields: Option<&[u8]>) -> Result<Option<Tu
         Word::Piece => Ok(bytes_in(alloc, fields)?.map(Turn::Piece)),
         Word::Write => Ok(number_in(fields).map(Turn::Write)),
         Word::Sub => sub_of(alloc, fields),
+        Word::Pub => pub_of(alloc, fields),
         Word::Take => Ok(number_in(fields).map(Turn::Take)),
         Word::Other => Ok(None),
     }
