@@ -1,5 +1,5 @@
 -- What a source and a sink count, and what they tell of their bytes.
-use Rattle.std.specs.Prelude.{ℕ, zero, suc, ◌+◌, ◌-◌, ◌^◌, ◌≤◌, min, max, List, [], ◌∷◌, take, Option, Result, Ok, Err, OnErr}
+use Rattle.std.specs.Prelude.{ℕ, zero, suc, ◌+◌, ◌-◌, ◌^◌, ◌≤◌, ◌<◌, min, max, List, [], ◌∷◌, take, Option, Result, Ok, Err, OnErr}
 use Rattle.std.specs.Io.KnownBytes.{Appends}
 
 -- a count rose by that much at least; it stops at 2^64-1
@@ -9,6 +9,10 @@ RoseBy n before now = min (before + n) (2 ^ 64 - 1) ≤ now
 -- a count rose; one that stands at its end counts as risen
 abbrev pub Rose : ℕ → ℕ → Type 0
 Rose before now = RoseBy 1 before now
+
+-- a count did not rise; one that stands at its end counts as risen
+abbrev pub Still : ℕ → ℕ → Type 0
+Still before now = now < min (before + 1) (2 ^ 64 - 1)
 
 -- a call that may fail: its count of faults never falls, and the call fails only where that count rose
 pub record HasCause {T E : Type 0} (before now : ℕ) (result : Result T E) : Type 0 where

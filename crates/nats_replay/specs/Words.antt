@@ -1,5 +1,5 @@
 -- The words of the command line, and what each status says of the bytes that were read.
-use Rattle.std.specs.Prelude.{◌≡◌, ℕ, Bool, ◌==◌, ◌∷◌, [], List, Some, None, codes}
+use Rattle.std.specs.Prelude.{◌≡◌, ℕ, Bool, ◌==◌, ◌∷◌, [], List, Some, None, length, ◌≤◌, codes}
 use Rattle.std.specs.List.{list_any}
 use Rattle.nats_session.specs.declared.config.Config.{Config}
 use Rattle.nats_session.specs.declared.turn.Turn.{Turn}
@@ -34,3 +34,8 @@ IsUnreadable bytes = (line : ℕ) × (script bytes ≡ Bad line)
 abbrev pub IsOutOfTurn : List ℕ → Type 0
 IsOutOfTurn bytes = (config : Config) × (turns : List Turn) × (place : ℕ)
     × (script bytes ≡ Good config turns) × (out_of_turn config turns ≡ Some place)
+
+-- bytes are no more than a script may have, and spell settings and turns that may come where they stand
+abbrev pub IsPlayable : List ℕ → Type 0
+IsPlayable bytes = (length bytes ≤ 16777216) × (config : Config) × (turns : List Turn)
+    × (script bytes ≡ Good config turns) × (out_of_turn config turns ≡ None)

@@ -19,7 +19,7 @@ pub use outside::{Reading, Sink, Source, Writing};
 pub use print::print_transcript;
 pub use read::read_script;
 pub use script::Script;
-pub use top::replay;
+pub use top::{NO_MEMORY, replay};
 
 #[cfg(test)]
 mod tests;

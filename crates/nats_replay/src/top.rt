@@ -9,8 +9,8 @@ ghost use Rattle.nats_session.specs.Transcripts.{transcript};
 ghost use Rattle.nats_replay.specs.declared.script.Script.TheVariants.{Good};
 ghost use Rattle.nats_replay.specs.Script.{script};
 ghost use Rattle.nats_replay.specs.Printed.{printed};
-ghost use Rattle.nats_replay.specs.Outside.{Rose, RoseBy, AppendsFront};
-ghost use Rattle.nats_replay.specs.Words.{run_words, unknown_command, is_status, IsTranscript, IsUnreadable, IsOutOfTurn};
+ghost use Rattle.nats_replay.specs.Outside.{Rose, RoseBy, Still, AppendsFront};
+ghost use Rattle.nats_replay.specs.Words.{run_words, unknown_command, is_status, IsTranscript, IsUnreadable, IsOutOfTurn, IsPlayable};
 ghost use Rattle.nats_replay.specs.Played.{Comes, Played, status_of};
 
 use crate::outside::{Sink, Source};
@@ -51,8 +51,8 @@ const WRITE_FAULT: u8 = 4;
 const UNREADABLE: u8 = 5;
 /// A turn of the script may not come where it stands.
 const OUT_OF_TURN: u8 = 6;
-/// Want of memory.
-const NO_MEMORY: u8 = 7;
+/// The status that says want of memory.
+pub const NO_MEMORY: u8 = 7;
 /// The script is too long.
 const TOO_LONG: u8 = 8;
 
@@ -158,6 +158,10 @@ pub fn replay<S: Source, K: Sink>(
         Rose (S.ends source.old) (S.ends source.new) }
     ensures within { map string_bytes words.now ≡ run_words → result ≢ 3 → result ≢ 7 → result ≢ 8 →
         IfSome (S.left source.old) (λ bytes. length bytes ≤ 16777216) }
+    // Completeness: a script that can be played is played, but for a fault or want of memory.
+    ensures complete { map string_bytes words.now ≡ run_words → IfSome (S.left source.old) (λ bytes. IsPlayable bytes →
+        Still (S.faults source.old) (S.faults source.new) → Still (K.faults sink.old) (K.faults sink.new) →
+        (result ≡ 0) ⊎ (result ≡ 7)) }
     // Nothing else is printed.
     ensures silent { result ≢ 0 → result ≢ 2 → result ≢ 4 → sink.new ≡ sink.old }
 {

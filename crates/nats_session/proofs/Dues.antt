@@ -1,9 +1,9 @@
 -- Laws on due steps: they end, they go on one by one, and they do not hang on the events that wait.
-use Rattle.std.proofs.Common.{◌≡◌, ℕ, zero, suc, ◌+◌, ◌-◌, ◌≤◌, ◌<◌, Bool, true, false, cond, List, [], ◌∷◌, ◌++◌, length, drop, nat_lt, Option, Some, None, refl, sym, ◌∙◌, ap, subst, arith}
+use Rattle.std.proofs.Common.{◌≡◌, ℕ, zero, suc, ◌-◌, ◌≤◌, ◌<◌, Bool, true, false, cond, List, [], ◌∷◌, length, nat_lt, Option, Some, None, refl, ◌∙◌, ap, subst, arith}
 use Rattle.std.proofs.lemmas.List.{length-drop}
 use Rattle.std.proofs.lemmas.Option.{none-some, same_Some}
 use Rattle.nats_names.specs.declared.event.Event.{Event}
-use Rattle.nats_wire.specs.Operations.{Operation, message, ok_op, ping_op, pong_op, Front, got, unfinished, fault, front, past}
+use Rattle.nats_wire.specs.Operations.{Operation, message, Front, got, unfinished, fault, front}
 use Rattle.nats_wire.proofs.Fronts.{front_takes, front_fits}
 use Rattle.nats_session.specs.declared.call.Call.{Call}
 use Rattle.nats_session.specs.declared.call.Call.TheVariants.{Publish, Subscribe}
@@ -11,7 +11,7 @@ use Rattle.nats_session.specs.declared.transcript.LinkWord.TheVariants as word
 use Rattle.nats_session.specs.History.{Step, opened, fed, read, taken, accepted, handled, took, link_end}
 use Rattle.nats_session.specs.Parts.{Parts, after}
 use Rattle.nats_session.specs.Machine.{with_events}
-use Rattle.nats_session.specs.Schedule.{due_call, due_by, due, due_bound, due_steps_within, due_steps, after_all}
+use Rattle.nats_session.specs.Schedule.{due_call, due_by, due, due_bound, due_steps_within, due_steps}
 
 -- ---- each due step brings the end nearer
 
@@ -29,17 +29,9 @@ read_falls p (message sid m) n e =
     let some = front_takes p.wire.unread (message sid m) n e in
     let fits = front_fits p.wire.unread (message sid m) n e in
     rw (e, length-drop) (omega (arith, some, fits))
-read_falls p ok_op n e =
-    let some = front_takes p.wire.unread ok_op n e in
-    let fits = front_fits p.wire.unread ok_op n e in
-    rw (e, length-drop) (omega (arith, some, fits))
-read_falls p ping_op n e =
-    let some = front_takes p.wire.unread ping_op n e in
-    let fits = front_fits p.wire.unread ping_op n e in
-    rw (e, length-drop) (omega (arith, some, fits))
-read_falls p pong_op n e =
-    let some = front_takes p.wire.unread pong_op n e in
-    let fits = front_fits p.wire.unread pong_op n e in
+read_falls p operation n e =
+    let some = front_takes p.wire.unread operation n e in
+    let fits = front_fits p.wire.unread operation n e in
     rw (e, length-drop) (omega (arith, some, fits))
 
 handled_falls : (p : Parts) (call : Call) (more : List Call) → p.calls ≡ call ∷ more → due_bound (after p (handled call)) < due_bound p
@@ -99,9 +91,7 @@ pub after_events : (events : List Event) (p : Parts) (step : Step) → after (wi
 after_events events p (opened info) = refl
 after_events events p (fed bytes) = refl
 after_events events p (read (message sid m)) = refl
-after_events events p (read ok_op) = refl
-after_events events p (read ping_op) = refl
-after_events events p (read pong_op) = refl
+after_events events p (read operation) = refl
 after_events events p (taken n) = refl
 after_events events p (accepted (Publish m)) = refl
 after_events events p (handled (Publish m)) = refl

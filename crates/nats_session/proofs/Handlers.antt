@@ -1,5 +1,5 @@
 -- Laws on the parts of a handler.
-use Rattle.std.proofs.Common.{◌≡◌, ℕ, zero, suc, ◌+◌, ◌≤◌, ◌<◌, Bool, true, false, cond, ◌&&◌, min, List, [], ◌∷◌, ◌++◌, length, drop, map, nat_le, nat_lt, Option, Some, None, Result, Ok, Err, OnOk, OnErr, refl, sym, ◌∙◌, ap, subst, arith}
+use Rattle.std.proofs.Common.{◌≡◌, ℕ, zero, suc, ◌+◌, ◌≤◌, ◌<◌, Bool, true, false, cond, ◌&&◌, min, List, [], ◌∷◌, ◌++◌, length, drop, nat_le, nat_lt, Option, Some, None, Result, Ok, Err, OnOk, OnErr, refl, sym, ◌∙◌, ap, subst, arith}
 use Rattle.std.specs.Prelude.{slice_get}
 use Rattle.std.proofs.lemmas.Bool.{false≢true, lt-ltb, leb-false}
 use Rattle.std.proofs.lemmas.Option.{none-some, same_Some}
@@ -19,13 +19,12 @@ use Rattle.nats_session.specs.declared.subs.subscription.Delivery.TheVariants.{P
 use Rattle.nats_session.specs.Queue.{first}
 use Rattle.nats_session.specs.Delivery.{delivery, delivery_at}
 use Rattle.nats_session.specs.History.{Step, History, took, handled, accepted, events_by, at_place, events}
-use Rattle.nats_session.specs.Parts.{Sub, Parts, parts_of, StandsFor, at_index, at_number, item_of, take_from, open_sub, sub_has_room, deliver, after}
+use Rattle.nats_session.specs.Parts.{Sub, Parts, StandsFor, at_index, at_number, item_of, take_from, open_sub, sub_has_room, deliver, after}
 use Rattle.nats_session.specs.Schedule.{is_full, oldest, take_reply_of, take_reply, took_step, own_steps, after_all, put_steps, due_call, write_limit}
 use Rattle.nats_session.specs.Handler.{is_subscribe, subscribes, LeadTo, Submits, command_of, PlaysDue, list_of}
 use Rattle.std.proofs.lemmas.List.{length-append}
 use Rattle.std.proofs.lemmas.Result.{on_ok_weaker}
 use Rattle.nats_session.proofs.Refines.{sub_with, parts_after}
-use Rattle.nats_session.proofs.Tables.{length-at_number}
 
 pub subscribes_more : (calls : List Call) (call : Call) → is_subscribe call ≡ true → subscribes (calls ++ call ∷ []) ≡ suc (subscribes calls)
 subscribes_more [] (Subscribe subject group) e = refl

@@ -1,26 +1,23 @@
 -- Playing over parts and a sheet is playing over histories.
-use Rattle.std.proofs.Common.{◌≡◌, ℕ, zero, suc, ◌+◌, ◌≤◌, ◌<◌, Bool, true, false, cond, min, List, [], ◌∷◌, ◌++◌, length, take, drop, nat_lt, nat_le, Option, Some, None, is_some, refl, sym, ◌∙◌, ap, subst, arith}
+use Rattle.std.proofs.Common.{◌≡◌, ℕ, zero, suc, ◌≤◌, Bool, true, false, cond, List, [], ◌∷◌, ◌++◌, length, Option, Some, None, is_some, refl, sym, ◌∙◌, ap, subst, arith}
 use Rattle.std.proofs.lemmas.List.{append-nil, append_assoc}
-use Rattle.std.proofs.lemmas.Option.{none-some, same_Some}
+use Rattle.std.proofs.lemmas.Option.{none-some}
 use Rattle.nats_names.specs.declared.event.Event.{Event}
-use Rattle.nats_wire.specs.Operations.{Operation, Front, got, unfinished, fault, front}
+use Rattle.nats_wire.specs.Operations.{front}
 use Rattle.nats_session.specs.declared.config.Config.{Config}
-use Rattle.nats_session.specs.declared.call.Call.{Call}
-use Rattle.nats_session.specs.declared.call.Call.TheVariants.{Subscribe}
 use Rattle.nats_session.specs.declared.call.TakeReply.{TakeReply}
 use Rattle.nats_session.specs.declared.call.TakeReply.TheVariants as takes
 use Rattle.nats_session.specs.declared.turn.Turn.{Turn}
 use Rattle.nats_session.specs.declared.turn.Turn.TheVariants.{Up, Piece, Write, Do, Take}
-use Rattle.nats_session.specs.declared.transcript.Transcript.{Transcript}
-use Rattle.nats_session.specs.History.{Step, opened, fed, read, taken, accepted, handled, took, link_end, History, is_up, given, events}
+use Rattle.nats_session.specs.History.{Step, opened, fed, read, taken, accepted, handled, took, link_end, History, given}
 use Rattle.nats_session.specs.Parts.{Parts, parts_of, item_of, after}
-use Rattle.nats_session.specs.Schedule.{is_full, call_reply, take_reply, is_valid_turn, own_steps, took_step, due_call, due_by, due, due_bound, due_steps_within, due_steps, after_all, turn_steps, put_steps, after_turn, steps_from, steps, out_of_turn_from, out_of_turn}
-use Rattle.nats_session.specs.Transcripts.{Answer, nothing, called, asked, answer_of, answers_from, answers, shown, transcript}
+use Rattle.nats_session.specs.Schedule.{is_full, take_reply, is_valid_turn, own_steps, took_step, due_by, due, due_bound, due_steps_within, due_steps, after_all, put_steps, after_turn, steps_from, steps, out_of_turn_from, out_of_turn}
+use Rattle.nats_session.specs.Transcripts.{Answer, answer_of, answers_from, answers, transcript}
 use Rattle.nats_session.specs.Handler.{idle}
-use Rattle.nats_session.specs.Sheet.{Sheet, empty_sheet, finished, Tells, write_answer}
-use Rattle.nats_session.specs.Machine.{with_events, parts_noted, sheet_noted, parts_recorded, sheet_recorded, answer_at, own_parts, own_sheet, settled_parts, settled_sheet, turn_parts, turn_sheet, played_parts, played_sheet, first_out_of_turn}
+use Rattle.nats_session.specs.Sheet.{Sheet, empty_sheet, finished, Tells}
+use Rattle.nats_session.specs.Machine.{with_events, parts_noted, sheet_noted, parts_recorded, sheet_recorded, answer_at, own_parts, turn_parts, turn_sheet, played_parts, played_sheet, first_out_of_turn}
 use Rattle.nats_session.proofs.Refines.{length-subs}
-use Rattle.nats_session.proofs.Dues.{none_due, one_due, due_events, after_events, due_steps_events}
+use Rattle.nats_session.proofs.Dues.{after_events, due_steps_events}
 use Rattle.std.proofs.lemmas.Bool.{false≢true}
 use Rattle.nats_session.proofs.Sheets.{EndsUp, IsGiven, given_grows, tells_step, tells_answer, tells_finished, tells_nothing}
 

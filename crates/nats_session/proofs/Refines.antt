@@ -1,20 +1,20 @@
 -- The parts after one more step: what the words on the longer history give is what the step makes of the parts.
-use Rattle.std.proofs.Common.{◌≡◌, ℕ, zero, suc, ◌+◌, ◌-◌, ◌<◌, ◌≤◌, Bool, true, false, cond, not, eqb, ltb, ◌&&◌, min, List, [], ◌∷◌, ◌++◌, length, take, drop, map, Option, Some, None, refl, sym, ◌∙◌, ap, arith, ◌⊎◌, inl, inr}
-use Rattle.std.proofs.lemmas.List.{append-nil, append_assoc, map-append, length-map, length-append, drop-append-le}
+use Rattle.std.proofs.Common.{◌≡◌, ℕ, zero, suc, ◌+◌, ◌<◌, ◌≤◌, Bool, true, false, cond, not, eqb, ltb, ◌&&◌, min, List, [], ◌∷◌, ◌++◌, length, drop, map, Option, Some, None, refl, sym, ◌∙◌, ap, arith, ◌⊎◌, inl, inr}
+use Rattle.std.proofs.lemmas.List.{append-nil, map-append, length-map, length-append, drop-append-le}
 use Rattle.std.proofs.lemmas.Bool.{ne_eqb, ltb-true, ltb-false}
 use Rattle.std.proofs.Math.Nat.{min-le_right}
 use Rattle.std.proofs.Math.Seq.{drop-nil}
 use Rattle.nats_names.specs.declared.event.Event.{Event}
-use Rattle.nats_names.specs.declared.event.Event.TheVariants.{Connected, Disconnected, SlowConsumer}
+use Rattle.nats_names.specs.declared.event.Event.TheVariants.{SlowConsumer}
 use Rattle.nats_wire.specs.declared.message.Message.{Message}
 use Rattle.nats_wire.specs.declared.op.ClientOp.TheVariants as client
 use Rattle.nats_wire.specs.Commands.{command_text}
-use Rattle.nats_wire.specs.Operations.{Operation, message, ok_op, ping_op, pong_op, Front, got, unfinished, fault, front, past, behind}
+use Rattle.nats_wire.specs.Operations.{message, ping_op, Front, got, unfinished, fault, front, past, behind}
 use Rattle.nats_session.specs.declared.config.Config.{Config}
 use Rattle.nats_session.specs.declared.call.Call.{Call}
 use Rattle.nats_session.specs.declared.call.Call.TheVariants.{Publish, Subscribe}
-use Rattle.nats_session.specs.History.{Step, opened, fed, read, taken, accepted, handled, took, link_end, History, links, is_up, joined, is_got, reads, unread, calls, handled_count, waiting_calls, given, subscribed, Told, nothing_told, concerns, waiting, has_room, puts_by, told_after, told, count_from, numbers, texts, commands, link_text, taken_count, waiting_bytes, drops_by, slow_events, events_by, at_place, events}
-use Rattle.nats_session.specs.Parts.{Sub, Parts, second, sub_of, subs_of, parts_of, at_number, item_of, new_sub, open_sub, deliver, sub_drops, drop_events, take_from, after}
+use Rattle.nats_session.specs.History.{Step, opened, fed, read, taken, accepted, handled, took, link_end, History, is_up, joined, is_got, reads, unread, calls, handled_count, given, subscribed, Told, nothing_told, concerns, waiting, has_room, puts_by, told_after, told, numbers, link_text, taken_count, waiting_bytes, drops_by, slow_events, events_by, at_place, events}
+use Rattle.nats_session.specs.Parts.{Sub, Parts, second, sub_of, subs_of, parts_of, at_number, item_of, new_sub, open_sub, deliver, drop_events, take_from, after}
 use Rattle.nats_session.proofs.Words.{drop_one_more, drop_more_of, calls_accepted, unread_read, unread_fed, waiting_written}
 use Rattle.nats_session.proofs.Tables.{length-count_from, numbered, numbered_if, one_more, item_there, item_missing}
 
@@ -217,9 +217,7 @@ parts_after c handed h place (read (message sid m)) fits =
     same_made c _ _ _ _ _ _ _ _ _ _ _ _ _ _ (unread_after (is_up h) (reads h) (joined h)) (unwritten h) refl (subs_delivered c place sid m h) refl (events_more handed (events c h) place (events_by c h (read (message sid m))) fits ∙ ap (λ es. drop handed (map second (events c h)) ++ es) (read_events c sid m h))
 parts_after c handed h place (read ping_op) fits =
     same_made c _ _ _ _ _ _ _ _ _ _ _ _ _ _ (unread_after (is_up h) (reads h) (joined h)) (written h (command_text client.Pong)) refl refl refl (uneventful c handed h)
-parts_after c handed h place (read ok_op) fits =
-    same_made c _ _ _ _ _ _ _ _ _ _ _ _ _ _ (unread_after (is_up h) (reads h) (joined h)) (unwritten h) refl refl refl (uneventful c handed h)
-parts_after c handed h place (read pong_op) fits =
+parts_after c handed h place (read operation) fits =
     same_made c _ _ _ _ _ _ _ _ _ _ _ _ _ _ (unread_after (is_up h) (reads h) (joined h)) (unwritten h) refl refl refl (uneventful c handed h)
 parts_after c handed h place (taken n) fits =
     same_made c _ _ _ _ _ _ _ _ _ _ _ _ _ _ refl (taken_after (is_up h) (taken_count h) n (link_text h)) refl refl refl (uneventful c handed h)

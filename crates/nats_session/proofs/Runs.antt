@@ -1,15 +1,14 @@
 -- A run is half way: playing the turns that are left from here is playing all of them from the beginning.
-use Rattle.std.proofs.Common.{◌≡◌, ℕ, zero, suc, ◌+◌, ◌≤◌, ◌<◌, Bool, true, false, cond, List, [], ◌∷◌, length, get_or, drop, Option, Some, None, refl, sym, ◌∙◌, ap, subst, arith, add-one, drop-cons}
+use Rattle.std.proofs.Common.{◌≡◌, ℕ, suc, ◌+◌, ◌≤◌, ◌<◌, true, false, cond, List, [], ◌∷◌, length, get_or, drop, Some, None, refl, sym, ◌∙◌, ap, add-one, drop-cons}
 use Rattle.std.proofs.lemmas.List.{drop_all}
 use Rattle.nats_session.specs.declared.config.Config.{Config}
 use Rattle.nats_session.specs.declared.turn.Turn.{Turn}
-use Rattle.nats_session.specs.declared.transcript.Transcript.{Transcript}
 use Rattle.nats_session.specs.Parts.{Parts}
 use Rattle.nats_session.specs.Schedule.{is_valid_turn, out_of_turn}
 use Rattle.nats_session.specs.Transcripts.{transcript}
 use Rattle.nats_session.specs.Handler.{idle}
 use Rattle.nats_session.specs.Sheet.{Sheet, empty_sheet, finished}
-use Rattle.nats_session.specs.Machine.{settled_parts, own_parts, turn_parts, turn_sheet, played_parts, played_sheet, first_out_of_turn}
+use Rattle.nats_session.specs.Machine.{turn_parts, turn_sheet, played_parts, played_sheet, first_out_of_turn}
 use Rattle.nats_session.proofs.Plays.{first_from_idle, transcript_from_idle}
 
 -- the first i turns were played

@@ -1,12 +1,10 @@
 -- Laws on due steps as they are played, written and played out.
-use Rattle.std.proofs.Common.{◌≡◌, ℕ, zero, suc, ◌+◌, ◌≤◌, ◌<◌, Bool, true, false, cond, not, ◌&&◌, List, [], ◌∷◌, ◌++◌, length, Option, Some, None, refl, sym, ◌∙◌, ap, subst, arith}
+use Rattle.std.proofs.Common.{◌≡◌, ℕ, zero, suc, ◌<◌, Bool, true, false, cond, ◌&&◌, List, [], ◌∷◌, ◌++◌, Option, Some, None, refl, sym, ◌∙◌, ap, subst}
 use Rattle.std.specs.Prelude.{slice_get}
 use Rattle.std.specs.Option.{option_map}
 use Rattle.std.proofs.lemmas.Bool.{false≢true}
-use Rattle.std.proofs.lemmas.Option.{none-some, same_Some}
-use Rattle.nats_names.specs.declared.event.Event.{Event}
 use Rattle.nats_wire.specs.declared.message.Message.{Message}
-use Rattle.nats_wire.specs.Operations.{Operation, message, ok_op, ping_op, pong_op, Front, got, unfinished, fault, front}
+use Rattle.nats_wire.specs.Operations.{message, Front, got, unfinished, fault, front}
 use Rattle.nats_session.specs.declared.config.Config.{Config}
 use Rattle.nats_session.specs.declared.call.Call.{Call}
 use Rattle.nats_session.specs.declared.call.TakeReply.{TakeReply}
@@ -21,10 +19,10 @@ use Rattle.nats_session.specs.declared.transcript.LinkWord.TheVariants as word
 use Rattle.nats_session.specs.Queue.{last}
 use Rattle.nats_session.specs.History.{Step, opened, fed, read, taken, accepted, handled, took, link_end}
 use Rattle.nats_session.specs.Parts.{Sub, Parts, at_index, at_number, item_of, sub_has_room, deliver, after}
-use Rattle.nats_session.specs.Schedule.{take_reply, took_step, due_call, due_by, due, due_bound, due_steps}
-use Rattle.nats_session.specs.Delivery.{delivery, delivery_at, youngest}
+use Rattle.nats_session.specs.Schedule.{take_reply, took_step, due_call, due_by, due, due_bound}
+use Rattle.nats_session.specs.Delivery.{delivery_at, youngest}
 use Rattle.nats_session.specs.Handler.{played_by, PlaysDue}
-use Rattle.nats_session.specs.Sheet.{Sheet, row_with, write_put, write_drop, write_delivery, write_step, write_events}
+use Rattle.nats_session.specs.Sheet.{Sheet, row_with, write_drop, write_delivery, write_step, write_events}
 use Rattle.nats_session.specs.Machine.{with_events, parts_noted, sheet_noted, parts_recorded, sheet_recorded, own_parts, settled_parts, settled_sheet, write_message, write_played, is_nothing, NotesDue}
 use Rattle.nats_session.proofs.Handlers.{own_take}
 use Rattle.nats_session.proofs.Dues.{bound_falls, none_due, one_due, due_steps_events}
@@ -104,9 +102,7 @@ write_due place p (read (message sid m)) sheet e some =
     by_delivery (Dropped dropped) is =
         ap (λ n. record sheet { subs = at_number sid (write_drop place n) sheet.subs }) (dropped_message p.config m dropped (item_of sid p.subs) is)
     by_delivery Ignored is = refl
-write_due place p (read ok_op) sheet e some = refl
-write_due place p (read ping_op) sheet e some = refl
-write_due place p (read pong_op) sheet e some = refl
+write_due place p (read operation) sheet e some = refl
 write_due place p (handled call) sheet e some = refl
 write_due place p (link_end end) sheet e some =
     ap (λ w. record sheet { links = sheet.links ++ row_with w sheet.taken p.wire.waiting ∷ []; taken = [] }) (sym (due_fault p end e))

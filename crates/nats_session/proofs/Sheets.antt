@@ -1,12 +1,11 @@
 -- The sheet after one more step, and after one more answer.
-use Rattle.std.proofs.Common.{◌≡◌, ℕ, zero, suc, ◌+◌, ◌≤◌, ◌<◌, Bool, true, false, cond, not, eqb, ◌&&◌, min, List, [], ◌∷◌, ◌++◌, length, take, drop, map, Option, Some, None, refl, sym, ◌∙◌, ap, subst, arith, ◌⊎◌, inl, inr}
-use Rattle.std.proofs.lemmas.List.{append-nil, append_assoc, map-append, length-map, length-append, take-append-le, take-append-drop, take_min, drop_all}
+use Rattle.std.proofs.Common.{◌≡◌, ℕ, suc, ◌+◌, ◌≤◌, ◌<◌, Bool, true, false, cond, not, eqb, ◌&&◌, min, List, [], ◌∷◌, ◌++◌, length, take, drop, map, Option, None, refl, sym, ◌∙◌, ap, subst, arith, ◌⊎◌, inl, inr}
+use Rattle.std.proofs.lemmas.List.{append-nil, append_assoc, length-map, take-append-le, take_min, drop_all}
 use Rattle.std.proofs.Math.Seq.{take-add}
 use Rattle.nats_names.specs.declared.event.Event.{Event}
 use Rattle.nats_wire.specs.declared.message.Message.{Message}
-use Rattle.nats_wire.specs.Operations.{message, ok_op, ping_op, pong_op}
+use Rattle.nats_wire.specs.Operations.{message}
 use Rattle.nats_session.specs.declared.config.Config.{Config}
-use Rattle.nats_session.specs.declared.call.Call.{Call}
 use Rattle.nats_session.specs.declared.call.Call.TheVariants.{Publish, Subscribe}
 use Rattle.nats_session.specs.declared.call.TakeReply.{TakeReply}
 use Rattle.nats_session.specs.declared.call.CallReply.{CallReply}
@@ -16,14 +15,14 @@ use Rattle.nats_session.specs.declared.transcript.LinkRow.{LinkRow}
 use Rattle.nats_session.specs.declared.transcript.SubRow.{SubRow}
 use Rattle.nats_session.specs.declared.subs.subscription.Delivery.{Delivery}
 use Rattle.nats_session.specs.declared.subs.subscription.Delivery.TheVariants.{Put, Dropped, Ignored}
-use Rattle.nats_session.specs.History.{Step, opened, fed, read, taken, accepted, handled, took, link_end, History, is_up, concerns, count_from, given, subscribed, Told, nothing_told, waiting, has_room, told_after, told, numbers, link_text, taken_count, waiting_bytes, texts, commands, events_by, at_place, events}
-use Rattle.nats_session.specs.Parts.{Sub, Parts, second, sub_of, subs_of, parts_of, at_number, item_of, after}
+use Rattle.nats_session.specs.History.{Step, opened, fed, read, taken, accepted, handled, took, link_end, History, is_up, concerns, count_from, given, Told, nothing_told, waiting, has_room, told_after, told, numbers, link_text, taken_count, waiting_bytes, texts, commands, events_by, events}
+use Rattle.nats_session.specs.Parts.{Parts, second, sub_of, subs_of, parts_of, at_number, item_of, after}
 use Rattle.nats_session.specs.Delivery.{delivery, delivery_at}
 use Rattle.nats_session.specs.Transcripts.{Answer, nothing, called, asked, link_row, ended_links, reply_to, take_replies, call_replies, sub_row, sub_rows, shown}
 use Rattle.nats_session.specs.Sheet.{Sheet, empty_sheet, sheet_of, finished, AreGiven, Tells, new_row, write_put, write_drop, write_take, write_delivery, write_step, write_answer, write_events}
 use Rattle.nats_session.proofs.Words.{taken_fits}
 use Rattle.nats_session.proofs.Tables.{numbered, one_more, same_table, at_number_same, item_there, item_missing}
-use Rattle.nats_session.proofs.Refines.{told_nothing, range_of, length-subs, events_more, parts_after}
+use Rattle.nats_session.proofs.Refines.{told_nothing, range_of, events_more, parts_after}
 use Rattle.nats_session.proofs.Handlers.{stands_after}
 use Rattle.nats_session.specs.Machine.{with_events}
 use Rattle.nats_session.specs.Handler.{idle}
@@ -132,12 +131,8 @@ sheet_after c n h answers place (fed bytes) named up =
     same_sheet _ _ _ _ _ _ _ _ refl (taken_kept h []) refl
 sheet_after c n h answers place (read (message sid m)) named up =
     same_sheet _ _ _ _ _ _ _ _ refl (taken_kept h []) (rows_read c h answers place sid m)
-sheet_after c n h answers place (read ok_op) named up =
-    same_sheet _ _ _ _ _ _ _ _ refl (taken_kept h (texts (commands h (read ok_op)))) refl
-sheet_after c n h answers place (read ping_op) named up =
-    same_sheet _ _ _ _ _ _ _ _ refl (taken_kept h (texts (commands h (read ping_op)))) refl
-sheet_after c n h answers place (read pong_op) named up =
-    same_sheet _ _ _ _ _ _ _ _ refl (taken_kept h (texts (commands h (read pong_op)))) refl
+sheet_after c n h answers place (read operation) named up =
+    same_sheet _ _ _ _ _ _ _ _ refl (taken_kept h (texts (commands h (read operation)))) refl
 sheet_after c n h answers place (taken k) named up =
     same_sheet _ _ _ _ _ _ _ _ refl (more_taken (is_up h) (taken_count h) k (link_text h)) refl
 sheet_after c n h answers place (accepted (Publish m)) named up =

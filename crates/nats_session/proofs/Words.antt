@@ -1,12 +1,12 @@
 -- Laws on the words that tell of a history: a count never passes what it counts, and each word after one more step.
-use Rattle.std.proofs.Common.{◌≡◌, ℕ, zero, suc, ◌+◌, ◌-◌, ◌<◌, ◌≤◌, Bool, true, false, cond, min, List, [], ◌∷◌, ◌++◌, length, take, drop, map, refl, sym, ◌∙◌, ap, arith}
-use Rattle.std.proofs.lemmas.List.{append-nil, append_assoc, map-append, length-map, length-append, length-drop, drop-append-le, drop-drop, drop_min, drop_all}
+use Rattle.std.proofs.Common.{◌≡◌, ℕ, suc, ◌+◌, ◌≤◌, cond, min, List, [], ◌∷◌, ◌++◌, length, drop, refl, sym, ◌∙◌, ap, arith}
+use Rattle.std.proofs.lemmas.List.{append-nil, length-append, drop-append-le, drop-drop, drop_min}
 use Rattle.std.proofs.Math.Nat.{min-le_right}
-use Rattle.nats_wire.specs.Operations.{Operation, Front, got, unfinished, fault, front, past, behind}
-use Rattle.nats_wire.specs.Laws.{IsGot, AllThere}
+use Rattle.nats_wire.specs.Operations.{Front, got, unfinished, fault, front, past, behind}
+use Rattle.nats_wire.specs.Laws.{AllThere}
 use Rattle.nats_wire.proofs.Fronts.{behind_next, behind_more, there_more, there_next}
 use Rattle.nats_session.specs.declared.call.Call.{Call}
-use Rattle.nats_session.specs.History.{Step, opened, fed, read, taken, accepted, handled, took, link_end, History, is_up, joined, is_got, reads, unread, calls, handled_count, waiting_calls, commands, texts, link_text, taken_count, waiting_bytes}
+use Rattle.nats_session.specs.History.{opened, fed, read, taken, accepted, handled, History, joined, is_got, reads, calls, handled_count, waiting_calls, commands, texts, link_text, taken_count}
 
 -- ---- lists
 

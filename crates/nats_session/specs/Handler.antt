@@ -1,7 +1,5 @@
 -- What the calls of a handler answer and leave.
-use Rattle.std.specs.Prelude.{◌≡◌, ℕ, zero, suc, ◌+◌, Bool, true, false, not, ◌&&◌, min, List, [], ◌∷◌, ◌++◌, length, drop, Option, Some, None, is_some, is_none, Result, Ok, Err, if◌then◌else◌, OnOk}
-use Rattle.nats_names.specs.declared.event.Event.{Event}
-use Rattle.nats_wire.specs.declared.message.Message.{Message}
+use Rattle.std.specs.Prelude.{◌≡◌, ℕ, suc, Bool, true, false, not, ◌&&◌, List, [], ◌∷◌, Option, Some, None, is_some, Result, Ok, Err, if◌then◌else◌}
 use Rattle.nats_wire.specs.declared.op.ClientOp.{ClientOp}
 use Rattle.nats_wire.specs.declared.op.ClientOp.TheVariants as client
 use Rattle.nats_wire.specs.Operations.{message}
@@ -17,9 +15,9 @@ use Rattle.nats_session.specs.declared.handler.due.Played.{Played}
 use Rattle.nats_session.specs.declared.handler.due.Played.TheVariants as played
 use Rattle.nats_session.specs.declared.subs.subscription.Delivery.{Delivery}
 use Rattle.nats_session.specs.declared.subs.subscription.Delivery.TheVariants.{Put, Dropped, Ignored}
-use Rattle.nats_session.specs.History.{Step, opened, fed, read, taken, accepted, handled, took, link_end, History}
-use Rattle.nats_session.specs.Parts.{Sub, Parts, StandsFor, after, item_of}
-use Rattle.nats_session.specs.Schedule.{is_valid_turn, own_steps, due, after_all, put_steps, call_reply, is_full}
+use Rattle.nats_session.specs.History.{Step, read, accepted, handled, link_end, History}
+use Rattle.nats_session.specs.Parts.{Parts, StandsFor, after, item_of}
+use Rattle.nats_session.specs.Schedule.{is_valid_turn, due, put_steps, call_reply, is_full}
 use Rattle.nats_session.specs.Delivery.{delivery_at}
 
 -- a handler as it is made: no link came up and nothing happened

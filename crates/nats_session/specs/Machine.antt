@@ -1,9 +1,8 @@
 -- Turns over parts and a sheet alone: what playing leaves, with each event handed out as it comes.
-use Rattle.std.specs.Prelude.{◌≡◌, ℕ, zero, suc, Bool, true, false, List, [], ◌∷◌, ◌++◌, length, Option, Some, None, Result, Ok, Err, if◌then◌else◌, min, take}
+use Rattle.std.specs.Prelude.{◌≡◌, ℕ, suc, Bool, true, false, List, [], ◌∷◌, ◌++◌, Option, Some, None, if◌then◌else◌}
 use Rattle.nats_names.specs.declared.event.Event.{Event}
-use Rattle.nats_session.specs.declared.call.Call.{Call}
 use Rattle.nats_session.specs.declared.turn.Turn.{Turn}
-use Rattle.nats_session.specs.declared.turn.Turn.TheVariants.{Up, Piece, Write, Do, Take}
+use Rattle.nats_session.specs.declared.turn.Turn.TheVariants.{Do, Take}
 use Rattle.nats_wire.specs.declared.message.Message.{Message}
 use Rattle.nats_session.specs.declared.handler.due.Played.{Played}
 use Rattle.nats_session.specs.declared.handler.due.Played.TheVariants as played

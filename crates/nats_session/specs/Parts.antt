@@ -1,16 +1,15 @@
 -- What a handler keeps: the parts of a session, which the words on histories determine.
-use Rattle.std.specs.Prelude.{◌≡◌, ℕ, zero, suc, ◌+◌, ◌-◌, ◌≤◌, Bool, true, false, not, ◌&&◌, ◌==◌, nat_lt, nat_le, min, List, [], ◌∷◌, ◌++◌, length, take, drop, map, Option, Some, None, if◌then◌else◌, slice_get}
+use Rattle.std.specs.Prelude.{◌≡◌, ℕ, zero, suc, ◌≤◌, Bool, true, false, not, ◌&&◌, nat_lt, min, List, [], ◌∷◌, ◌++◌, length, drop, map, Option, Some, None, if◌then◌else◌, slice_get}
 use Rattle.nats_names.specs.declared.event.Event.{Event}
-use Rattle.nats_names.specs.declared.event.Event.TheVariants.{Connected, Disconnected, SlowConsumer}
+use Rattle.nats_names.specs.declared.event.Event.TheVariants.{Connected, SlowConsumer}
 use Rattle.nats_wire.specs.declared.message.Message.{Message}
 use Rattle.nats_wire.specs.declared.op.ClientOp.TheVariants as client
-use Rattle.nats_wire.specs.Operations.{Operation, message, ok_op, ping_op, pong_op, front, past}
+use Rattle.nats_wire.specs.Operations.{Operation, message, ping_op, front, past}
 use Rattle.nats_wire.specs.Commands.{command_text}
 use Rattle.nats_wire.specs.Wire.{Wire, fresh}
 use Rattle.nats_session.specs.declared.config.Config.{Config}
 use Rattle.nats_session.specs.declared.call.Call.{Call}
 use Rattle.nats_session.specs.declared.call.Call.TheVariants.{Publish, Subscribe}
-use Rattle.nats_session.specs.declared.transcript.LinkWord.{LinkWord}
 use Rattle.nats_session.specs.History.{Step, opened, fed, read, taken, accepted, handled, took, link_end, History, cut, links, is_up, unread, waiting_calls, subscribed, Told, told, waiting, numbers, waiting_bytes, end_events, events}
 
 -- a subscription: whether it is open, and its waiting messages, oldest first
@@ -141,8 +140,7 @@ after_read ping_op p = record p {
     waiting = while_up p (p.wire.waiting ++ command_text client.Pong);
   };
 }
-after_read ok_op p = record p { wire = record p.wire { unread = past (front p.wire.unread) p.wire.unread } }
-after_read pong_op p = record p { wire = record p.wire { unread = past (front p.wire.unread) p.wire.unread } }
+after_read operation p = record p { wire = record p.wire { unread = past (front p.wire.unread) p.wire.unread } }
 
 abbrev pub after : Parts → Step → Parts
 after p (opened info) = record p { link = cut (suc p.link); is_up = true; wire = fresh; events = p.events ++ Connected ∷ [] }

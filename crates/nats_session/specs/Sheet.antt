@@ -1,5 +1,5 @@
 -- The transcript as it is written turn by turn.
-use Rattle.std.specs.Prelude.{◌≡◌, ℕ, suc, ◌≤◌, ◌<◌, ◌⊎◌, Bool, true, List, [], ◌∷◌, ◌++◌, length, take, drop, map, Option, Some, None, if◌then◌else◌, IsTrue}
+use Rattle.std.specs.Prelude.{◌≡◌, ℕ, suc, ◌<◌, ◌⊎◌, List, [], ◌∷◌, ◌++◌, length, take, Option, Some, None, if◌then◌else◌}
 use Rattle.nats_names.specs.declared.event.Event.{Event}
 use Rattle.nats_wire.specs.declared.message.Message.{Message}
 use Rattle.nats_wire.specs.Operations.{message}
@@ -17,8 +17,8 @@ use Rattle.nats_session.specs.declared.draft.Note.{Note}
 use Rattle.nats_session.specs.declared.draft.Note.TheVariants as notes
 use Rattle.nats_session.specs.declared.subs.subscription.Delivery.{Delivery}
 use Rattle.nats_session.specs.declared.subs.subscription.Delivery.TheVariants.{Put, Dropped, Ignored}
-use Rattle.nats_session.specs.History.{Step, opened, fed, read, taken, accepted, handled, took, link_end, History, is_up, link_text, taken_count, end_events, at_place, given, events}
-use Rattle.nats_session.specs.Parts.{Parts, StandsFor, at_number, item_of, drop_events}
+use Rattle.nats_session.specs.History.{Step, opened, fed, read, taken, accepted, handled, took, link_end, History, is_up, link_text, taken_count, at_place, given, events}
+use Rattle.nats_session.specs.Parts.{Parts, StandsFor, at_number, item_of}
 use Rattle.nats_session.specs.Delivery.{delivery_at}
 use Rattle.nats_session.specs.Transcripts.{Answer, nothing, called, asked, ended_links, sub_rows, take_replies, call_replies}
 

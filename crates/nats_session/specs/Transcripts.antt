@@ -1,10 +1,10 @@
 -- The transcript of a list of turns.
-use Rattle.std.specs.Prelude.{ℕ, zero, suc, List, [], ◌∷◌, ◌++◌, length, take, drop, map, Option, Some, None, Result, Ok, Err, ◌≡◌, if◌then◌else◌, ◌==◌}
+use Rattle.std.specs.Prelude.{ℕ, suc, List, [], ◌∷◌, ◌++◌, take, drop, map, Some, None, Result, Ok, Err, ◌≡◌, if◌then◌else◌, ◌==◌}
 use Rattle.nats_session.specs.declared.config.Config.{Config}
 use Rattle.nats_session.specs.declared.call.CallReply.{CallReply}
 use Rattle.nats_session.specs.declared.call.TakeReply.{TakeReply}
 use Rattle.nats_session.specs.declared.turn.Turn.{Turn}
-use Rattle.nats_session.specs.declared.turn.Turn.TheVariants.{Up, Piece, Write, Do, Take}
+use Rattle.nats_session.specs.declared.turn.Turn.TheVariants.{Do, Take}
 use Rattle.nats_session.specs.declared.transcript.LinkWord.{LinkWord}
 use Rattle.nats_session.specs.declared.transcript.LinkWord.TheVariants as word
 use Rattle.nats_session.specs.declared.transcript.LinkRow.{LinkRow}
@@ -12,7 +12,7 @@ use Rattle.nats_session.specs.declared.transcript.SubRow.{SubRow}
 use Rattle.nats_session.specs.declared.transcript.Transcript.{Transcript}
 use Rattle.nats_session.specs.declared.transcript.RunError.{RunError}
 use Rattle.nats_session.specs.declared.transcript.RunError.TheVariants as refused
-use Rattle.nats_session.specs.History.{Step, link_end, History, is_up, Told, told, numbers, link_text, taken_count, events}
+use Rattle.nats_session.specs.History.{link_end, History, is_up, Told, told, numbers, link_text, taken_count, events}
 use Rattle.nats_session.specs.Parts.{parts_of}
 use Rattle.nats_session.specs.Schedule.{call_reply, take_reply, after_turn, steps, out_of_turn}
 

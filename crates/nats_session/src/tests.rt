@@ -99,55 +99,96 @@ fn written(rt: &impl Abort, handler: &mut ConnectionHandler, n: u64) {
     handler.written(n);
 }
 
-/// A session with one link and one subscription, whose subscribe was handled.
-fn subscribed(alloc: Global, rt: &impl Abort) -> Result<ConnectionHandler, NoMemory> {
-    let mut handler = ConnectionHandler::new(alloc, settings(alloc, rt)?)?;
-    up(alloc, rt, &mut handler)?;
-    submit(alloc, rt, &mut handler, subscribe(alloc)?)?;
-    handler.advance(alloc)?;
-    Ok(handler)
+fn session(alloc: Global, rt: &impl Abort) -> Result<ConnectionHandler, NoMemory> {
+    ConnectionHandler::new(alloc, settings(alloc, rt)?)
 }
 
-#[test]
-fn a_link_takes_what_was_written(rt: HostRuntime) -> Result<(), Fail> {
-    let mut handler = subscribed(rt.alloc(), &rt)?;
+/// A link comes up, and a subscribe is taken in and handled.
+fn subscribe_on(
+    alloc: Global,
+    rt: &impl Abort,
+    handler: &mut ConnectionHandler,
+) -> Result<(), NoMemory> {
+    up(alloc, rt, handler)?;
+    submit(alloc, rt, handler, subscribe(alloc)?)?;
+    handler.advance(alloc)?;
+    Ok(())
+}
+
+fn written_in_part(
+    alloc: Global,
+    rt: &impl Abort,
+    handler: &mut ConnectionHandler,
+) -> Result<(), NoMemory> {
+    subscribe_on(alloc, rt, handler)?;
     assert!(rt; handler.is_up() && handler.link() == 1 && !handler.is_due());
     assert!(rt; handler.next_event().is_some());
-    assert_eq!(rt; handler.pending_pieces(rt.alloc())?.as_slice().len(), 1);
-    written(&rt, &mut handler, 4);
+    assert_eq!(rt; handler.pending_pieces(alloc)?.as_slice().len(), 1);
+    written(rt, handler, 4);
     assert_eq!(rt; handler.pending(), 11);
     Ok(())
 }
 
 #[test]
-fn a_message_is_put_and_taken(rt: HostRuntime) -> Result<(), Fail> {
-    let mut handler = subscribed(rt.alloc(), &rt)?;
-    piece(&rt, &mut handler, MESSAGE)?;
+fn a_link_takes_what_was_written(rt: HostRuntime) -> Result<(), Fail> {
+    written_in_part(rt.alloc(), &rt, &mut session(rt.alloc(), &rt)?)?;
+    Ok(())
+}
+
+fn put_and_taken(
+    alloc: Global,
+    rt: &impl Abort,
+    handler: &mut ConnectionHandler,
+) -> Result<(), NoMemory> {
+    subscribe_on(alloc, rt, handler)?;
+    piece(rt, handler, MESSAGE)?;
     assert!(rt; handler.is_due());
-    let due = handler.advance(rt.alloc())?;
-    assert!(rt; matches!(due, Due::Put(1)) && handler.last_put(1).is_some());
-    let reply = take(&rt, &mut handler, 1);
-    assert!(rt; matches!(reply, TakeReply::Message(_)) && handler.last_put(1).is_none());
+    assert!(rt; matches!(handler.advance(alloc)?, Due::Put(1)));
+    assert!(rt; handler.last_put(1).is_some());
+    assert!(rt; matches!(take(rt, handler, 1), TakeReply::Message(_)));
+    assert!(rt; handler.last_put(1).is_none());
+    Ok(())
+}
+
+#[test]
+fn a_message_is_put_and_taken(rt: HostRuntime) -> Result<(), Fail> {
+    put_and_taken(rt.alloc(), &rt, &mut session(rt.alloc(), &rt)?)?;
+    Ok(())
+}
+
+fn waits_for_a_link(
+    alloc: Global,
+    rt: &impl Abort,
+    handler: &mut ConnectionHandler,
+) -> Result<(), NoMemory> {
+    let reply = submit(alloc, rt, handler, publish(alloc)?)?;
+    assert!(rt; matches!(reply, CallReply::Accepted) && !handler.is_due());
+    up(alloc, rt, handler)?;
+    assert!(rt; matches!(handler.advance(alloc)?, Due::Handled));
+    assert_eq!(rt; handler.pending(), 13);
     Ok(())
 }
 
 #[test]
 fn a_call_waits_for_a_link(rt: HostRuntime) -> Result<(), Fail> {
-    let mut handler = ConnectionHandler::new(rt.alloc(), settings(rt.alloc(), &rt)?)?;
-    let reply = submit(rt.alloc(), &rt, &mut handler, publish(rt.alloc())?)?;
-    assert!(rt; matches!(reply, CallReply::Accepted) && !handler.is_due());
-    up(rt.alloc(), &rt, &mut handler)?;
-    let due = handler.advance(rt.alloc())?;
-    assert!(rt; matches!(due, Due::Handled) && handler.pending() == 13);
+    waits_for_a_link(rt.alloc(), &rt, &mut session(rt.alloc(), &rt)?)?;
+    Ok(())
+}
+
+fn answered(
+    alloc: Global,
+    rt: &impl Abort,
+    handler: &mut ConnectionHandler,
+) -> Result<(), NoMemory> {
+    up(alloc, rt, handler)?;
+    piece(rt, handler, b"PING\r\n")?;
+    assert!(rt; matches!(handler.advance(alloc)?, Due::Read));
+    assert_eq!(rt; handler.pending(), 6);
     Ok(())
 }
 
 #[test]
 fn a_ping_is_answered(rt: HostRuntime) -> Result<(), Fail> {
-    let mut handler = ConnectionHandler::new(rt.alloc(), settings(rt.alloc(), &rt)?)?;
-    up(rt.alloc(), &rt, &mut handler)?;
-    piece(&rt, &mut handler, b"PING\r\n")?;
-    let due = handler.advance(rt.alloc())?;
-    assert!(rt; matches!(due, Due::Read) && handler.pending() == 6);
+    answered(rt.alloc(), &rt, &mut session(rt.alloc(), &rt)?)?;
     Ok(())
 }

@@ -68,9 +68,8 @@ impl ConnectionHandler {
         self.play_call(alloc, call)
     }
 
-    /// Takes the oldest waiting message of the subscription of number `s` out of its queue, or answers `Empty`, and then nothing
-    /// changed. Its condition is `check` of
-    /// that turn. It takes no memory.
+    /// Takes the oldest waiting message of the subscription of number `s` out of its queue, or answers `Empty`, and then
+    /// nothing changed. Its condition is `check` of that turn. It takes no memory.
     pub fn take(&mut self, s: u64) -> TakeReply
         requires { IsTrue (can_play self.old (turns.Take s)) }
         ensures reply { result ≡ take_reply self.old s }

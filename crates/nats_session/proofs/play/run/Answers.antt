@@ -1,7 +1,5 @@
 -- Each round plays the next turn, until one may not come or all were played.
-use Rattle.std.proofs.Common.{◌≡◌, ◌+◌, ◌<◌, ◌≤◌, suc, length, rules, refl, sym, ◌∙◌, ap, subst, arith, add-one}
-use Rattle.nats_session.specs.Parts.{Parts}
-use Rattle.nats_session.specs.Sheet.{Sheet}
+use Rattle.std.proofs.Common.{sym, ◌∙◌, ap, subst, arith, add-one}
 use Rattle.nats_session.specs.Machine.{turn_sheet}
 use Rattle.nats_session.proofs.Runs.{Running, begins, stops_at, goes_on, ends_at}
 use Rattle.nats_session.proofs.play.run.Goals as goal

@@ -1,11 +1,7 @@
 -- Each round plays a due step, until none is due.
-use Rattle.std.proofs.Common.{refl, sym, ◌∙◌, ap, true, false}
-use Rattle.nats_session.specs.Parts.{Parts}
+use Rattle.std.proofs.Common.{refl, ◌∙◌}
 use Rattle.nats_session.specs.Schedule.{due}
-use Rattle.nats_session.specs.Sheet.{Sheet}
-use Rattle.nats_session.specs.Machine.{NotesDue}
 use Rattle.nats_session.proofs.Settles.{Goes, goes, stops}
-use Rattle.nats_session.proofs.Handlers.{on_ok_of}
 use Rattle.nats_session.proofs.play.settle.Goals as goal
 use Rattle.nats_session.proofs.play.settle.Goals.{Else-not-more, Then-not-more}
 

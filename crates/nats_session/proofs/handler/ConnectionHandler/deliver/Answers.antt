@@ -1,5 +1,5 @@
 -- A delivery keeps the number of subscriptions, and one that is dropped keeps them all.
-use Rattle.std.proofs.Common.{◌≡◌, ap, sym, ◌∙◌, length}
+use Rattle.std.proofs.Common.{ap, sym, ◌∙◌, length}
 use Rattle.nats_session.specs.Parts.{deliver}
 use Rattle.nats_session.proofs.Tables.{length-at_number}
 use Rattle.nats_session.proofs.Handlers.{on_err_of, unchanged, dropped_nothing}

@@ -1,6 +1,5 @@
 -- One call less waits, and one subscription more is subscribed.
-use Rattle.std.proofs.Common.{◌≡◌, sym, arith}
-use Rattle.nats_session.specs.Parts.{Sub, open_sub}
+use Rattle.std.proofs.Common.{sym, arith}
 use Rattle.nats_session.proofs.Tables.{length-at_index}
 use Rattle.nats_session.proofs.Handlers.{handled_one}
 use Rattle.nats_session.proofs.handler.ConnectionHandler.handle_next.Goals as goal

@@ -1,8 +1,7 @@
 -- One more call waits, and where it is a subscribe one more number was given.
-use Rattle.std.proofs.Common.{◌≡◌, sym, arith}
+use Rattle.std.proofs.Common.{sym, arith}
 use Rattle.std.proofs.lemmas.List.{length-append}
 use Rattle.nats_session.specs.Parts.{Sub}
-use Rattle.nats_session.specs.Handler.{subscribes}
 use Rattle.nats_session.proofs.Handlers.{subscribes_more, subscribes_same}
 use Rattle.nats_session.proofs.handler.ConnectionHandler.play_call.Goals as goal
 

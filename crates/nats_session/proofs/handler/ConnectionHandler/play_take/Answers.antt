@@ -1,5 +1,5 @@
 -- A take keeps the number of subscriptions.
-use Rattle.std.proofs.Common.{◌≡◌, ap, sym, ◌∙◌, length}
+use Rattle.std.proofs.Common.{ap, sym, ◌∙◌, length}
 use Rattle.nats_session.specs.Parts.{take_from}
 use Rattle.nats_session.proofs.Tables.{length-at_number}
 use Rattle.nats_session.proofs.handler.ConnectionHandler.play_take.Goals as goal

@@ -2,7 +2,7 @@
 use Rattle.std.proofs.Common.{rules, ◌≡◌, ◌<◌, ap, sym, ◌∙◌, length, Some}
 use Rattle.std.proofs.lemmas.Result.{on_ok_weaker, IfOk-weaker}
 use Rattle.nats_session.specs.Parts.{at_number, item_of, deliver}
-use Rattle.nats_session.specs.Delivery.{delivery, delivery_at}
+use Rattle.nats_session.specs.Delivery.{delivery_at}
 use Rattle.nats_session.proofs.Tables.{set_number, item_read, number_missing, no_item}
 use Rattle.nats_session.proofs.subs.Subscriptions.deliver.Goals as goal
 

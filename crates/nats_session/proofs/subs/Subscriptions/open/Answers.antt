@@ -1,5 +1,5 @@
 -- Opening a slot changes the one item.
-use Rattle.std.proofs.Common.{rules, arith, ap, ◌∙◌, length}
+use Rattle.std.proofs.Common.{rules, ap, ◌∙◌}
 use Rattle.nats_session.specs.Parts.{at_index, open_sub}
 use Rattle.nats_session.proofs.Tables.{set_changed}
 use Rattle.nats_session.proofs.subs.Subscriptions.open.Goals as goal

@@ -2,7 +2,7 @@
 use Rattle.std.proofs.Common.{rules, ◌≡◌, ◌<◌, ap, sym, ◌∙◌, length, Some}
 use Rattle.nats_session.specs.Parts.{at_number, item_of, take_from}
 use Rattle.nats_session.specs.Delivery.{oldest_of}
-use Rattle.nats_session.proofs.Tables.{set_number, item_read, number_missing, no_item}
+use Rattle.nats_session.proofs.Tables.{set_number, item_read, number_missing}
 use Rattle.nats_session.proofs.subs.Subscriptions.take.Goals as goal
 
 pub returns-in_err-index-clause-rest : goal.returns-in_err-index-clause-rest
