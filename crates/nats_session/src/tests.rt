@@ -163,6 +163,7 @@ fn waits_for_a_link(
 ) -> Result<(), NoMemory> {
     let reply = submit(alloc, rt, handler, publish(alloc)?)?;
     assert!(rt; matches!(reply, CallReply::Accepted) && !handler.is_due());
+    assert!(rt; handler.pending_pieces(alloc)?.is_empty());
     up(alloc, rt, handler)?;
     assert!(rt; matches!(handler.advance(alloc)?, Due::Handled));
     assert_eq!(rt; handler.pending(), 13);
