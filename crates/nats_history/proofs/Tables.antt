@@ -4,8 +4,7 @@ use Rattle.std.specs.Prelude.{slice_get}
 use Rattle.std.proofs.lemmas.List.{length-map, map-append}
 use Rattle.std.proofs.lemmas.Option.{slice_get_read, slice_get_past}
 use Rattle.std.proofs.lemmas.Bool.{ne_eqb, eq-eqb, ltb-false}
-use Rattle.nats_session.specs.History.{count_from}
-use Rattle.nats_session.specs.Parts.{at_index, at_number, item_of}
+use Rattle.nats_history.specs.Tables.{at_index, at_number, item_of, count_from, About, nobody, everyone, only, is_about, change}
 
 pub same_cons : {A : Type 0} (x y : A) (xs ys : List A) → x ≡ y → xs ≡ ys → x ∷ xs ≡ y ∷ ys
 same_cons x y xs ys e d = cc
@@ -65,25 +64,31 @@ pub numbered : {A B : Type 0} (view : ℕ → A → B) (f : B → B) (new old : 
 numbered view f new old n zero changed = above view new old n 1 zero (omega arith)
 numbered view f new old n (suc i) changed = numbered_from view f new old n i 1 (suc i) changed (omega arith)
 
--- the same under a condition that does not hang on the number, and that holds where there is such a number
-pub numbered_if : {A B : Type 0} (view : ℕ → A → B) (f : B → B) (new old : ℕ → A) (n i : ℕ) (b : Bool) → view (suc i) (new (suc i)) ≡ f (view (suc i) (old (suc i))) → b ≡ ltb i n
-    → map (λ s. view s (cond (b && eqb s (suc i)) (new s) (old s))) (count_from 1 n) ≡ at_number (suc i) f (map (λ s. view s (old s)) (count_from 1 n))
-numbered_if view f new old n i true changed e = numbered view f new old n (suc i) changed
-numbered_if view f new old n i false changed e =
-    let past = ltb-false i n (sym e) in
-    sym (at_index_past i f (map (λ s. view s (old s)) (count_from 1 n)) (rw (length-map (count_from 1 n) (λ s. view s (old s)), length-count_from 1 n) past))
+map_map : {A B D : Type 0} (f : B → D) (g : A → B) (xs : List A) → map (λ x. f (g x)) xs ≡ map f (map g xs)
+map_map f g [] = refl
+map_map f g (x ∷ xs) = ap (λ ys. f (g x) ∷ ys) (map_map f g xs)
+
+-- the table after what something is about was changed
+pub changed : {B : Type 0} (a : About) (f : B → B) (g : ℕ → B) (n : ℕ) → map (λ s. cond (is_about s a) (f (g s)) (g s)) (count_from 1 n) ≡ change a f (map g (count_from 1 n))
+changed nobody f g n = refl
+changed everyone f g n = map_map f g (count_from 1 n)
+changed (only k) f g n = numbered (λ s x. x) f (λ s. f (g s)) g n k refl
+
+-- tables of numbers up to n whose things look alike are one
+same_from : {B : Type 0} (f g : ℕ → B) (n first : ℕ) → ((s : ℕ) → first ≤ s → s < first + n → f s ≡ g s) → map f (count_from first n) ≡ map g (count_from first n)
+same_from f g zero first same = refl
+same_from f g (suc n) first same =
+    same_cons _ _ _ _ (same first (omega arith) (omega arith)) (same_from f g n (suc first) (λ s low high. same s (omega arith) (omega arith)))
+
+pub same_up_to : {B : Type 0} (f g : ℕ → B) (n : ℕ) → ((s : ℕ) → 1 ≤ s → s ≤ n → f s ≡ g s) → map f (count_from 1 n) ≡ map g (count_from 1 n)
+same_up_to f g n same = same_from f g n 1 (λ s low high. same s low (omega arith))
 
 -- ---- the table after one more thing came, of the next number
 
-pub one_more : {A B : Type 0} (view : ℕ → A → B) (new old : ℕ → A) (n : ℕ) (last : B) → view (suc n) (new (suc n)) ≡ last
-    → map (λ s. view s (cond (eqb s (suc n)) (new s) (old s))) (count_from 1 (suc n)) ≡ map (λ s. view s (old s)) (count_from 1 n) ++ last ∷ []
-one_more view new old n last e =
-    let told = λ (s : ℕ). view s (cond (eqb s (suc n)) (new s) (old s)) in
+pub one_more : {B : Type 0} (g : ℕ → B) (n : ℕ) (last : B) → g (suc n) ≡ last → map g (count_from 1 (suc n)) ≡ map g (count_from 1 n) ++ last ∷ []
+one_more g n last e =
     let next : 1 + n ≡ suc n = omega arith in
-    let here : told (1 + n) ≡ last =
-    ap told next ∙ (ap (λ b. view (suc n) (cond b (new (suc n)) (old (suc n)))) (eq-eqb (suc n) (suc n) refl) ∙ e)
-    in
-    ap (map told) (count_from_last 1 n) ∙ (map-append told (count_from 1 n) ((1 + n) ∷ []) ∙ (ap (λ xs. xs ++ told (1 + n) ∷ []) (below view new old n 1 (suc n) (omega arith)) ∙ ap (λ x. map (λ s. view s (old s)) (count_from 1 n) ++ x ∷ []) here))
+    ap (map g) (count_from_last 1 n) ∙ (map-append g (count_from 1 n) ((1 + n) ∷ []) ∙ ap (λ x. map g (count_from 1 n) ++ x ∷ []) (ap g next ∙ e))
 
 -- tables whose things look alike are one
 pub same_table : {B : Type 0} (f g : ℕ → B) (numbers : List ℕ) → ((s : ℕ) → f s ≡ g s) → map f numbers ≡ map g numbers

@@ -2,6 +2,7 @@
 ghost use Rattle.std.specs.Prelude.{◌≡◌, IfOk};
 
 use nats_wire::{NoMemory, Subject, Token};
+use std::alloc::Global;
 
 /// The settings of a session, which stay as they are.
 #[derive(Drop)]
@@ -20,7 +21,7 @@ pub struct Config {
 
 impl Config {
     /// Equal settings, which share the prefix's bytes.
-    pub fn copy(&self) -> Result<Config, NoMemory>
+    pub fn copy(&self, alloc: Global) -> Result<Config, NoMemory>
         ensures { IfOk result (λ c. c ≡ self.now) }
     {
         Ok(Config {

@@ -1,35 +1,35 @@
 -- The transcript of a list of turns.
 use Rattle.std.specs.Prelude.{ℕ, suc, List, [], ◌∷◌, ◌++◌, take, drop, map, Some, None, Result, Ok, Err, ◌≡◌, if◌then◌else◌, ◌==◌}
-use Rattle.nats_session.specs.declared.config.Config.{Config}
-use Rattle.nats_session.specs.declared.call.CallReply.{CallReply}
-use Rattle.nats_session.specs.declared.call.TakeReply.{TakeReply}
-use Rattle.nats_session.specs.declared.turn.Turn.{Turn}
-use Rattle.nats_session.specs.declared.turn.Turn.TheVariants.{Do, Take}
-use Rattle.nats_session.specs.declared.transcript.LinkWord.{LinkWord}
-use Rattle.nats_session.specs.declared.transcript.LinkWord.TheVariants as word
-use Rattle.nats_session.specs.declared.transcript.LinkRow.{LinkRow}
-use Rattle.nats_session.specs.declared.transcript.SubRow.{SubRow}
-use Rattle.nats_session.specs.declared.transcript.Transcript.{Transcript}
-use Rattle.nats_session.specs.declared.transcript.RunError.{RunError}
-use Rattle.nats_session.specs.declared.transcript.RunError.TheVariants as refused
-use Rattle.nats_session.specs.History.{link_end, History, is_up, Told, told, numbers, link_text, taken_count, events}
-use Rattle.nats_session.specs.Parts.{parts_of}
-use Rattle.nats_session.specs.Schedule.{call_reply, take_reply, after_turn, steps, out_of_turn}
+use Rattle.nats_history.specs.declared.config.Config.{Config}
+use Rattle.nats_history.specs.declared.call.CallReply.{CallReply}
+use Rattle.nats_history.specs.declared.call.TakeReply.{TakeReply}
+use Rattle.nats_history.specs.declared.turn.Turn.{Turn}
+use Rattle.nats_history.specs.declared.turn.Turn.TheVariants.{Do, Take}
+use Rattle.nats_history.specs.declared.transcript.LinkWord.{LinkWord}
+use Rattle.nats_history.specs.declared.transcript.LinkWord.TheVariants as word
+use Rattle.nats_history.specs.declared.transcript.LinkRow.{LinkRow}
+use Rattle.nats_history.specs.declared.transcript.SubRow.{SubRow}
+use Rattle.nats_history.specs.declared.transcript.Transcript.{Transcript}
+use Rattle.nats_history.specs.declared.transcript.RunError.{RunError}
+use Rattle.nats_history.specs.declared.transcript.RunError.TheVariants as refused
+use Rattle.nats_history.specs.History.{link_end, History, is_up, Told, told, numbers, link_text, taken_count, events}
+use Rattle.nats_history.specs.Parts.{parts_of}
+use Rattle.nats_history.specs.Schedule.{call_reply, take_reply, after_turn, steps, out_of_turn}
 
 -- ---- links
 
 -- the row of the newest link, with this word at its end: the first bytes of its text, as many as were taken, and the rest
-abbrev pub link_row : LinkWord → History → LinkRow
-link_row end h = record { end = end; taken = take (taken_count h) (link_text h); left = drop (taken_count h) (link_text h) }
+abbrev pub link_row : Config → LinkWord → History → LinkRow
+link_row c end h = record { end = end; taken = take (taken_count c h) (link_text c h); left = drop (taken_count c h) (link_text c h) }
 
 -- the rows of the links that ended
-abbrev pub ended_links : History → List LinkRow
-ended_links [] = []
-ended_links ((place, link_end end) ∷ h) = ended_links h ++ link_row end h ∷ []
-ended_links (e ∷ h) = ended_links h
+abbrev pub ended_links : Config → History → List LinkRow
+ended_links c [] = []
+ended_links c ((place, link_end end) ∷ h) = ended_links c h ++ link_row c end h ∷ []
+ended_links c (e ∷ h) = ended_links c h
 
-abbrev pub up_link : History → List LinkRow
-up_link h = if is_up h then link_row word.Up h ∷ [] else []
+abbrev pub up_link : Config → History → List LinkRow
+up_link c h = if is_up h then link_row c word.Up h ∷ [] else []
 
 -- ---- replies, which are no steps
 
@@ -40,8 +40,8 @@ pub data Answer : Type 0 where
   asked : ℕ → TakeReply → Answer
 
 abbrev pub answer_of : Config → History → Turn → Answer
-answer_of c h (Do call) = called (call_reply (parts_of c 0 h) call)
-answer_of c h (Take sid) = asked sid (take_reply (parts_of c 0 h) sid)
+answer_of c h (Do call) = called (call_reply (parts_of c h) call)
+answer_of c h (Take sid) = asked sid (take_reply (parts_of c h) sid)
 answer_of c h turn = nothing
 
 -- the answers of all turns in order, each with its place
@@ -78,7 +78,7 @@ sub_rows c h answers = map (λ s. sub_row (told c s h) (take_replies s answers))
 -- what a history and answers show
 abbrev pub shown : Config → History → List (ℕ × Answer) → Transcript
 shown c h answers = record {
-  links = ended_links h ++ up_link h;
+  links = ended_links c h ++ up_link c h;
   subs = sub_rows c h answers;
   events = events c h;
   calls = call_replies answers;

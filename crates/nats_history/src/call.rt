@@ -1,8 +1,8 @@
 //! What a user asks of a session, and what it answers.
 ghost use Rattle.std.specs.Prelude.{◌≡◌, IfOk};
-ghost use Rattle.nats_session.specs.Handler.{is_subscribe};
 
 use nats_wire::{Message, NoMemory, OutboundMessage, Subject, copy_subject};
+use std::alloc::Global;
 
 /// What a user asks of a session.
 #[derive(Drop)]
@@ -17,13 +17,13 @@ pub enum Call {
 }
 
 /// The answer to a call.
-#[derive(Drop)]
+#[derive(PartialEq, Eq, Debug, Drop)]
 pub enum CallReply {
     /// The call was accepted.
     Accepted,
     /// The call was accepted, and this is the number that it gave, from 1.
     Numbered(u64),
-    /// As many accepted calls wait as the client capacity: nothing changed.
+    /// As many accepted calls wait as the client capacity: nothing changed, and the call is dropped.
     Full,
 }
 
@@ -37,15 +37,8 @@ pub enum TakeReply {
 }
 
 impl Call {
-    /// Whether it is a subscribe, which gets a number.
-    pub(crate) fn is_subscribe(&self) -> bool
-        ensures { result ≡ is_subscribe self.now }
-    {
-        matches!(self, Call::Subscribe { .. })
-    }
-
     /// An equal call, which shares its bytes.
-    pub fn copy(&self) -> Result<Call, NoMemory>
+    pub fn copy(&self, alloc: Global) -> Result<Call, NoMemory>
         ensures { IfOk result (λ c. c ≡ self.now) }
     {
         match self {
@@ -63,7 +56,7 @@ impl Call {
 
 impl CallReply {
     /// An equal reply.
-    pub fn copy(&self) -> Result<CallReply, NoMemory>
+    pub fn copy(&self, _alloc: Global) -> Result<CallReply, NoMemory>
         ensures { IfOk result (λ r. r ≡ self.now) }
     {
         match self {
@@ -76,7 +69,7 @@ impl CallReply {
 
 impl TakeReply {
     /// An equal reply, which shares its bytes.
-    pub fn copy(&self) -> Result<TakeReply, NoMemory>
+    pub fn copy(&self, alloc: Global) -> Result<TakeReply, NoMemory>
         ensures { IfOk result (λ r. r ≡ self.now) }
     {
         match self {

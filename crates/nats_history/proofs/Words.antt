@@ -1,12 +1,16 @@
 -- Laws on the words that tell of a history: a count never passes what it counts, and each word after one more step.
 use Rattle.std.proofs.Common.{◌≡◌, ℕ, suc, ◌+◌, ◌≤◌, cond, min, List, [], ◌∷◌, ◌++◌, length, drop, refl, sym, ◌∙◌, ap, arith}
-use Rattle.std.proofs.lemmas.List.{append-nil, length-append, drop-append-le, drop-drop, drop_min}
+use Rattle.std.proofs.lemmas.List.{append-nil, append_assoc, length-append, drop-append-le, drop-drop, drop_min}
 use Rattle.std.proofs.Math.Nat.{min-le_right}
 use Rattle.nats_wire.specs.Operations.{Front, got, unfinished, fault, front, past, behind}
 use Rattle.nats_wire.specs.Laws.{AllThere}
 use Rattle.nats_wire.proofs.Fronts.{behind_next, behind_more, there_more, there_next}
-use Rattle.nats_session.specs.declared.call.Call.{Call}
-use Rattle.nats_session.specs.History.{opened, fed, read, taken, accepted, handled, History, joined, is_got, reads, calls, handled_count, waiting_calls, commands, texts, link_text, taken_count}
+use Rattle.nats_history.specs.declared.call.Call.{Call}
+use Rattle.nats_history.specs.declared.config.Config.{Config}
+use Rattle.nats_history.specs.History.{opened, fed, read, taken, accepted, handled, History, joined, is_got, reads, calls, handled_count, waiting_calls, texts, text_by, link_text, taken_count}
+use Rattle.nats_history.specs.After.{write_all}
+use Rattle.nats_wire.specs.Commands.{command_text}
+use Rattle.nats_wire.specs.declared.op.ClientOp.{ClientOp}
 
 -- ---- lists
 
@@ -57,18 +61,21 @@ unread_fed h bytes = behind_more (reads h) (joined h) bytes (reads_are_there h)
 
 -- ---- the link's text
 
--- a step without commands leaves the link's text
-same_text : (h : History) (n : ℕ) → n ≤ length (link_text h) → n ≤ length (link_text h ++ [])
-same_text h n fits = rw append-nil fits
-
-pub taken_fits : (h : History) → taken_count h ≤ length (link_text h)
-taken_fits [] = omega arith
-taken_fits ((place, opened info) ∷ h) = omega arith
-taken_fits ((place, taken n) ∷ h) =
-    rw append-nil (min-le_right (taken_count h + n) (length (link_text h)))
-taken_fits ((place, step) ∷ h) =
-    omega (arith, taken_fits h, length-append (link_text h) (texts (commands h step)))
+pub taken_fits : (c : Config) (h : History) → taken_count c h ≤ length (link_text c h)
+taken_fits c [] = omega arith
+taken_fits c ((place, opened info) ∷ h) = omega arith
+taken_fits c ((place, taken n) ∷ h) =
+    rw append-nil (min-le_right (taken_count c h + n) (length (link_text c h)))
+taken_fits c ((place, step) ∷ h) =
+    omega (arith, taken_fits c h, length-append (link_text c h) (text_by c h step))
 
 -- bytes join those that wait
-pub waiting_written : (h : History) (more : List ℕ) → drop (taken_count h) (link_text h ++ more) ≡ drop (taken_count h) (link_text h) ++ more
-waiting_written h more = drop-append-le (taken_count h) (link_text h) more (taken_fits h)
+pub waiting_more : (c : Config) (h : History) (more : List ℕ) → drop (taken_count c h) (link_text c h ++ more) ≡ drop (taken_count c h) (link_text c h) ++ more
+waiting_more c h more =
+    drop-append-le (taken_count c h) (link_text c h) more (taken_fits c h)
+
+-- commands one by one are their texts as one
+pub written_all : (commands : List ClientOp) (waiting : List ℕ) → waiting ++ texts commands ≡ write_all commands waiting
+written_all [] waiting = append-nil waiting
+written_all (command ∷ more) waiting =
+    sym (append_assoc waiting (command_text command) (texts more)) ∙ written_all more (waiting ++ command_text command)

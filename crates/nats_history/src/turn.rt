@@ -46,7 +46,7 @@ impl Turn {
             Turn::Up(info) => Ok(Turn::Up(info.copy(alloc)?)),
             Turn::Piece(bytes) => Ok(Turn::Piece(bytes.clone()?)),
             Turn::Write(n) => Ok(Turn::Write(*n)),
-            Turn::Do(call) => Ok(Turn::Do(call.copy()?)),
+            Turn::Do(call) => Ok(Turn::Do(call.copy(alloc)?)),
             Turn::Take(s) => Ok(Turn::Take(*s)),
         }
     }

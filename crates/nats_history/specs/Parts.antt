@@ -1,0 +1,48 @@
+-- What a handler keeps: the parts of a session, which the words on histories determine.
+use Rattle.std.specs.Prelude.{ℕ, Bool, List}
+use Rattle.nats_wire.specs.Wire.{Wire}
+use Rattle.nats_history.specs.declared.config.Config.{Config}
+use Rattle.nats_history.specs.declared.call.Call.{Call}
+use Rattle.nats_history.specs.History.{History, links, is_up, unread, waiting_bytes, waiting_calls, At, at_of, Sub, rows_of}
+
+-- the newest link
+pub record Link : Type 0 where
+  -- its number, 0 before any
+  pub number : ℕ
+  pub is_up : Bool
+  -- the unread and the waiting bytes while it is up
+  pub wire : Wire
+
+-- the subscriptions: how many numbers were given, how many of them were subscribed, and the subscriptions by their numbers
+pub record Subs : Type 0 where
+  pub given : ℕ
+  pub subscribed : ℕ
+  pub rows : List Sub
+
+-- what a handler keeps
+pub record Parts : Type 0 where
+  pub config : Config
+  pub link : Link
+  -- the calls that wait, oldest first
+  pub calls : List Call
+  pub subs : Subs
+
+-- what a step's meaning hangs on, as parts have it
+abbrev pub at_in : Subs → At
+at_in subs = record { given = subs.given; subscribed = subs.subscribed }
+
+-- ---- the parts of a history
+
+abbrev pub link_of : Config → History → Link
+link_of c h = record {
+  number = links h;
+  is_up = is_up h;
+  wire = record { unread = unread h; waiting = waiting_bytes c h };
+}
+
+abbrev pub subs_of : Config → History → Subs
+subs_of c h = record { given = (at_of h).given; subscribed = (at_of h).subscribed; rows = rows_of c h }
+
+-- the parts that the words on a history determine
+abbrev pub parts_of : Config → History → Parts
+parts_of c h = record { config = c; link = link_of c h; calls = waiting_calls h; subs = subs_of c h }

@@ -1,0 +1,25 @@
+//! What holds of the words on histories, whatever the history. Each function does nothing: its contract is the law, so the
+//! law is proved where the function is.
+ghost use Rattle.nats_history.specs.Laws.{PartsAfter, SameSettled, NoneLeft, NoneAfterTurn};
+
+/// What the words on a longer history give is what its newest step makes of the parts before it: so a handler needs no
+/// history.
+pub fn parts_after()
+    ensures { PartsAfter }
+{}
+
+/// Settling a history, each step chosen from the history so far, puts the steps that are due at its parts, each chosen
+/// from the parts so far.
+pub fn same_settled()
+    ensures { SameSettled }
+{}
+
+/// Behind all due steps none is due: there are never more rounds of them than the definition plays.
+pub fn none_left()
+    ensures { NoneLeft }
+{}
+
+/// After a turn no step is due, so that the next turn may be played.
+pub fn none_after_turn()
+    ensures { NoneAfterTurn }
+{}

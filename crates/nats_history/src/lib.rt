@@ -1,0 +1,18 @@
+//! What a NATS session is told by: its settings, calls, turns and transcript as plain values, and beside them the words on
+//! histories and their laws. It plays nothing. Lengths are in bytes; subscriptions, links and places of turns are numbered
+//! from 1.
+#![tactic(auto)]
+
+mod call;
+mod config;
+pub mod laws;
+mod transcript;
+mod turn;
+
+pub use call::{Call, CallReply, TakeReply};
+pub use config::Config;
+pub use nats_wire::{
+    Bytes, Event, Message, NoMemory, OutboundMessage, Seq, ServerInfo, Subject, Token,
+};
+pub use transcript::{LinkRow, LinkWord, RunError, SubRow, Transcript};
+pub use turn::{Due, Turn};
