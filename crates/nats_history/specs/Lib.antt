@@ -3,6 +3,7 @@ pub mod History
 pub mod Laws
 pub mod Parts
 pub mod Queue
+pub mod Refusals
 pub mod Schedule
 pub mod Tables
 pub mod Transcripts

@@ -5,7 +5,7 @@ use nats_wire::{Message, NoMemory, OutboundMessage, Subject, copy_subject};
 use std::alloc::Global;
 
 /// What a user asks of a session.
-#[derive(Drop)]
+#[derive(Debug, Drop, PartialEq, Eq)]
 pub enum Call {
     /// A message for the subscribers of its subject.
     Publish(OutboundMessage),
@@ -17,7 +17,7 @@ pub enum Call {
 }
 
 /// The answer to a call.
-#[derive(PartialEq, Eq, Debug, Drop)]
+#[derive(Debug, Drop, PartialEq, Eq)]
 pub enum CallReply {
     /// The call was accepted.
     Accepted,
@@ -28,7 +28,7 @@ pub enum CallReply {
 }
 
 /// The answer to a take.
-#[derive(Drop)]
+#[derive(Debug, Drop, PartialEq, Eq)]
 pub enum TakeReply {
     /// The oldest waiting message of the subscription.
     Message(Message),
@@ -42,13 +42,13 @@ impl Call {
         ensures { IfOk result (λ c. c ≡ self.now) }
     {
         match self {
-            Call::Publish(message) => Ok(Call::Publish(message.copy()?)),
+            Call::Publish(message) => Ok(Call::Publish(message.copy(alloc)?)),
             Call::Subscribe {
                 subject,
                 queue_group,
             } => Ok(Call::Subscribe {
-                subject: subject.copy()?,
-                queue_group: copy_subject(queue_group)?,
+                subject: subject.copy(alloc)?,
+                queue_group: copy_subject(alloc, queue_group)?,
             }),
         }
     }
@@ -73,7 +73,7 @@ impl TakeReply {
         ensures { IfOk result (λ r. r ≡ self.now) }
     {
         match self {
-            TakeReply::Message(message) => Ok(TakeReply::Message(message.copy()?)),
+            TakeReply::Message(message) => Ok(TakeReply::Message(message.copy(alloc)?)),
             TakeReply::Empty => Ok(TakeReply::Empty),
         }
     }

@@ -28,7 +28,7 @@ impl Config {
             client_capacity: self.client_capacity,
             subscription_capacity: self.subscription_capacity,
             skip_subject_validation: self.skip_subject_validation,
-            inbox_prefix: self.inbox_prefix.copy()?,
+            inbox_prefix: self.inbox_prefix.copy(alloc)?,
             mux_id: self.mux_id.copy(),
         })
     }

@@ -1,6 +1,11 @@
 //! What a played list of turns leaves.
+ghost use Rattle.std.specs.Prelude.{Some};
+ghost use Rattle.nats_history.specs.Refusals.{run_error_text};
+
 use crate::call::{CallReply, TakeReply};
-use nats_wire::{Event, Message, Seq};
+use nats_wire::{Event, Message, NoMemory, Seq};
+use std::error::Error;
+use std::fmt;
 
 /// How a link stands at the end of a transcript.
 #[derive(Clone, Copy, Debug, PartialEq, Eq)]
@@ -54,3 +59,27 @@ pub enum RunError {
     /// Want of memory.
     NoMemory,
 }
+
+impl From<NoMemory> for RunError {
+    ghost use Rattle.std.specs.Prelude.{◌≡◌};
+    ghost use Rattle.nats_history.specs.declared.transcript.RunError.TheVariants as refused;
+
+    ghost from_gives = { λ _ e. e ≡ refused.NoMemory };
+
+    fn from(_refused: NoMemory) -> RunError {
+        RunError::NoMemory
+    }
+}
+
+impl fmt::Display for RunError {
+    ghost output = { λ error. Some (run_error_text error) };
+
+    fn fmt<W: fmt::Write>(&self, f: &mut fmt::Formatter<W>) -> fmt::Result {
+        match self {
+            RunError::OutOfTurn { place } => write!(f, "turn {place} may not come there"),
+            RunError::NoMemory => write!(f, "out of memory"),
+        }
+    }
+}
+
+impl Error for RunError {}

@@ -6,7 +6,7 @@ use nats_wire::{Bytes, Message, NoMemory, ServerInfo};
 use std::alloc::Global;
 
 /// One event of a session.
-#[derive(Drop)]
+#[derive(Debug, Drop, PartialEq, Eq)]
 pub enum Turn {
     /// A link came up, and its server said this of itself.
     Up(ServerInfo),
@@ -21,7 +21,7 @@ pub enum Turn {
 }
 
 /// One due step that was played.
-#[derive(Drop)]
+#[derive(Debug, Drop, PartialEq, Eq)]
 pub enum Due {
     /// None was due.
     Nothing,

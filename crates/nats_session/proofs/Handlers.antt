@@ -1,42 +1,26 @@
--- Laws on the parts of a handler.
-use Rattle.std.proofs.Common.{◌≡◌, ℕ, zero, suc, ◌+◌, ◌≤◌, ◌<◌, Bool, true, false, cond, ◌&&◌, min, List, [], ◌∷◌, ◌++◌, length, drop, nat_le, nat_lt, Option, Some, None, Result, Ok, Err, OnOk, OnErr, refl, sym, ◌∙◌, ap, subst, arith}
+-- Laws on a handler as it is seen.
+use Rattle.std.proofs.Common.{◌≡◌, ℕ, zero, suc, ◌≤◌, List, [], ◌∷◌, ◌++◌, length, drop, map, Option, Some, None, Result, Ok, Err, OnOk, refl, sym, ◌∙◌, ap, subst, arith}
 use Rattle.std.specs.Prelude.{slice_get}
-use Rattle.std.proofs.lemmas.Bool.{false≢true, lt-ltb, leb-false}
-use Rattle.std.proofs.lemmas.Option.{none-some, same_Some}
-use Rattle.nats_wire.specs.Commands.{command_text}
+use Rattle.std.proofs.lemmas.List.{append-nil, append_assoc, map-append, length-append, length-map, drop-append-le, drop-drop, length-drop}
+use Rattle.std.proofs.lemmas.Result.{on_ok_weaker}
 use Rattle.nats_names.specs.declared.event.Event.{Event}
 use Rattle.nats_wire.specs.declared.message.Message.{Message}
-use Rattle.nats_session.specs.declared.config.Config.{Config}
-use Rattle.nats_session.specs.declared.call.Call.{Call}
-use Rattle.nats_session.specs.declared.call.Call.TheVariants.{Publish, Subscribe}
-use Rattle.nats_session.specs.declared.call.CallReply.{CallReply}
-use Rattle.nats_session.specs.declared.call.TakeReply.{TakeReply}
-use Rattle.nats_session.specs.declared.turn.Turn.TheVariants.{Do}
-use Rattle.nats_session.specs.declared.call.TakeReply.TheVariants as takes
-use Rattle.nats_session.specs.declared.handler.due.Played.{Played}
-use Rattle.nats_session.specs.declared.handler.due.Played.TheVariants as played
-use Rattle.nats_session.specs.declared.subs.subscription.Delivery.TheVariants.{Put, Dropped, Ignored}
-use Rattle.nats_session.specs.Queue.{first}
-use Rattle.nats_session.specs.Delivery.{delivery, delivery_at}
-use Rattle.nats_session.specs.History.{Step, History, took, handled, accepted, events_by, at_place, events}
-use Rattle.nats_session.specs.Parts.{Sub, Parts, StandsFor, at_index, at_number, item_of, take_from, open_sub, sub_has_room, deliver, after}
-use Rattle.nats_session.specs.Schedule.{is_full, oldest, take_reply_of, take_reply, took_step, own_steps, after_all, put_steps, due_call, write_limit}
-use Rattle.nats_session.specs.Handler.{is_subscribe, subscribes, LeadTo, Submits, command_of, PlaysDue, list_of}
-use Rattle.std.proofs.lemmas.List.{length-append}
-use Rattle.std.proofs.lemmas.Result.{on_ok_weaker}
-use Rattle.nats_session.proofs.Refines.{sub_with, parts_after}
-
-pub subscribes_more : (calls : List Call) (call : Call) → is_subscribe call ≡ true → subscribes (calls ++ call ∷ []) ≡ suc (subscribes calls)
-subscribes_more [] (Subscribe subject group) e = refl
-subscribes_more [] (Publish m) e = absurd (false≢true e)
-subscribes_more (Subscribe subject group ∷ calls) call e = ap suc (subscribes_more calls call e)
-subscribes_more (Publish m ∷ calls) call e = subscribes_more calls call e
-
-pub subscribes_same : (calls : List Call) (call : Call) → is_subscribe call ≡ false → subscribes (calls ++ call ∷ []) ≡ subscribes calls
-subscribes_same [] (Publish m) e = refl
-subscribes_same [] (Subscribe subject group) e = absurd (false≢true (sym e))
-subscribes_same (Subscribe subject group ∷ calls) call e = ap suc (subscribes_same calls call e)
-subscribes_same (Publish m ∷ calls) call e = subscribes_same calls call e
+use Rattle.nats_history.specs.declared.config.Config.{Config}
+use Rattle.nats_history.specs.declared.call.Call.{Call}
+use Rattle.nats_history.specs.declared.call.CallReply.{CallReply}
+use Rattle.nats_history.specs.declared.call.TakeReply.{TakeReply}
+use Rattle.nats_history.specs.declared.call.TakeReply.TheVariants as takes
+use Rattle.nats_history.specs.declared.turn.Turn.TheVariants.{Do}
+use Rattle.nats_history.specs.declared.turn.Due.{Due}
+use Rattle.nats_history.specs.Queue.{first}
+use Rattle.nats_history.specs.Tables.{at_index, at_number, item_of}
+use Rattle.nats_history.specs.History.{Step, took, History, Sub, second, events_by, at_place, events}
+use Rattle.nats_history.specs.Parts.{Parts, parts_of}
+use Rattle.nats_history.specs.Schedule.{oldest, take_reply_of, take_reply, took_step, own_steps, put_steps, chain, due_chain}
+use Rattle.nats_history.specs.After.{after, after_all, events_of}
+use Rattle.nats_history.proofs.Refines.{parts_after}
+use Rattle.nats_session.specs.Delivery.{take_from}
+use Rattle.nats_session.specs.Handler.{Seen, HandedOut, StandsFor, push_all, seen_after, seen_all, LeadTo, Advances, Submits, next_of, handed, HandsOut}
 
 -- ---- a take where nothing waits changes nothing
 
@@ -46,123 +30,98 @@ same_at zero f (x ∷ xs) same = ap (λ y. y ∷ xs) (same x refl)
 same_at (suc i) f (x ∷ xs) same = ap (λ ys. x ∷ ys) (same_at i f xs same)
 
 empty_sub : (sub : Sub) → oldest sub.waiting ≡ takes.Empty → take_from sub ≡ sub
-empty_sub sub none = by_waiting sub.is_open sub.waiting none
+empty_sub sub none = ap (λ ms. record sub { waiting = ms }) (by_waiting sub.waiting none)
   where
-    by_waiting : (b : Bool) (ms : List Message) → oldest ms ≡ takes.Empty → take_from (record { is_open = b; waiting = ms }) ≡ record { is_open = b; waiting = ms }
-    by_waiting b [] none = refl
-    by_waiting b (m ∷ ms) none = cc
+    by_waiting : (ms : List Message) → oldest ms ≡ takes.Empty → drop 1 ms ≡ ms
+    by_waiting [] none = refl
+    by_waiting (m ∷ ms) none = cc
 
-pub took_nothing : (subs : List Sub) (sid : ℕ) → take_reply_of (item_of sid subs) ≡ takes.Empty → at_number sid take_from subs ≡ subs
+took_nothing : (subs : List Sub) (sid : ℕ) → take_reply_of (item_of sid subs) ≡ takes.Empty → at_number sid take_from subs ≡ subs
 took_nothing subs zero none = refl
 took_nothing subs (suc i) none =
     same_at i take_from subs (λ sub there. empty_sub sub (sym (ap take_reply_of there) ∙ none))
 
-pub own_take : (p : Parts) (sid : ℕ) (r : TakeReply) → take_reply p sid ≡ r → after p (took sid) ≡ after_all p (took_step sid r)
-own_take p sid (takes.Message m) e = refl
-own_take p sid takes.Empty e = ap (λ subs. record p { subs = subs }) (took_nothing p.subs sid e)
-
-pub on_err_of : {T E P : Type 0} (r : Result T E) → P → OnErr r P
-on_err_of (Ok x) p = tt
-on_err_of (Err e) p = p
-
--- ---- a message that is dropped changes no subscription
-
-dropped_sub : (c : Config) (m n : Message) (sub : Sub) → delivery c m sub ≡ Dropped n → deliver c m sub ≡ sub
-dropped_sub c m n sub e = by_case sub.is_open (sub_has_room c sub) e
-  where
-    by_case : (opened room : Bool) → cond opened (cond room Put (Dropped m)) Ignored ≡ Dropped n → sub_with sub.is_open (cond (opened && room) (sub.waiting ++ m ∷ []) sub.waiting) ≡ sub
-    by_case true true e = cc
-    by_case true false e = refl
-    by_case false room e = cc
-
-pub dropped_nothing : (c : Config) (m n : Message) (subs : List Sub) (sid : ℕ) → delivery_at c m (item_of sid subs) ≡ Dropped n → at_number sid (deliver c m) subs ≡ subs
-dropped_nothing c m n subs zero e = refl
-dropped_nothing c m n subs (suc i) e =
-    same_at i (deliver c m) subs (λ sub there. dropped_sub c m n sub (sym (ap (delivery_at c m) there) ∙ e))
-
--- parts whose subscriptions and events are as they were are as they were
-pub unchanged : (p : Parts) (subs : List Sub) (events : List Event) → subs ≡ p.subs → events ≡ p.events → record p { subs = subs; events = events } ≡ p
-unchanged p subs events a b = rw (a, b) refl
-
--- ---- a call that is handled
-
-pub handled_one : (calls : List Call) (call : Call) → Some call ≡ first calls → is_subscribe call ≡ true → subscribes calls ≡ suc (subscribes (drop 1 calls))
-handled_one [] call e is = cc
-handled_one (Subscribe subject group ∷ calls) call e is = refl
-handled_one (Publish m ∷ calls) call e is =
-    absurd (false≢true (ap is_subscribe (same_Some (Publish m) call (sym e)) ∙ is))
-
-pub handled_none : (calls : List Call) (call : Call) → Some call ≡ first calls → is_subscribe call ≡ false → subscribes calls ≡ subscribes (drop 1 calls)
-handled_none [] call e is = cc
-handled_none (Publish m ∷ calls) call e is = refl
-handled_none (Subscribe subject group ∷ calls) call e is =
-    absurd (false≢true (sym (ap is_subscribe (same_Some (Subscribe subject group) call (sym e)) ∙ is)))
-
-pub handled_makes : (p : Parts) (call : Call) → p.is_up ≡ true → is_subscribe call ≡ true → p.subscribed < length p.subs
-    → record p { wire = record p.wire { waiting = p.wire.waiting ++ command_text (command_of call (p.subscribed + 1)) }; calls = drop 1 p.calls; subs = at_index p.subscribed open_sub p.subs; subscribed = p.subscribed + 1 } ≡ after p (handled call)
-handled_makes p (Subscribe subject group) up is less =
-    let next : p.subscribed + 1 ≡ suc p.subscribed = omega arith in
-    let kept : min (suc p.subscribed) (length p.subs) ≡ suc p.subscribed = omega arith in
-    rw (up, kept, next) refl
-handled_makes p (Publish m) up is less = absurd (false≢true is)
-
-pub published_makes : (p : Parts) (call : Call) (sid : ℕ) → p.is_up ≡ true → is_subscribe call ≡ false
-    → record p { wire = record p.wire { waiting = p.wire.waiting ++ command_text (command_of call sid) }; calls = drop 1 p.calls } ≡ after p (handled call)
-published_makes p (Publish m) sid up is = rw up refl
-published_makes p (Subscribe subject group) sid up is = absurd (false≢true (sym is))
-
-pub handled_plays : (p new : Parts) (call : Call) → nat_le 65535 (length p.wire.waiting) ≡ false → Some call ≡ first p.calls → new ≡ after p (handled call) → PlaysDue (due_call (nat_lt (length p.wire.waiting) write_limit) p.calls) p played.Handled new
-handled_plays p new call room e makes =
-    by_calls (nat_lt (length p.wire.waiting) 65535) p.calls (lt-ltb _ _ (leb-false 65535 (length p.wire.waiting) room)) e
-  where
-    by_calls : (b : Bool) (calls : List Call) → b ≡ true → Some call ≡ first calls → PlaysDue (due_call b calls) p played.Handled new
-    by_calls true [] t e = absurd (none-some call (sym e))
-    by_calls true (next ∷ calls) t e = (refl, makes ∙ ap (λ k. after p (handled k)) (same_Some call next e))
-    by_calls false calls t e = absurd (false≢true t)
+-- a take is a step, or where nothing waits none
+pub own_take : (seen : Seen) (sid : ℕ) (r : TakeReply) → take_reply seen.parts sid ≡ r → seen_after seen (took sid) ≡ seen_all seen (took_step sid r)
+own_take seen sid (takes.Message m) e = refl
+own_take seen sid takes.Empty e =
+    ap (λ rows. record seen { parts = record seen.parts { subs = record seen.parts.subs { rows = rows } } }) (took_nothing seen.parts.subs.rows sid e)
 
 -- ---- standing for a history
 
-events_grow : (c : Config) (h : History) (place : ℕ) (step : Step) → length (events c h) ≤ length (events c ((place, step) ∷ h))
-events_grow c h place step = omega (arith, length-append (events c h) (at_place place (events_by c h step)))
+pushed : {A : Type 0} (more waiting : List A) → push_all more waiting ≡ waiting ++ more
+pushed [] waiting = sym (append-nil waiting)
+pushed (x ∷ more) waiting = pushed more (waiting ++ x ∷ []) ∙ append_assoc waiting (x ∷ []) more
 
--- parts that stand for a history stand, after a step, for the history with that step
-pub stands_after : (c : Config) (handed : ℕ) (h : History) (place : ℕ) (step : Step) (p : Parts) → StandsFor c handed h p → StandsFor c handed ((place, step) ∷ h) (after p step)
-stands_after c handed h place step p stands = record {
-  handed_out = omega (arith, stands.handed_out, events_grow c h place step);
-  parts = ap (λ q. after q step) stands.parts ∙ sym (parts_after c handed h place step stands.handed_out);
+second-at_place : {A : Type 0} (place : ℕ) (xs : List A) → map second (at_place place xs) ≡ xs
+second-at_place place [] = refl
+second-at_place place (x ∷ xs) = ap (λ ys. x ∷ ys) (second-at_place place xs)
+
+-- the events that wait, with those of one more step
+events_more : (out : ℕ) (es : List (ℕ × Event)) (place : ℕ) (more : List Event) → out ≤ length es → drop out (map second es) ++ more ≡ drop out (map second (es ++ at_place place more))
+events_more out es place more fits =
+    sym (ap (drop out) (map-append second es (at_place place more)) ∙ (drop-append-le out (map second es) (map second (at_place place more)) (rw length-map fits) ∙ ap (λ xs. drop out (map second es) ++ xs) (second-at_place place more)))
+
+-- what stands for a history stands, after a step, for the history with that step
+stands_after : (c : Config) (out : HandedOut) (h : History) (place : ℕ) (step : Step) (seen : Seen) → StandsFor c out h seen → StandsFor c out ((place, step) ∷ h) (seen_after seen step)
+stands_after c out h place step seen stands = record {
+  parts = ap (λ q. after q step) stands.parts ∙ sym (parts_after c h place step);
+  handed_out = omega (arith, stands.handed_out, length-append (events c h) (at_place place (events_by c h step)));
+  waiting = pushed (events_of seen.parts step) seen.events ∙ (ap (λ q. seen.events ++ events_of q step) stands.parts ∙ (ap (λ es. es ++ events_by c h step) stands.waiting ∙ events_more out.events (events c h) place (events_by c h step) stands.handed_out));
 }
 
-pub lead_to : (old : Parts) (steps : List Step) → LeadTo old steps (after_all old steps)
-lead_to old [] c handed h place stands = stands
-lead_to old (step ∷ steps) c handed h place stands =
-    lead_to (after old step) steps c handed ((place, step) ∷ h) place (stands_after c handed h place step old stands)
+lead_to : (old : Seen) (steps : List Step) → LeadTo old steps (seen_all old steps)
+lead_to old [] c out h place stands = stands
+lead_to old (step ∷ steps) c out h place stands =
+    lead_to (seen_after old step) steps c out ((place, step) ∷ h) place (stands_after c out h place step old stands)
 
--- what ends at the parts after the steps is led to by them
-pub leads : (old : Parts) (steps : List Step) (new : Parts) → new ≡ after_all old steps → LeadTo old steps new
-leads old steps new e c handed h place stands =
-    subst (λ p. StandsFor c handed (put_steps place steps h) p) (sym e) (lead_to old steps c handed h place stands)
-
-pub on_ok_of : {T E P : Type 0} (r : Result T E) → P → OnOk r P
-on_ok_of (Ok x) p = p
-on_ok_of (Err e) p = tt
+-- what is seen after the steps is led to by them
+pub leads : (old : Seen) (steps : List Step) (new : Seen) → new ≡ seen_all old steps → LeadTo old steps new
+leads old steps new e c out h place stands =
+    subst (λ seen. StandsFor c out (put_steps place steps h) seen) (sym e) (lead_to old steps c out h place stands)
 
 -- ---- what the public calls lead to
 
-pub leads_one : {T E : Type 0} (r : Result T E) (old new : Parts) (step : Step) → OnOk r (new ≡ after old step) → OnOk r (LeadTo old (step ∷ []) new)
+pub leads_one : {T E : Type 0} (r : Result T E) (old new : Seen) (step : Step) → OnOk r (new ≡ seen_after old step) → OnOk r (LeadTo old (step ∷ []) new)
 leads_one r old new step e = on_ok_weaker r (λ is. leads old (step ∷ []) new is) e
 
-pub leads_take : (old new : Parts) (sid : ℕ) → new ≡ after old (took sid) → LeadTo old (took_step sid (take_reply old sid)) new
+pub leads_take : (old new : Seen) (sid : ℕ) → new ≡ seen_after old (took sid) → LeadTo old (took_step sid (take_reply old.parts sid)) new
 leads_take old new sid e =
-    leads old (took_step sid (take_reply old sid)) new (e ∙ own_take old sid (take_reply old sid) refl)
+    leads old (took_step sid (take_reply old.parts sid)) new (e ∙ own_take old sid (take_reply old.parts sid) refl)
 
-pub leads_call : (old new : Parts) (call : Call) (r : Result CallReply Call) → Submits old call r new → OnOk r (LeadTo old (own_steps old (Do call)) new)
+pub leads_call : (old new : Seen) (call : Call) (r : Result CallReply Call) → Submits old call r new → OnOk r (LeadTo old (own_steps old.parts (Do call)) new)
 leads_call old new call (Err back) submits = tt
-leads_call old new call (Ok reply) submits = leads old (own_steps old (Do call)) new (by_full (is_full old) submits.1)
-  where
-    by_full : (full : Bool) → new ≡ cond full old (after old (accepted call)) → new ≡ after_all old (cond full [] (accepted call ∷ []))
-    by_full true e = e
-    by_full false e = e
+leads_call old new call (Ok reply) submits = leads old (own_steps old.parts (Do call)) new submits.1
 
-pub leads_due : (old new : Parts) (next : Option Step) (says : Played) → PlaysDue next old says new → LeadTo old (list_of next) new
-leads_due old new None says plays = leads old [] new plays.1
-leads_due old new (Some step) says plays = leads old (step ∷ []) new plays.1
+pub leads_due : (old new : Seen) (next : Option Step) (name : Due) → Advances next old name new → LeadTo old (due_chain old.parts next) new
+leads_due old new None name plays = leads old [] new plays.1
+leads_due old new (Some step) name plays = leads old (chain old.parts step) new plays.1
+
+-- ---- events are handed out
+
+next_stands : (c : Config) (out : HandedOut) (h : History) (old new : Seen) (waiting : List Event) → old.events ≡ waiting → new ≡ record old { events = drop 1 old.events } → StandsFor c out h old → StandsFor c (handed (first waiting) out) h new
+next_stands c out h old new [] is e stands = record {
+  parts = ap (λ (s : Seen). s.parts) e ∙ stands.parts;
+  handed_out = stands.handed_out;
+  waiting = ap (λ (s : Seen). s.events) e ∙ (ap (drop 1) is ∙ (sym is ∙ stands.waiting));
+}
+next_stands c out h old new (event ∷ more) is e stands =
+    let left : length (drop out.events (map second (events c h))) ≡ suc (length more) =
+    ap length (sym stands.waiting ∙ is)
+    in
+    record {
+      parts = ap (λ (s : Seen). s.parts) e ∙ stands.parts;
+      handed_out = omega (arith, left, length-drop out.events (map second (events c h)), length-map (events c h) (second {Event}));
+      waiting = ap (λ (s : Seen). s.events) e ∙ (ap (drop 1) stands.waiting ∙ drop_next out.events (map second (events c h)));
+    }
+  where
+    drop_next : (n : ℕ) (xs : List Event) → drop 1 (drop n xs) ≡ drop (suc n) xs
+    drop_next zero xs = refl
+    drop_next (suc n) [] = refl
+    drop_next (suc n) (x ∷ xs) = drop_next n xs
+
+pub hands_out : (old new : Seen) (event : Option Event) → event ≡ first old.events → new ≡ record old { events = drop 1 old.events } → HandsOut old event new
+hands_out old new event is e c out h stands = (
+  is ∙ ap first stands.waiting,
+  subst (λ x. StandsFor c (handed x out) h new) (sym is) (next_stands c out h old new old.events refl e stands),
+)

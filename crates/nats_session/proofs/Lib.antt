@@ -1,10 +1,7 @@
-pub mod Dues
 pub mod Ends
 pub mod Handlers
+pub mod Items
 pub mod Plays
-pub mod Refines
 pub mod Runs
 pub mod Settles
 pub mod Sheets
-pub mod Tables
-pub mod Words

@@ -1,107 +1,149 @@
 -- What the calls of a handler answer and leave.
-use Rattle.std.specs.Prelude.{◌≡◌, ℕ, suc, Bool, true, false, not, ◌&&◌, List, [], ◌∷◌, Option, Some, None, is_some, Result, Ok, Err, if◌then◌else◌}
-use Rattle.nats_wire.specs.declared.op.ClientOp.{ClientOp}
-use Rattle.nats_wire.specs.declared.op.ClientOp.TheVariants as client
-use Rattle.nats_wire.specs.Operations.{message}
+use Rattle.std.specs.Prelude.{◌≡◌, ℕ, suc, ◌≤◌, Bool, true, false, not, ◌&&◌, List, [], ◌∷◌, ◌++◌, length, drop, map, Option, Some, None, is_some, Result, Ok, Err}
+use Rattle.std.specs.Option.{option_map}
+use Rattle.nats_names.specs.declared.event.Event.{Event}
+use Rattle.nats_wire.specs.Operations.{message, op_view, got, front}
 use Rattle.nats_wire.specs.Wire.{fresh}
-use Rattle.nats_session.specs.declared.config.Config.{Config}
-use Rattle.nats_session.specs.declared.call.Call.{Call}
-use Rattle.nats_session.specs.declared.call.Call.TheVariants.{Publish, Subscribe}
-use Rattle.nats_session.specs.declared.call.CallReply.{CallReply}
-use Rattle.nats_session.specs.declared.turn.Turn.{Turn}
-use Rattle.nats_session.specs.declared.turn.Due.{Due}
-use Rattle.nats_session.specs.declared.turn.Due.TheVariants as due_names
-use Rattle.nats_session.specs.declared.handler.due.Played.{Played}
-use Rattle.nats_session.specs.declared.handler.due.Played.TheVariants as played
+use Rattle.nats_history.specs.declared.config.Config.{Config}
+use Rattle.nats_history.specs.declared.call.Call.{Call}
+use Rattle.nats_history.specs.declared.call.CallReply.{CallReply}
+use Rattle.nats_history.specs.declared.transcript.LinkWord.{LinkWord}
+use Rattle.nats_history.specs.declared.transcript.LinkWord.TheVariants as word
+use Rattle.nats_history.specs.declared.turn.Turn.{Turn}
+use Rattle.nats_history.specs.declared.turn.Due.{Due}
+use Rattle.nats_history.specs.declared.turn.Due.TheVariants as due_names
+use Rattle.nats_session.specs.declared.handler.due.Look.{Look}
+use Rattle.nats_session.specs.declared.handler.due.Look.TheVariants as looks
 use Rattle.nats_session.specs.declared.subs.subscription.Delivery.{Delivery}
 use Rattle.nats_session.specs.declared.subs.subscription.Delivery.TheVariants.{Put, Dropped, Ignored}
-use Rattle.nats_session.specs.History.{Step, read, accepted, handled, link_end, History}
-use Rattle.nats_session.specs.Parts.{Parts, StandsFor, after, item_of}
-use Rattle.nats_session.specs.Schedule.{is_valid_turn, due, put_steps, call_reply, is_full}
+use Rattle.nats_history.specs.Queue.{first}
+use Rattle.nats_history.specs.Tables.{item_of}
+use Rattle.nats_history.specs.History.{Step, read, accepted, handled, link_end, History, second, events}
+use Rattle.nats_history.specs.Parts.{Subs, Parts, parts_of}
+use Rattle.nats_history.specs.Schedule.{is_valid_turn, refusal, call_reply, accepted_step, due, chain, due_chain, put_steps}
+use Rattle.nats_history.specs.After.{after, events_of}
 use Rattle.nats_session.specs.Delivery.{delivery_at}
 
--- a handler as it is made: no link came up and nothing happened
+-- ---- a handler as it is seen
+
+-- its parts, and the events that wait to be handed out, oldest first
+pub record Seen : Type 0 where
+  pub parts : Parts
+  pub events : List Event
+
+-- what was handed out: how many events
+pub record HandedOut : Type 0 where
+  pub events : ℕ
+
+abbrev pub nothing_handed : HandedOut
+nothing_handed = record { events = 0 }
+
+-- a handler stands for a history, of which this was handed out
+pub record StandsFor (c : Config) (out : HandedOut) (h : History) (seen : Seen) : Type 0 where
+  pub parts : seen.parts ≡ parts_of c h
+  pub handed_out : out.events ≤ length (events c h)
+  pub waiting : seen.events ≡ drop out.events (map second (events c h))
+
+-- as it is made: no link came up and nothing happened
 abbrev pub idle : Config → Parts
 idle c = record {
   config = c;
-  link = 0;
-  is_up = false;
-  wire = fresh;
+  link = record { number = 0; is_up = false; wire = fresh };
   calls = [];
-  subs = [];
-  subscribed = 0;
-  events = [];
+  subs = record { given = 0; subscribed = 0; rows = [] };
 }
 
--- a call that gets a number
-abbrev pub is_subscribe : Call → Bool
-is_subscribe (Publish m) = false
-is_subscribe (Subscribe subject group) = true
+abbrev pub push_all : {A : Type 0} → List A → List A → List A
+push_all [] waiting = waiting
+push_all (x ∷ more) waiting = push_all more (waiting ++ x ∷ [])
 
--- how many of the calls are subscribes
-abbrev pub subscribes : List Call → ℕ
-subscribes [] = 0
-subscribes (Publish m ∷ calls) = subscribes calls
-subscribes (Subscribe subject group ∷ calls) = suc (subscribes calls)
+abbrev pub seen_after : Seen → Step → Seen
+seen_after seen step = record { parts = after seen.parts step; events = push_all (events_of seen.parts step) seen.events }
+
+abbrev pub seen_all : Seen → List Step → Seen
+seen_all seen [] = seen
+seen_all seen (step ∷ steps) = seen_all (seen_after seen step) steps
 
 -- a turn may be played: it may come here and no step is due
 abbrev pub can_play : Parts → Turn → Bool
 can_play p turn = is_valid_turn p turn && not (is_some (due p))
 
--- the steps lead from parts to parts: whatever history the old ones stand for, the new ones stand for that history with
+-- the steps lead from one to the other: whatever history the old one stands for, the new one stands for that history with
 -- the steps
-abbrev pub LeadTo : Parts → List Step → Parts → Type 0
+abbrev pub LeadTo : Seen → List Step → Seen → Type 0
 LeadTo old steps new =
-    (c : Config) (handed : ℕ) (h : History) (place : ℕ) → StandsFor c handed h old → StandsFor c handed (put_steps place steps h) new
+    (c : Config) (out : HandedOut) (h : History) (place : ℕ) → StandsFor c out h old → StandsFor c out (put_steps place steps h) new
 
 -- ---- due steps
-
--- what the handler says of a step that it played
-abbrev pub played_by : Parts → Step → Played
-played_by p (read (message sid m)) = played.Delivered sid (delivery_at p.config m (item_of sid p.subs))
-played_by p (read operation) = played.Read
-played_by p (handled call) = played.Handled
-played_by p (link_end word) = played.Ended p.wire
-played_by p step = played.Nothing
-
--- the step that is due was played, or none is due
-abbrev pub PlaysDue : Option Step → Parts → Played → Parts → Type 0
-PlaysDue None old says new = (says ≡ played.Nothing) × (new ≡ old)
-PlaysDue (Some step) old says new = (says ≡ played_by old step) × (new ≡ after old step)
 
 abbrev pub delivery_name : ℕ → Delivery → Due
 delivery_name sid Put = due_names.Put sid
 delivery_name sid (Dropped m) = due_names.Dropped sid m
 delivery_name sid Ignored = due_names.Read
 
-abbrev pub due_name : Played → Due
-due_name played.Nothing = due_names.Nothing
-due_name (played.Delivered sid delivery) = delivery_name sid delivery
-due_name played.Read = due_names.Read
-due_name played.Handled = due_names.Handled
-due_name (played.Ended wire) = due_names.Ended
+-- the word by which a link ends among the steps
+abbrev pub end_in : List Step → Option LinkWord
+end_in [] = None
+end_in (link_end word ∷ steps) = Some word
+end_in (step ∷ steps) = end_in steps
 
--- how a due step is named
+abbrev pub own_name : Parts → Step → Due
+own_name p (read (message sid m)) = delivery_name sid (delivery_at p.config m (item_of sid p.subs.rows))
+own_name p (read operation) = due_names.Read
+own_name p (handled call) = due_names.Handled
+own_name p step = due_names.Nothing
+
+abbrev pub ended_or : Option LinkWord → Due → Due
+ended_or None name = name
+ended_or (Some word) name = due_names.Ended
+
+-- how a due step is named: where the link ends at it or at what follows it at once, by that
 abbrev pub name_of : Parts → Step → Due
-name_of p step = due_name (played_by p step)
+name_of p step = ended_or (end_in (chain p step)) (own_name p step)
 
--- the step that is due was played and named, or none is due
-abbrev pub Advances : Option Step → Parts → Due → Parts → Type 0
+-- the step that is due was played with what follows it at once, and named; or none is due
+abbrev pub Advances : Option Step → Seen → Due → Seen → Type 0
 Advances None old name new = (name ≡ due_names.Nothing) × (new ≡ old)
-Advances (Some step) old name new = (name ≡ name_of old step) × (new ≡ after old step)
+Advances (Some step) old name new = (name ≡ name_of old.parts step) × (new ≡ seen_all old (chain old.parts step))
 
-abbrev pub list_of : Option Step → List Step
-list_of None = []
-list_of (Some step) = step ∷ []
+-- the step of the oldest waiting call, if one waits
+abbrev pub handled_first : Parts → Option Step
+handled_first p = option_map handled (first p.calls)
+
+-- a look at the parts tells which step is due
+abbrev pub Sees : Parts → Look → Type 0
+Sees p looks.Nothing = due p ≡ None
+Sees p (looks.Read peeked) = (due p ≡ Some (read (op_view peeked.op))) × (front p.link.wire.unread ≡ got (op_view peeked.op) peeked.len)
+    × (peeked.len ≤ length p.link.wire.unread) × (p.link.is_up ≡ true)
+Sees p looks.Fault = due p ≡ Some (link_end word.Fault)
+Sees p looks.Command = (due p ≡ handled_first p) × (is_some (first p.calls) ≡ true) × (p.link.is_up ≡ true)
+
+abbrev pub is_nothing : Look → Bool
+is_nothing looks.Nothing = true
+is_nothing (looks.Read peeked) = false
+is_nothing looks.Fault = false
+is_nothing looks.Command = false
 
 -- ---- calls
 
--- a call was accepted or refused by its reply, or memory was wanting: then it comes back and nothing changed
-abbrev pub Submits : Parts → Call → Result CallReply Call → Parts → Type 0
-Submits old call (Ok reply) new = (reply ≡ call_reply old call) × (new ≡ (if is_full old then old else after old (accepted call)))
-Submits old call (Err back) new = (back ≡ call) × (new ≡ old)
+-- a call was accepted or refused by its reply; or memory was wanting for one that isn't refused: then it comes back and
+-- nothing changed
+abbrev pub Submits : Seen → Call → Result CallReply Call → Seen → Type 0
+Submits old call (Ok reply) new = (reply ≡ call_reply old.parts call) × (new ≡ seen_all old (accepted_step (refusal old.parts call) call))
+Submits old call (Err back) new = (back ≡ call) × (new ≡ old) × (refusal old.parts call ≡ None)
 
--- the command that a handled call writes; a subscribe has this number
-abbrev pub command_of : Call → ℕ → ClientOp
-command_of (Publish m) sid = client.Publish m.subject m.payload m.reply
-command_of (Subscribe subject group) sid = client.Subscribe sid subject group
+-- ---- events
+
+-- the event of a history that is to be handed out next
+abbrev pub next_of : Config → HandedOut → History → Option Event
+next_of c out h = first (drop out.events (map second (events c h)))
+
+abbrev pub handed : Option Event → HandedOut → HandedOut
+handed None out = out
+handed (Some event) out = record out { events = suc out.events }
+
+-- the oldest event that waits is handed out: whatever history the old one stands for, it is that history's next, and the new
+-- one stands for the history with one more handed out
+abbrev pub HandsOut : Seen → Option Event → Seen → Type 0
+HandsOut old event new =
+    (c : Config) (out : HandedOut) (h : History) → StandsFor c out h old → (event ≡ next_of c out h) × StandsFor c (handed event out) h new

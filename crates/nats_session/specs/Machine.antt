@@ -1,40 +1,34 @@
 -- Turns over parts and a sheet alone: what playing leaves, with each event handed out as it comes.
 use Rattle.std.specs.Prelude.{◌≡◌, ℕ, suc, Bool, true, false, List, [], ◌∷◌, ◌++◌, Option, Some, None, if◌then◌else◌}
-use Rattle.nats_names.specs.declared.event.Event.{Event}
-use Rattle.nats_session.specs.declared.turn.Turn.{Turn}
-use Rattle.nats_session.specs.declared.turn.Turn.TheVariants.{Do, Take}
 use Rattle.nats_wire.specs.declared.message.Message.{Message}
-use Rattle.nats_session.specs.declared.handler.due.Played.{Played}
-use Rattle.nats_session.specs.declared.handler.due.Played.TheVariants as played
-use Rattle.nats_session.specs.declared.subs.subscription.Delivery.TheVariants.{Put, Dropped, Ignored}
-use Rattle.nats_session.specs.declared.transcript.LinkWord.TheVariants.{Fault}
-use Rattle.nats_session.specs.History.{Step}
-use Rattle.nats_session.specs.Parts.{Parts, at_number, item_of, after}
+use Rattle.nats_history.specs.declared.transcript.LinkWord.{LinkWord}
+use Rattle.nats_history.specs.declared.turn.Turn.{Turn}
+use Rattle.nats_history.specs.declared.turn.Turn.TheVariants.{Do, Take}
+use Rattle.nats_history.specs.declared.turn.Due.{Due}
+use Rattle.nats_history.specs.declared.turn.Due.TheVariants as due_names
+use Rattle.nats_history.specs.History.{Step}
+use Rattle.nats_history.specs.Tables.{at_number, item_of}
+use Rattle.nats_history.specs.Parts.{Parts}
+use Rattle.nats_history.specs.Schedule.{is_valid_turn, own_steps, call_reply, take_reply, chain}
+use Rattle.nats_history.specs.Transcripts.{Answer, nothing, called, asked}
+use Rattle.nats_history.specs.After.{after, after_all, events_of, due_steps}
 use Rattle.nats_session.specs.Delivery.{youngest}
-use Rattle.nats_session.specs.Schedule.{is_valid_turn, own_steps, due_steps, call_reply, take_reply}
-use Rattle.nats_session.specs.Transcripts.{Answer, nothing, called, asked}
-use Rattle.nats_session.specs.Sheet.{Sheet, write_put, write_drop, row_with, write_step, write_answer, write_events}
+use Rattle.nats_session.specs.Handler.{Seen}
+use Rattle.nats_session.specs.Sheet.{Sheet, row_with, write_put, write_drop, write_step, write_answer, write_events}
 
-abbrev pub with_events : List Event → Parts → Parts
-with_events events p = record p { events = events }
+-- a handler with these parts, all of whose events were handed out
+abbrev pub quiet : Parts → Seen
+quiet p = record { parts = p; events = [] }
 
 -- ---- steps
 
--- the parts after one more step, its events handed out
-abbrev pub parts_noted : Step → Parts → Parts
-parts_noted step p = with_events [] (after p step)
-
 -- the sheet with what the step writes and with its events
 abbrev pub sheet_noted : ℕ → Step → Parts → Sheet → Sheet
-sheet_noted place step p sheet = write_events place (after p step).events (write_step place p step sheet)
-
-abbrev pub parts_recorded : List Step → Parts → Parts
-parts_recorded [] p = p
-parts_recorded (step ∷ steps) p = parts_recorded steps (parts_noted step p)
+sheet_noted place step p sheet = write_events place (events_of p step) (write_step place p step sheet)
 
 abbrev pub sheet_recorded : ℕ → List Step → Parts → Sheet → Sheet
 sheet_recorded place [] p sheet = sheet
-sheet_recorded place (step ∷ steps) p sheet = sheet_recorded place steps (parts_noted step p) (sheet_noted place step p sheet)
+sheet_recorded place (step ∷ steps) p sheet = sheet_recorded place steps (after p step) (sheet_noted place step p sheet)
 
 -- ---- turns
 
@@ -45,14 +39,14 @@ answer_at p turn = nothing
 
 -- after a turn's own steps and its answer
 abbrev pub own_parts : Turn → Parts → Parts
-own_parts turn p = parts_recorded (own_steps p turn) p
+own_parts turn p = after_all p (own_steps p turn)
 
 abbrev pub own_sheet : ℕ → Turn → Parts → Sheet → Sheet
 own_sheet place turn p sheet = write_answer place (answer_at p turn) (sheet_recorded place (own_steps p turn) p sheet)
 
 -- after all that is due
 abbrev pub settled_parts : Parts → Parts
-settled_parts p = parts_recorded (due_steps p) p
+settled_parts p = after_all p (due_steps p)
 
 abbrev pub settled_sheet : ℕ → Parts → Sheet → Sheet
 settled_sheet place p sheet = sheet_recorded place (due_steps p) p sheet
@@ -81,28 +75,22 @@ first_out_of_turn place (turn ∷ turns) p =
 
 -- ---- a due step as the handler tells of it
 
+-- the row of a link that ends, where these are the parts before its end
+abbrev pub write_end : Option LinkWord → Parts → Sheet → Sheet
+write_end None p sheet = sheet
+write_end (Some end) p sheet = record sheet { links = sheet.links ++ row_with end sheet.taken p.link.wire.waiting ∷ []; taken = [] }
+
 abbrev pub write_message : ℕ → ℕ → Option Message → Sheet → Sheet
 write_message place sid None sheet = sheet
 write_message place sid (Some m) sheet = record sheet { subs = at_number sid (write_put place m) sheet.subs }
 
--- what is written of a step that was played, where these are the parts after it
-abbrev pub write_played : ℕ → Parts → Played → Sheet → Sheet
-write_played place p played.Nothing sheet = sheet
-write_played place p (played.Delivered sid Put) sheet = write_message place sid (youngest (item_of sid p.subs)) sheet
-write_played place p (played.Delivered sid (Dropped m)) sheet = record sheet { subs = at_number sid (write_drop place m) sheet.subs }
-write_played place p (played.Delivered sid Ignored) sheet = sheet
-write_played place p played.Read sheet = sheet
-write_played place p played.Handled sheet = sheet
-write_played place p (played.Ended wire) sheet = record sheet { links = sheet.links ++ row_with Fault sheet.taken wire.waiting ∷ []; taken = [] }
+-- what is written of a step by its name, where these are the parts after it
+abbrev pub write_due : ℕ → Parts → Due → Sheet → Sheet
+write_due place p (due_names.Put sid) sheet = write_message place sid (youngest (item_of sid p.subs.rows)) sheet
+write_due place p (due_names.Dropped sid m) sheet = record sheet { subs = at_number sid (write_drop place m) sheet.subs }
+write_due place p name sheet = sheet
 
-abbrev pub is_nothing : Played → Bool
-is_nothing played.Nothing = true
-is_nothing (played.Delivered sid delivery) = false
-is_nothing played.Read = false
-is_nothing played.Handled = false
-is_nothing (played.Ended wire) = false
-
--- the step that is due was played and written, or none is due
-abbrev pub NotesDue : Option Step → ℕ → Parts → Sheet → Bool → Parts → Sheet → Type 0
-NotesDue None place p sheet more p' sheet' = (more ≡ false) × (p' ≡ p) × (sheet' ≡ sheet)
-NotesDue (Some step) place p sheet more p' sheet' = (more ≡ true) × (p' ≡ parts_noted step p) × (sheet' ≡ sheet_noted place step p sheet)
+-- the step that is due was played and written with what follows it at once
+abbrev pub Notes : Option Step → ℕ → Parts → Sheet → Seen → Sheet → Type 0
+Notes None place p sheet seen sheet' = (seen ≡ quiet p) × (sheet' ≡ sheet)
+Notes (Some step) place p sheet seen sheet' = (seen ≡ quiet (after_all p (chain p step))) × (sheet' ≡ sheet_recorded place (chain p step) p sheet)

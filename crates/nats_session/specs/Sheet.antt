@@ -1,26 +1,25 @@
--- The transcript as it is written turn by turn.
-use Rattle.std.specs.Prelude.{◌≡◌, ℕ, suc, ◌<◌, ◌⊎◌, List, [], ◌∷◌, ◌++◌, length, take, Option, Some, None, if◌then◌else◌}
+-- The transcript as it is written step by step.
+use Rattle.std.specs.Prelude.{◌≡◌, ℕ, ◌<◌, List, [], ◌∷◌, ◌++◌, take, Option, Some, None, if◌then◌else◌}
 use Rattle.nats_names.specs.declared.event.Event.{Event}
 use Rattle.nats_wire.specs.declared.message.Message.{Message}
 use Rattle.nats_wire.specs.Operations.{message}
-use Rattle.nats_session.specs.declared.config.Config.{Config}
-use Rattle.nats_session.specs.declared.call.Call.{Call}
-use Rattle.nats_session.specs.declared.call.Call.TheVariants.{Publish, Subscribe}
-use Rattle.nats_session.specs.declared.call.CallReply.{CallReply}
-use Rattle.nats_session.specs.declared.call.TakeReply.{TakeReply}
-use Rattle.nats_session.specs.declared.transcript.LinkWord.{LinkWord}
-use Rattle.nats_session.specs.declared.transcript.LinkWord.TheVariants as word
-use Rattle.nats_session.specs.declared.transcript.LinkRow.{LinkRow}
-use Rattle.nats_session.specs.declared.transcript.SubRow.{SubRow}
-use Rattle.nats_session.specs.declared.transcript.Transcript.{Transcript}
+use Rattle.nats_history.specs.declared.config.Config.{Config}
+use Rattle.nats_history.specs.declared.call.CallReply.{CallReply}
+use Rattle.nats_history.specs.declared.call.TakeReply.{TakeReply}
+use Rattle.nats_history.specs.declared.transcript.LinkWord.{LinkWord}
+use Rattle.nats_history.specs.declared.transcript.LinkWord.TheVariants as word
+use Rattle.nats_history.specs.declared.transcript.LinkRow.{LinkRow}
+use Rattle.nats_history.specs.declared.transcript.SubRow.{SubRow}
+use Rattle.nats_history.specs.declared.transcript.Transcript.{Transcript}
 use Rattle.nats_session.specs.declared.draft.Note.{Note}
 use Rattle.nats_session.specs.declared.draft.Note.TheVariants as notes
 use Rattle.nats_session.specs.declared.subs.subscription.Delivery.{Delivery}
 use Rattle.nats_session.specs.declared.subs.subscription.Delivery.TheVariants.{Put, Dropped, Ignored}
-use Rattle.nats_session.specs.History.{Step, opened, fed, read, taken, accepted, handled, took, link_end, History, is_up, link_text, taken_count, at_place, given, events}
-use Rattle.nats_session.specs.Parts.{Parts, StandsFor, at_number, item_of}
+use Rattle.nats_history.specs.History.{Step, opened, read, taken, accepted, link_end, History, is_up, subscribes, link_text, taken_count, at_place, given, events}
+use Rattle.nats_history.specs.Tables.{at_number, item_of}
+use Rattle.nats_history.specs.Parts.{Parts, parts_of}
 use Rattle.nats_session.specs.Delivery.{delivery_at}
-use Rattle.nats_session.specs.Transcripts.{Answer, nothing, called, asked, ended_links, sub_rows, take_replies, call_replies}
+use Rattle.nats_history.specs.Transcripts.{Answer, nothing, called, asked, ended_links, sub_rows, take_replies, call_replies}
 
 -- what is written so far
 pub record Sheet : Type 0 where
@@ -38,14 +37,27 @@ empty_sheet = record { links = []; taken = []; subs = []; events = []; calls = [
 -- the sheet that the words on a history and the answers give
 abbrev pub sheet_of : Config → History → List (ℕ × Answer) → Sheet
 sheet_of c h answers = record {
-  links = ended_links h;
-  taken = if is_up h then take (taken_count h) (link_text h) else [];
+  links = ended_links c h;
+  taken = if is_up h then take (taken_count c h) (link_text c h) else [];
   subs = sub_rows c h answers;
   events = events c h;
   calls = call_replies answers;
 }
 
--- ---- what a step and an answer write
+-- ---- what a step writes
+
+abbrev pub row_with : LinkWord → List ℕ → List ℕ → LinkRow
+row_with end bytes left = record { end = end; taken = bytes; left = left }
+
+abbrev pub links_written : Parts → Step → List ℕ → List LinkRow → List LinkRow
+links_written p (link_end end) taken links = links ++ row_with end taken p.link.wire.waiting ∷ []
+links_written p step taken links = links
+
+abbrev pub taken_written : Parts → Step → List ℕ → List ℕ
+taken_written p (opened info) before = []
+taken_written p (link_end end) before = []
+taken_written p (taken n) before = if p.link.is_up then before ++ take n p.link.wire.waiting else []
+taken_written p step before = before
 
 abbrev pub new_row : SubRow
 new_row = record { puts = []; drops = []; takes = [] }
@@ -65,42 +77,37 @@ write_delivery place sid m Put rows = at_number sid (write_put place m) rows
 write_delivery place sid m (Dropped dropped) rows = at_number sid (write_drop place m) rows
 write_delivery place sid m Ignored rows = rows
 
-abbrev pub write_accepted : Call → List SubRow → List SubRow
-write_accepted (Publish m) rows = rows
-write_accepted (Subscribe subject group) rows = rows ++ new_row ∷ []
+abbrev pub rows_written : ℕ → Parts → Step → List SubRow → List SubRow
+rows_written place p (accepted call) rows = if subscribes call then rows ++ new_row ∷ [] else rows
+rows_written place p (read (message sid m)) rows = write_delivery place sid m (delivery_at p.config m (item_of sid p.subs.rows)) rows
+rows_written place p step rows = rows
 
-abbrev pub taken_bytes : Parts → ℕ → List ℕ → List ℕ
-taken_bytes p n before = if p.is_up then before ++ take n p.wire.waiting else []
-
--- the row of the link that ends or is up, with this word
-abbrev pub row_now : LinkWord → Parts → Sheet → LinkRow
-row_now end p sheet = record { end = end; taken = sheet.taken; left = p.wire.waiting }
-
--- what a step writes at a place, where these are the parts before it
+-- what a step writes at a place but for its events, where these are the parts before it
 abbrev pub write_step : ℕ → Parts → Step → Sheet → Sheet
-write_step place p (opened info) sheet = record sheet { taken = [] }
-write_step place p (fed bytes) sheet = sheet
-write_step place p (read (message sid m)) sheet = record sheet { subs = write_delivery place sid m (delivery_at p.config m (item_of sid p.subs)) sheet.subs }
-write_step place p (read operation) sheet = sheet
-write_step place p (taken n) sheet = record sheet { taken = taken_bytes p n sheet.taken }
-write_step place p (accepted call) sheet = record sheet { subs = write_accepted call sheet.subs }
-write_step place p (handled call) sheet = sheet
-write_step place p (took sid) sheet = sheet
-write_step place p (link_end end) sheet = record sheet { links = sheet.links ++ row_now end p sheet ∷ []; taken = [] }
+write_step place p step sheet = record {
+  links = links_written p step sheet.taken sheet.links;
+  taken = taken_written p step sheet.taken;
+  subs = rows_written place p step sheet.subs;
+  events = sheet.events;
+  calls = sheet.calls;
+}
 
--- what an answer writes at a place
+abbrev pub write_events : ℕ → List Event → Sheet → Sheet
+write_events place events sheet = record sheet { events = sheet.events ++ at_place place events }
+
+-- ---- what an answer writes
+
 abbrev pub write_answer : ℕ → Answer → Sheet → Sheet
 write_answer place nothing sheet = sheet
 write_answer place (called reply) sheet = record sheet { calls = sheet.calls ++ (place, reply) ∷ [] }
 write_answer place (asked sid reply) sheet = record sheet { subs = at_number sid (write_take place reply) sheet.subs }
 
-abbrev pub write_events : ℕ → List Event → Sheet → Sheet
-write_events place events sheet = record sheet { events = sheet.events ++ at_place place events }
+-- ---- the end
 
 -- the transcript of a sheet, where these are the parts at the end
 abbrev pub finished : Parts → Sheet → Transcript
 finished p sheet = record {
-  links = sheet.links ++ (if p.is_up then row_now word.Up p sheet ∷ [] else []);
+  links = sheet.links ++ (if p.link.is_up then row_with word.Up sheet.taken p.link.wire.waiting ∷ [] else []);
   subs = sheet.subs;
   events = sheet.events;
   calls = sheet.calls;
@@ -110,19 +117,11 @@ finished p sheet = record {
 abbrev pub AreGiven : History → List (ℕ × Answer) → Type 0
 AreGiven h answers = (s : ℕ) → given h < s → take_replies s answers ≡ []
 
--- parts and a sheet tell of a history and the answers, and no event waits
+-- parts and a sheet tell of a history and the answers
 pub record Tells (c : Config) (h : History) (answers : List (ℕ × Answer)) (p : Parts) (sheet : Sheet) : Type 0 where
-  pub stands : StandsFor c (length (events c h)) h p
+  pub parts : p ≡ parts_of c h
   pub written : sheet ≡ sheet_of c h answers
   pub given_numbers : AreGiven h answers
-
-abbrev pub row_with : LinkWord → List ℕ → List ℕ → LinkRow
-row_with end bytes left = record { end = end; taken = bytes; left = left }
-
--- where the thing of a number stands in a table of that many things, if it does
-abbrev pub IsPlaceOf : ℕ → ℕ → Option ℕ → Type 0
-IsPlaceOf sid count None = (sid ≡ 0) ⊎ (count < sid)
-IsPlaceOf sid count (Some index) = (sid ≡ suc index) × (index < count)
 
 -- what a note writes into a row
 abbrev pub write_note : ℕ → Note → SubRow → SubRow

@@ -1,16 +1,16 @@
 //! A transcript as it is written.
 ghost use Rattle.std.specs.Prelude.{◌≡◌, ◌+◌, [], ◌∷◌, ◌++◌, OnOk, IfOk, length, List, ℕ, if◌then◌else◌};
-ghost use Rattle.nats_session.specs.declared.transcript.LinkWord.TheVariants.{Up};
-ghost use Rattle.nats_session.specs.History.{at_place};
-ghost use Rattle.nats_session.specs.Parts.{at_number};
-ghost use Rattle.nats_session.specs.Machine.{with_events, write_played};
-ghost use Rattle.nats_session.specs.Sheet.{Sheet, empty_sheet, new_row, write_note, write_events, finished, row_with, IsPlaceOf};
+ghost use Rattle.nats_history.specs.declared.transcript.LinkWord.TheVariants.{Up};
+ghost use Rattle.nats_history.specs.History.{at_place};
+ghost use Rattle.nats_history.specs.Tables.{at_number};
+ghost use Rattle.nats_session.specs.Machine.{write_due};
+ghost use Rattle.nats_session.specs.Sheet.{Sheet, empty_sheet, new_row, write_note, write_events, finished, row_with};
 
-use crate::call::{CallReply, TakeReply};
-use crate::handler::{ConnectionHandler, Played};
-use crate::subs::Delivery;
-use crate::transcript::{LinkRow, LinkWord, SubRow, Transcript};
-use nats_wire::{Event, Message, NoMemory, Seq};
+use crate::handler::ConnectionHandler;
+use crate::places::place_of;
+use nats_history::{
+    CallReply, Due, Event, LinkRow, LinkWord, Message, NoMemory, Seq, SubRow, TakeReply, Transcript,
+};
 use std::alloc::Global;
 use std::marker::Model;
 use std::mem;
@@ -85,37 +85,35 @@ impl Draft {
     }
 
     /// Something happened to subscription `sid`.
-    pub fn note(&mut self, place: u64, sid: u64, note: Note) -> Result<(), NoMemory>
+    pub fn note(
+        &mut self,
+        alloc: Global,
+        place: u64,
+        sid: u64,
+        note: Note,
+    ) -> Result<(), NoMemory>
         ensures { OnOk result (self.new ≡ record self.old { subs = at_number sid (write_note place note) self.old.subs }) }
     {
-        note_in(&mut self.subs, place, sid, note)
+        note_in(&mut self.subs, alloc, place, sid, note)
     }
 
-    /// A due step was played, and left the handler so.
-    pub fn note_played(
+    /// A due step was played, was named so, and left the handler so.
+    pub fn note_due(
         &mut self,
         alloc: Global,
         place: u64,
         handler: &ConnectionHandler,
-        played: Played,
+        due: Due,
     ) -> Result<(), NoMemory>
-        ensures { OnOk result (self.new ≡ write_played place handler.now played self.old) }
+        ensures { OnOk result (self.new ≡ write_due place handler.now.parts due self.old) }
     {
-        match played {
-            Played::Delivered(sid, Delivery::Put) => match handler.last_put(sid) {
-                Some(message) => self.note(place, sid, Note::Put(message.copy()?)),
+        match due {
+            Due::Put(sid) => match handler.last_put(sid) {
+                Some(message) => self.note(alloc, place, sid, Note::Put(message.copy(alloc)?)),
                 None => Ok(()),
             },
-            Played::Delivered(sid, Delivery::Dropped(message)) => {
-                self.note(place, sid, Note::Drop(message))
-            }
-            Played::Ended(connection) => {
-                self.end_link(alloc, LinkWord::Fault, connection.waiting())
-            }
-            Played::Nothing
-            | Played::Read
-            | Played::Handled
-            | Played::Delivered(_, Delivery::Ignored) => Ok(()),
+            Due::Dropped(sid, message) => self.note(alloc, place, sid, Note::Drop(message)),
+            Due::Nothing | Due::Read | Due::Handled | Due::Ended => Ok(()),
         }
     }
 
@@ -134,7 +132,7 @@ impl Draft {
         handler: &mut ConnectionHandler,
     ) -> Result<(), NoMemory>
         ensures written { OnOk result (self.new ≡ write_events place handler.old.events self.old) }
-        ensures handed_out { OnOk result (handler.new ≡ with_events [] handler.old) }
+        ensures handed_out { OnOk result (handler.new ≡ record handler.old { events = [] }) }
     {
         hand_out(&mut self.events, place, handler)
     }
@@ -145,7 +143,7 @@ impl Draft {
         alloc: Global,
         handler: &ConnectionHandler,
     ) -> Result<Transcript, NoMemory>
-        ensures { IfOk result (λ t. t ≡ finished handler.now self) }
+        ensures { IfOk result (λ t. t ≡ finished handler.now.parts self) }
     {
         if handler.is_up() {
             self.end_link(alloc, LinkWord::Up, handler.waiting())?;
@@ -177,28 +175,27 @@ pub enum Note {
     Take(TakeReply),
 }
 
-fn note_on(row: &mut SubRow, place: u64, note: Note) -> Result<(), NoMemory>
+fn note_on(row: &mut SubRow, alloc: Global, place: u64, note: Note) -> Result<(), NoMemory>
     ensures { OnOk result (row.new ≡ write_note place note row.old) }
 {
     match note {
-        Note::Put(message) => row.puts.push((place, message)),
-        Note::Drop(message) => row.drops.push((place, message)),
-        Note::Take(reply) => row.takes.push((place, reply)),
+        Note::Put(message) => row.puts.push(alloc, (place, message)),
+        Note::Drop(message) => row.drops.push(alloc, (place, message)),
+        Note::Take(reply) => row.takes.push(alloc, (place, reply)),
     }
 }
 
-fn index_of(sid: u64, count: usize) -> Option<usize>
-    ensures { IsPlaceOf sid count result }
-{
-    let index = (sid as usize).checked_sub(1)?;
-    (index < count).then_some(index)
-}
-
-fn note_in(rows: &mut [SubRow], place: u64, sid: u64, note: Note) -> Result<(), NoMemory>
+fn note_in(
+    rows: &mut [SubRow],
+    alloc: Global,
+    place: u64,
+    sid: u64,
+    note: Note,
+) -> Result<(), NoMemory>
     ensures { OnOk result (rows.new ≡ at_number sid (write_note place note) rows.old) }
 {
-    match index_of(sid, rows.len()) {
-        Some(index) => note_on(&mut rows[index], place, note),
+    match place_of(sid, rows.len()) {
+        Some(index) => note_on(&mut rows[index], alloc, place, note),
         None => Ok(()),
     }
 }
@@ -209,7 +206,7 @@ fn hand_out(
     handler: &mut ConnectionHandler,
 ) -> Result<(), NoMemory>
     ensures written { OnOk result (events.new.items ≡ events.old.items ++ at_place place handler.old.events) }
-    ensures handed_out { OnOk result (handler.new ≡ with_events [] handler.old) }
+    ensures handed_out { OnOk result (handler.new ≡ record handler.old { events = [] }) }
 {
     'event: while let Some(event) = handler.next_event() {
         events.push((place, event))?;

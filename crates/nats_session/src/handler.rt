@@ -1,23 +1,21 @@
 //! The machine of a session: it keeps what the next turn needs, and no history.
 ghost use Rattle.std.specs.Prelude.{◌≡◌, [], IfOk};
-ghost use Rattle.nats_session.specs.Parts.{StandsFor};
-ghost use Rattle.nats_session.specs.Handler.{idle};
+ghost use Rattle.nats_session.specs.Handler.{StandsFor, nothing_handed, idle};
 
 mod accessors;
 mod calls;
 mod due;
-mod turns;
 
-use crate::call::Call;
-use crate::config::Config;
 use crate::queue::Queue;
 use crate::subs::Subscriptions;
-pub use due::Played;
-use nats_wire::{Connection, Event, NoMemory};
+pub use due::Look;
+use nats_history::{Call, Config, Event, NoMemory};
+use nats_wire::Connection;
 use std::alloc::Global;
 use std::marker::Model;
 
-/// A session over one link at a time. The crate's private handler, with its turns as calls. Contracts see its parts.
+/// A session over one link at a time. The crate's private handler, with its turns as calls. Contracts see its parts, and the
+/// events that wait to be handed out.
 #[derive(Drop)]
 pub struct ConnectionHandler {
     config: Config,
@@ -26,28 +24,22 @@ pub struct ConnectionHandler {
     connection: Connection,
     calls: Queue<Call>,
     subs: Subscriptions,
-    subscribed: usize,
     events: Queue<Event>,
 }
 
 impl Model for ConnectionHandler {
-    ghost use Rattle.std.specs.Prelude.{◌≡◌, ◌+◌, length};
-    ghost use Rattle.nats_session.specs.Parts.{Parts};
+    ghost use Rattle.nats_session.specs.Handler.{Seen};
 
-    ghost Value = { Parts };
+    ghost Value = { Seen };
 
-    ghost use Rattle.nats_session.specs.Handler.{subscribes};
-
-    ghost view = { λ h. record { config = h.config; link = h.link; is_up = h.is_up; wire = h.connection; calls = h.calls; subs = h.subs; subscribed = h.subscribed; events = h.events } };
-
-    ghost invariant = { λ h. h.subscribed + subscribes h.calls ≡ length h.subs };
+    ghost view = { λ h. record { parts = record { config = h.config; link = record { number = h.link; is_up = h.is_up; wire = h.connection }; calls = h.calls; subs = h.subs }; events = h.events } };
 }
 
 impl ConnectionHandler {
-    /// A session with no link yet.
+    /// A session with no link yet. Today it takes no memory, so it never answers `NoMemory`.
     pub fn new(alloc: Global, config: Config) -> Result<ConnectionHandler, NoMemory>
-        ensures parts { IfOk result (λ h. h ≡ idle config) }
-        ensures stands { IfOk result (λ h. StandsFor config 0 [] h) }
+        ensures seen { IfOk result (λ h. h ≡ record { parts = idle config; events = [] }) }
+        ensures stands { IfOk result (λ h. StandsFor config nothing_handed [] h) }
     {
         Ok(ConnectionHandler {
             config,
@@ -56,7 +48,6 @@ impl ConnectionHandler {
             connection: Connection::new(alloc),
             calls: Queue::new(alloc),
             subs: Subscriptions::new(alloc),
-            subscribed: 0,
             events: Queue::new(alloc),
         })
     }

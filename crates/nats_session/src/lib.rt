@@ -2,24 +2,18 @@
 //! lock and no handle. Lengths are in bytes; subscriptions, links and places of turns are numbered from 1.
 #![tactic(auto)]
 
-mod call;
-mod config;
 mod draft;
 mod handler;
+mod places;
 mod play;
 mod queue;
 mod subs;
 #[cfg(test)]
 mod tests;
-mod transcript;
-mod turn;
 
-pub use call::{Call, CallReply, TakeReply};
-pub use config::Config;
 pub use handler::ConnectionHandler;
-pub use nats_wire::{
-    Bytes, Event, Message, NoMemory, OutboundMessage, Seq, ServerInfo, Subject, Token,
+pub use nats_history::{
+    Bytes, Call, CallReply, Config, Due, Event, LinkRow, LinkWord, Message, NoMemory,
+    OutboundMessage, RunError, Seq, ServerInfo, SubRow, Subject, TakeReply, Token, Transcript, Turn,
 };
 pub use play::run;
-pub use transcript::{LinkRow, LinkWord, RunError, SubRow, Transcript};
-pub use turn::{Due, Turn};

@@ -1,32 +1,18 @@
 //! Playing a whole list of turns.
-ghost use Rattle.std.specs.Prelude.{◌≡◌, ◌+◌, [], ◌∷◌, ◌++◌, length, min, OnOk, IfOk, IsTrue, suc};
-ghost use Rattle.nats_session.specs.History.{Step, opened, fed, taken};
-ghost use Rattle.nats_session.specs.Schedule.{is_valid_turn, own_steps, due};
-ghost use Rattle.nats_session.specs.Transcripts.{Plays, called, asked};
-ghost use Rattle.nats_session.specs.Machine.{parts_noted, sheet_noted, parts_recorded, sheet_recorded, own_parts, own_sheet, settled_parts, settled_sheet, turn_parts, turn_sheet, NotesDue};
-ghost use Rattle.nats_session.specs.Sheet.{write_answer};
-ghost use Rattle.nats_session.specs.declared.turn.Turn.TheVariants as turns;
+ghost use Rattle.std.specs.Prelude.{◌≡◌, [], OnOk, IfOk, IsTrue};
+ghost use Rattle.nats_history.specs.declared.turn.Turn.TheVariants as turns;
+ghost use Rattle.nats_history.specs.Schedule.{due};
+ghost use Rattle.nats_history.specs.Transcripts.{Plays};
+ghost use Rattle.nats_session.specs.Handler.{can_play, end_in, Sees, is_nothing};
+ghost use Rattle.nats_session.specs.Machine.{quiet, own_parts, own_sheet, settled_parts, settled_sheet, turn_parts, turn_sheet, write_end, Notes};
+ghost use Rattle.nats_history.specs.declared.transcript.RunError.TheVariants as refused;
 
-use crate::call::{Call, CallReply};
-use crate::config::Config;
 use crate::draft::{Draft, Note};
-use crate::handler::ConnectionHandler;
-use crate::subs::Delivery;
-use crate::transcript::{LinkWord, RunError, Transcript};
-use crate::turn::Turn;
-use nats_wire::{Event, NoMemory, ServerInfo};
+use crate::handler::{ConnectionHandler, Look};
+use nats_history::{
+    Call, CallReply, Config, LinkWord, NoMemory, RunError, ServerInfo, Transcript, Turn,
+};
 use std::alloc::Global;
-
-impl From<NoMemory> for RunError {
-    ghost use Rattle.std.specs.Prelude.{◌≡◌};
-    ghost use Rattle.nats_session.specs.declared.transcript.RunError.TheVariants as refused;
-
-    ghost from_gives = { λ _ e. e ≡ refused.NoMemory };
-
-    fn from(_refused: NoMemory) -> RunError {
-        RunError::NoMemory
-    }
-}
 
 fn play_up(
     alloc: Global,
@@ -35,27 +21,29 @@ fn play_up(
     place: u64,
     info: &ServerInfo,
 ) -> Result<(), NoMemory>
-    requires { handler.old.events ≡ [] }
-    ensures parts { OnOk result (handler.new ≡ parts_noted (opened info.now) handler.old) }
-    ensures sheet { OnOk result (draft.new ≡ sheet_noted place (opened info.now) handler.old draft.old) }
+    requires may { IsTrue (can_play handler.old.parts (turns.Up info.now)) }
+    requires none { handler.old.events ≡ [] }
+    ensures parts { OnOk result (handler.new ≡ quiet (own_parts (turns.Up info.now) handler.old.parts)) }
+    ensures sheet { OnOk result (draft.new ≡ own_sheet place (turns.Up info.now) handler.old.parts draft.old) }
 {
-    handler.play_up(alloc, info)?;
+    handler.up(alloc, info.copy(alloc)?)?;
     draft.begin_link();
     draft.note_events(place, handler)
 }
 
 fn play_piece(
+    alloc: Global,
     handler: &mut ConnectionHandler,
     draft: &mut Draft,
     place: u64,
     bytes: &[u8],
 ) -> Result<(), NoMemory>
-    requires up { IsTrue handler.old.is_up }
+    requires may { IsTrue (can_play handler.old.parts (turns.Piece bytes.now)) }
     requires none { handler.old.events ≡ [] }
-    ensures parts { OnOk result (handler.new ≡ parts_noted (fed bytes.now) handler.old) }
-    ensures sheet { OnOk result (draft.new ≡ sheet_noted place (fed bytes.now) handler.old draft.old) }
+    ensures parts { OnOk result (handler.new ≡ quiet (own_parts (turns.Piece bytes.now) handler.old.parts)) }
+    ensures sheet { OnOk result (draft.new ≡ own_sheet place (turns.Piece bytes.now) handler.old.parts draft.old) }
 {
-    handler.play_piece(bytes)?;
+    handler.piece(alloc, bytes)?;
     draft.note_events(place, handler)
 }
 
@@ -65,15 +53,15 @@ fn play_write(
     place: u64,
     n: u64,
 ) -> Result<(), NoMemory>
-    requires up { IsTrue handler.old.is_up }
+    requires may { IsTrue (can_play handler.old.parts (turns.Write n)) }
     requires none { handler.old.events ≡ [] }
-    ensures parts { OnOk result (handler.new ≡ own_parts (turns.Write n) handler.old) }
-    ensures sheet { OnOk result (draft.new ≡ own_sheet place (turns.Write n) handler.old draft.old) }
+    ensures parts { OnOk result (handler.new ≡ quiet (own_parts (turns.Write n) handler.old.parts)) }
+    ensures sheet { OnOk result (draft.new ≡ own_sheet place (turns.Write n) handler.old.parts draft.old) }
 {
     let waiting = handler.waiting();
     let count = (n as usize).min(waiting.len());
     draft.note_taken(&waiting[..count])?;
-    handler.play_written(n);
+    handler.written(n);
     draft.note_events(place, handler)
 }
 
@@ -84,37 +72,35 @@ fn play_call(
     place: u64,
     call: &Call,
 ) -> Result<(), NoMemory>
-    requires { handler.old.events ≡ [] }
-    ensures parts { OnOk result (handler.new ≡ own_parts (turns.Do call.now) handler.old) }
-    ensures sheet { OnOk result (draft.new ≡ own_sheet place (turns.Do call.now) handler.old draft.old) }
+    requires may { IsTrue (can_play handler.old.parts (turns.Do call.now)) }
+    requires none { handler.old.events ≡ [] }
+    ensures parts { OnOk result (handler.new ≡ quiet (own_parts (turns.Do call.now) handler.old.parts)) }
+    ensures sheet { OnOk result (draft.new ≡ own_sheet place (turns.Do call.now) handler.old.parts draft.old) }
 {
-    match handler.play_call(alloc, call.copy()?) {
-        Ok(CallReply::Full) => draft.note_call(place, CallReply::Full),
-        Ok(CallReply::Accepted) => {
-            draft.note_events(place, handler)?;
-            draft.note_call(place, CallReply::Accepted)
-        }
-        Ok(CallReply::Numbered(number)) => {
-            draft.add_sub(alloc)?;
-            draft.note_events(place, handler)?;
-            draft.note_call(place, CallReply::Numbered(number))
-        }
-        Err(_) => Err(NoMemory),
+    let Ok(reply) = handler.submit(alloc, call.copy(alloc)?) else {
+        return Err(NoMemory);
+    };
+    if let CallReply::Numbered(_) = reply {
+        draft.add_sub(alloc)?;
     }
+    draft.note_events(place, handler)?;
+    draft.note_call(place, reply)
 }
 
 fn play_take(
+    alloc: Global,
     handler: &mut ConnectionHandler,
     draft: &mut Draft,
     place: u64,
     sid: u64,
 ) -> Result<(), NoMemory>
-    requires { handler.old.events ≡ [] }
-    ensures parts { OnOk result (handler.new ≡ own_parts (turns.Take sid) handler.old) }
-    ensures sheet { OnOk result (draft.new ≡ own_sheet place (turns.Take sid) handler.old draft.old) }
+    requires may { IsTrue (can_play handler.old.parts (turns.Take sid)) }
+    requires none { handler.old.events ≡ [] }
+    ensures parts { OnOk result (handler.new ≡ quiet (own_parts (turns.Take sid) handler.old.parts)) }
+    ensures sheet { OnOk result (draft.new ≡ own_sheet place (turns.Take sid) handler.old.parts draft.old) }
 {
-    let reply = handler.play_take(sid);
-    draft.note(place, sid, Note::Take(reply))
+    let reply = handler.take(sid);
+    draft.note(alloc, place, sid, Note::Take(reply))
 }
 
 fn play_own(
@@ -124,37 +110,52 @@ fn play_own(
     place: u64,
     turn: &Turn,
 ) -> Result<(), NoMemory>
-    requires valid { IsTrue (is_valid_turn handler.old turn.now) }
+    requires may { IsTrue (can_play handler.old.parts turn.now) }
     requires none { handler.old.events ≡ [] }
-    ensures parts { OnOk result (handler.new ≡ own_parts turn.now handler.old) }
-    ensures sheet { OnOk result (draft.new ≡ own_sheet place turn.now handler.old draft.old) }
+    ensures parts { OnOk result (handler.new ≡ quiet (own_parts turn.now handler.old.parts)) }
+    ensures sheet { OnOk result (draft.new ≡ own_sheet place turn.now handler.old.parts draft.old) }
 {
     match turn {
         Turn::Up(info) => play_up(alloc, handler, draft, place, info),
-        Turn::Piece(bytes) => play_piece(handler, draft, place, bytes.as_slice()),
+        Turn::Piece(bytes) => play_piece(alloc, handler, draft, place, bytes.as_slice()),
         Turn::Write(n) => play_write(handler, draft, place, *n),
         Turn::Do(call) => play_call(alloc, handler, draft, place, call),
-        Turn::Take(sid) => play_take(handler, draft, place, *sid),
+        Turn::Take(sid) => play_take(alloc, handler, draft, place, *sid),
     }
 }
 
-/// Plays the step that is due, if one is, and says so.
-fn play_next(
+/// What a link that ends is to leave is taken down while it is there.
+fn note_end(
+    alloc: Global,
+    handler: &ConnectionHandler,
+    draft: &mut Draft,
+    end: Option<LinkWord>,
+) -> Result<(), NoMemory>
+    ensures { OnOk result (draft.new ≡ write_end end handler.now.parts draft.old) }
+{
+    match end {
+        Some(word) => draft.end_link(alloc, word, handler.waiting()),
+        None => Ok(()),
+    }
+}
+
+/// Plays and writes the step that `look` told of.
+fn play_due(
     alloc: Global,
     handler: &mut ConnectionHandler,
     draft: &mut Draft,
     place: u64,
-) -> Result<bool, NoMemory>
-    requires { handler.old.events ≡ [] }
-    ensures { IfOk result (λ more. NotesDue (due handler.old) place handler.old draft.old more handler.new draft.new) }
+    look: Look,
+) -> Result<(), NoMemory>
+    requires sees { Sees handler.old.parts look }
+    requires none { handler.old.events ≡ [] }
+    ensures { OnOk result (Notes (due handler.old.parts) place handler.old.parts draft.old handler.new draft.new) }
 {
-    let played = handler.play_due(alloc)?;
-    if played.is_nothing() {
-        return Ok(false);
-    }
-    draft.note_played(alloc, place, handler, played)?;
-    draft.note_events(place, handler)?;
-    Ok(true)
+    let end = handler.end_by(&look);
+    note_end(alloc, handler, draft, end)?;
+    let name = handler.advance_by(alloc, look)?;
+    draft.note_due(alloc, place, handler, name)?;
+    draft.note_events(place, handler)
 }
 
 fn settle(
@@ -164,14 +165,15 @@ fn settle(
     place: u64,
 ) -> Result<(), NoMemory>
     requires { handler.old.events ≡ [] }
-    ensures parts { OnOk result (handler.new ≡ settled_parts handler.old) }
-    ensures sheet { OnOk result (draft.new ≡ settled_sheet place handler.old draft.old) }
+    ensures parts { OnOk result (handler.new ≡ quiet (settled_parts handler.old.parts)) }
+    ensures sheet { OnOk result (draft.new ≡ settled_sheet place handler.old.parts draft.old) }
 {
     'due: loop {
-        let more = play_next(alloc, handler, draft, place)?;
-        if !more {
+        let look = handler.look(alloc)?;
+        if look.is_nothing() {
             return Ok(());
         }
+        play_due(alloc, handler, draft, place, look)?;
     }
 }
 
@@ -182,18 +184,17 @@ fn play_turn(
     place: u64,
     turn: &Turn,
 ) -> Result<(), NoMemory>
-    requires valid { IsTrue (is_valid_turn handler.old turn.now) }
+    requires may { IsTrue (can_play handler.old.parts turn.now) }
     requires none { handler.old.events ≡ [] }
-    ensures parts { OnOk result (handler.new ≡ turn_parts turn.now handler.old) }
-    ensures sheet { OnOk result (draft.new ≡ turn_sheet place turn.now handler.old draft.old) }
-    ensures none { OnOk result (handler.new.events ≡ []) }
+    ensures parts { OnOk result (handler.new ≡ quiet (turn_parts turn.now handler.old.parts)) }
+    ensures sheet { OnOk result (draft.new ≡ turn_sheet place turn.now handler.old.parts draft.old) }
 {
     play_own(alloc, handler, draft, place, turn)?;
     settle(alloc, handler, draft, place)
 }
 
 /// Plays the turns in order, each with all its due steps, and answers their transcript. A turn that may not come where it
-/// stands is answered with its place, and none is played from it on.
+/// stands is answered with its place, and none is played from it on. It plays them by the calls of `ConnectionHandler`.
 pub fn run(alloc: Global, config: Config, turns: &[Turn]) -> Result<Transcript, RunError>
     ensures { Plays config turns.now result }
 {

@@ -1,7 +1,7 @@
 //! First in, first out.
 ghost use Rattle.std.specs.Prelude.{◌≡◌, ◌==◌, [], ◌∷◌, ◌++◌, length, drop, OnOk, IfErr};
 ghost use Rattle.std.specs.Option.{option_copied};
-ghost use Rattle.nats_session.specs.Queue.{first, last};
+ghost use Rattle.nats_history.specs.Queue.{first, last};
 
 use std::alloc::{AllocFailed, Global};
 use std::collections::VecDeque;

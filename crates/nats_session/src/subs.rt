@@ -1,14 +1,15 @@
 //! How subscriptions are kept: this file alone knows.
-ghost use Rattle.std.specs.Prelude.{◌≡◌, ◌<◌, [], ◌∷◌, ◌++◌, length, OnOk, OnErr, IfOk, is_some};
+ghost use Rattle.std.specs.Prelude.{◌≡◌, ◌<◌, [], length, OnOk, OnErr, IfOk, is_some};
 ghost use Rattle.std.specs.Option.{option_copied};
-ghost use Rattle.nats_session.specs.Queue.{first, last};
-ghost use Rattle.nats_session.specs.Parts.{at_index, at_number, item_of, new_sub, open_sub, deliver, take_from};
-ghost use Rattle.nats_session.specs.Delivery.{delivery_at, oldest_of, youngest, IsIndexOf};
+ghost use Rattle.nats_history.specs.Tables.{at_index, at_number, item_of};
+ghost use Rattle.nats_history.specs.History.{next_subscribed};
+ghost use Rattle.nats_history.specs.Parts.{at_in};
+ghost use Rattle.nats_session.specs.Delivery.{open_sub, deliver, take_from, delivery_at, oldest_of, youngest, given_one, subscribed_one};
 
 mod subscription;
 
-use crate::config::Config;
-use nats_wire::{Message, NoMemory};
+use crate::places::place_of;
+use nats_history::{Config, Message, NoMemory};
 use std::alloc::Global;
 use std::marker::Model;
 pub use subscription::{Delivery, Subscription};
@@ -17,63 +18,96 @@ pub use subscription::{Delivery, Subscription};
 #[derive(Drop)]
 pub struct Subscriptions {
     slots: Vec<Subscription>,
+    subscribed: usize,
 }
 
 impl Model for Subscriptions {
-    ghost use Rattle.std.specs.Prelude.{List};
-    ghost use Rattle.nats_session.specs.Parts.{Sub};
+    ghost use Rattle.std.specs.Prelude.{length};
+    ghost use Rattle.nats_history.specs.Parts.{Subs};
 
-    ghost Value = { List Sub };
+    ghost Value = { Subs };
 
-    ghost view = { λ t. t.slots.items };
+    ghost view = { λ t. record { given = length t.slots.items; subscribed = t.subscribed; rows = t.slots.items } };
+}
+
+fn open_in(slots: &mut [Subscription], index: usize)
+    requires { index < length slots.old }
+    ensures { slots.new ≡ at_index index open_sub slots.old }
+{
+    slots[index].open();
+}
+
+fn deliver_in(
+    slots: &mut [Subscription],
+    config: &Config,
+    sid: u64,
+    message: Message,
+) -> Result<Delivery, NoMemory>
+    ensures ok { OnOk result (slots.new ≡ at_number sid (deliver config.now message) slots.old) }
+    ensures answer { IfOk result (λ d. d ≡ delivery_at config.now message (item_of sid slots.old)) }
+    ensures err { OnErr result (slots.new ≡ slots.old) }
+{
+    let Some(index) = place_of(sid, slots.len()) else {
+        return Ok(Delivery::Ignored);
+    };
+    let slot = &mut slots[index];
+    slot.deliver(config, message)
+}
+
+fn take_in(slots: &mut [Subscription], sid: u64) -> Option<Message>
+    ensures message { result ≡ oldest_of (item_of sid slots.old) }
+    ensures rest { slots.new ≡ at_number sid take_from slots.old }
+{
+    let index = place_of(sid, slots.len())?;
+    let slot = &mut slots[index];
+    slot.take()
 }
 
 impl Subscriptions {
     /// No subscription. It takes no memory.
     pub fn new(alloc: Global) -> Subscriptions
-        ensures { result ≡ [] }
+        ensures { result ≡ record { given = 0; subscribed = 0; rows = [] } }
     {
         Subscriptions {
             slots: Vec::new(alloc),
+            subscribed: 0,
         }
     }
 
     /// How many numbers were given.
-    pub fn len(&self) -> usize
-        ensures { result ≡ length self.now }
+    pub fn given(&self) -> u64
+        ensures { result ≡ self.now.given }
     {
-        self.slots.len()
+        self.slots.len() as u64
+    }
+
+    /// The number that the next handled subscribe is of.
+    pub fn next_subscribed(&self) -> Option<u64>
+        ensures { result ≡ next_subscribed (at_in self.now) }
+    {
+        if self.subscribed < self.slots.len() {
+            return Some(self.subscribed as u64 + 1);
+        }
+        None
     }
 
     /// Gives the next number to a subscription that is not open yet.
     pub fn give(&mut self, alloc: Global) -> Result<(), NoMemory>
-        ensures ok { OnOk result (self.new ≡ self.old ++ new_sub ∷ []) }
+        ensures ok { OnOk result (self.new ≡ given_one self.old) }
         ensures err { OnErr result (self.new ≡ self.old) }
     {
         self.slots.push(Subscription::new(alloc))?;
         Ok(())
     }
 
-    /// Opens the subscription at a place of the table.
-    pub fn open(&mut self, index: usize)
-        requires { index < length self.old }
-        ensures { self.new ≡ at_index index open_sub self.old }
+    /// A subscribe is handled: the subscription of the next number that was given opens.
+    pub fn subscribe(&mut self)
+        ensures { self.new ≡ subscribed_one self.old }
     {
-        self.slots[index].open();
-    }
-
-    fn slot_of(&self, sid: u64) -> Option<&Subscription>
-        ensures { option_copied result ≡ item_of sid self.now }
-    {
-        let index = (sid as usize).checked_sub(1)?;
-        self.slots.get(index)
-    }
-
-    /// The youngest waiting message of a subscription.
-    pub fn last(&self, sid: u64) -> Option<&Message>
-        ensures { option_copied result ≡ youngest (item_of sid self.now) }
-    {
-        self.slot_of(sid)?.last()
+        if self.subscribed < self.slots.len() {
+            open_in(&mut self.slots, self.subscribed);
+            self.subscribed += 1;
+        }
     }
 
     /// Brings a message to a subscription.
@@ -83,37 +117,38 @@ impl Subscriptions {
         sid: u64,
         message: Message,
     ) -> Result<Delivery, NoMemory>
-        ensures ok { OnOk result (self.new ≡ at_number sid (deliver config.now message) self.old) }
-        ensures answer { IfOk result (λ d. d ≡ delivery_at config.now message (item_of sid self.old)) }
+        ensures ok { OnOk result (self.new ≡ record self.old { rows = at_number sid (deliver config.now message) self.old.rows }) }
+        ensures answer { IfOk result (λ d. d ≡ delivery_at config.now message (item_of sid self.old.rows)) }
         ensures err { OnErr result (self.new ≡ self.old) }
     {
-        let Some(index) = self.index_of(sid) else {
-            return Ok(Delivery::Ignored);
-        };
-        let slot = &mut self.slots[index];
-        slot.deliver(config, message)
+        deliver_in(&mut self.slots, config, sid, message)
     }
 
     /// The oldest waiting message of a subscription leaves, where one waits.
     pub fn take(&mut self, sid: u64) -> Option<Message>
-        ensures message { result ≡ oldest_of (item_of sid self.old) }
-        ensures rest { self.new ≡ at_number sid take_from self.old }
+        ensures message { result ≡ oldest_of (item_of sid self.old.rows) }
+        ensures rest { self.new ≡ record self.old { rows = at_number sid take_from self.old.rows } }
     {
-        let index = self.index_of(sid)?;
-        let slot = &mut self.slots[index];
-        slot.take()
+        take_in(&mut self.slots, sid)
     }
 
-    fn index_of(&self, sid: u64) -> Option<usize>
-        ensures { IsIndexOf sid self.now result }
+    fn slot_of(&self, sid: u64) -> Option<&Subscription>
+        ensures { option_copied result ≡ item_of sid self.now.rows }
     {
         let index = (sid as usize).checked_sub(1)?;
-        (index < self.slots.len()).then_some(index)
+        self.slots.get(index)
+    }
+
+    /// The youngest waiting message of a subscription.
+    pub fn last(&self, sid: u64) -> Option<&Message>
+        ensures { option_copied result ≡ youngest (item_of sid self.now.rows) }
+    {
+        self.slot_of(sid)?.last()
     }
 
     /// Whether this number was given.
     pub fn has(&self, sid: u64) -> bool
-        ensures { result ≡ is_some (item_of sid self.now) }
+        ensures { result ≡ is_some (item_of sid self.now.rows) }
     {
         self.slot_of(sid).is_some()
     }

@@ -12,7 +12,7 @@ abbrev pub Looks : Front → Result (Option Peeked) WireError → Type 0
 Looks (got operation n) (Ok (Some peeked)) = (op_view peeked.op ≡ operation) × (peeked.len ≡ n)
 Looks unfinished (Ok None) = Unit {0}
 Looks (fault n) (Err refused.ReadFault) = Unit {0}
-Looks front (Err refused.NoMemory) = Unit {0}
+Looks (got operation n) (Err refused.NoMemory) = Unit {0}
 Looks front result = ⊥
 
 -- a read answers what stands at the front of the unread bytes and takes exactly its bytes, or memory was wanting and

@@ -1,28 +1,28 @@
 //! What a session tells of itself.
 ghost use Rattle.std.specs.Prelude.{◌≡◌, length, drop, is_some};
 ghost use Rattle.std.specs.Option.{option_copied};
-ghost use Rattle.nats_session.specs.Queue.{first};
-ghost use Rattle.nats_session.specs.Parts.{item_of};
+ghost use Rattle.nats_history.specs.Queue.{first};
+ghost use Rattle.nats_history.specs.Tables.{item_of};
+ghost use Rattle.nats_history.specs.Schedule.{due, refusal, is_valid_turn};
 ghost use Rattle.nats_session.specs.Delivery.{youngest};
-ghost use Rattle.nats_session.specs.Schedule.{due};
-ghost use Rattle.nats_session.specs.Handler.{can_play};
+ghost use Rattle.nats_session.specs.Handler.{can_play, HandsOut};
 
 use super::ConnectionHandler;
-use crate::turn::Turn;
-use nats_wire::{Event, Message};
+use nats_history::{Call, CallReply, Event, Message, Turn};
 
 impl ConnectionHandler {
     /// The number of the newest link, from 1; 0 before any. Our own count: the crate numbers no links.
     pub fn link(&self) -> u64
-        ensures { result ≡ self.now.link }
+        ensures { result ≡ self.now.parts.link.number }
     {
         self.link
     }
 
     /// Whether a step is due, which `advance` plays: an operation or a fault is at the front of the unread bytes, or a call
-    /// waits while fewer than 65,535 bytes do. It takes no memory. Our own name for what the crate's loop does next.
+    /// waits while fewer bytes than the soft limit of the write buffer do. It takes no memory. Our own name for what the
+    /// crate's loop does next.
     pub fn is_due(&self) -> bool
-        ensures { result ≡ is_some (due self.now) }
+        ensures { result ≡ is_some (due self.now.parts) }
     {
         if !self.is_up {
             return false;
@@ -33,31 +33,51 @@ impl ConnectionHandler {
         !self.connection.is_write_buf_full() && !self.calls.is_empty()
     }
 
-    /// Whether a turn may be played: it may come here, and no step is due. It is the condition of the call of that turn. It
-    /// takes no memory.
+    /// Whether a turn may be played: it may come here, and no step is due. It is the condition of the call of that turn; a
+    /// `Do` may always come, so for it `!is_due()` says the same. It takes no memory.
     pub fn check(&self, turn: &Turn) -> bool
-        ensures { result ≡ can_play self.now turn.now }
+        ensures { result ≡ can_play self.now.parts turn.now }
     {
         self.is_valid(turn) && !self.is_due()
     }
 
+    /// Whether a turn may come where the session stands.
+    pub(crate) fn is_valid(&self, turn: &Turn) -> bool
+        ensures { result ≡ is_valid_turn self.now.parts turn.now }
+    {
+        match turn {
+            Turn::Up(_) => self.link == 0,
+            Turn::Piece(_) | Turn::Write(_) => self.is_up,
+            Turn::Do(_) => true,
+            Turn::Take(sid) => self.subs.has(*sid),
+        }
+    }
+
+    /// The reply by which a call is refused, if it is.
+    pub(crate) fn refusal(&self, call: &Call) -> Option<CallReply>
+        ensures { result ≡ refusal self.now.parts call.now }
+    {
+        let is_full = self.calls.len() as u64 >= self.config.client_capacity;
+        is_full.then_some(CallReply::Full)
+    }
+
     /// Whether a link is up: it came up and has not ended.
     pub fn is_up(&self) -> bool
-        ensures { result ≡ self.now.is_up }
+        ensures { result ≡ self.now.parts.link.is_up }
     {
         self.is_up
     }
 
     /// How many bytes wait to be taken by the link; 0 while no link is up.
     pub fn pending(&self) -> u64
-        ensures { result ≡ length self.now.wire.waiting }
+        ensures { result ≡ length self.now.parts.link.wire.waiting }
     {
         self.connection.pending() as u64
     }
 
     /// The bytes that wait to be taken.
     pub(crate) fn waiting(&self) -> &[u8]
-        ensures { result.now ≡ self.now.wire.waiting }
+        ensures { result.now ≡ self.now.parts.link.wire.waiting }
     {
         self.connection.waiting()
     }
@@ -65,16 +85,25 @@ impl ConnectionHandler {
     /// The youngest waiting message of the subscription of number `s`, from 1; `None` where none waits or the number was not
     /// given. After `Due::Put(s)` it is the message that was put.
     pub fn last_put(&self, s: u64) -> Option<&Message>
-        ensures { option_copied result ≡ youngest (item_of s self.now.subs) }
+        ensures { option_copied result ≡ youngest (item_of s self.now.parts.subs.rows) }
     {
         self.subs.last(s)
     }
 
-    /// Hands out the oldest event that was not handed out yet, if there is one. It takes no memory. The crate's event callback.
-    pub fn next_event(&mut self) -> Option<Event>
+    fn take_event(&mut self) -> Option<Event>
         ensures event { result ≡ first self.old.events }
         ensures rest { self.new ≡ record self.old { events = drop 1 self.old.events } }
     {
         self.events.pop()
+    }
+
+    /// Hands out the oldest event that was not handed out yet, if there is one. It takes no memory. The crate's event
+    /// callback.
+    pub fn next_event(&mut self) -> Option<Event>
+        ensures event { result ≡ first self.old.events }
+        ensures rest { self.new ≡ record self.old { events = drop 1 self.old.events } }
+        ensures stands { HandsOut self.old result self.new }
+    {
+        self.take_event()
     }
 }

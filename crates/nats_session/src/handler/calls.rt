@@ -1,19 +1,39 @@
 //! The calls that play a session, turn by turn and step by step.
-ghost use Rattle.std.specs.Prelude.{◌≡◌, [], ◌∷◌, ◌++◌, OnOk, OnErr, IfOk, IsTrue, min, length, is_some, if◌then◌else◌};
-ghost use Rattle.nats_session.specs.declared.turn.Turn.TheVariants as turns;
-ghost use Rattle.nats_session.specs.History.{opened, fed, taken, took, accepted};
-ghost use Rattle.nats_session.specs.Parts.{after};
-ghost use Rattle.nats_session.specs.Schedule.{own_steps, after_all, due, take_reply};
+ghost use Rattle.std.specs.Prelude.{◌≡◌, [], ◌∷◌, ◌++◌, OnOk, OnErr, IfOk, IfErr, IsTrue, min, length, is_some};
 ghost use Rattle.nats_wire.specs.Commands.{one_piece};
-ghost use Rattle.nats_session.specs.Handler.{LeadTo, Submits, Advances, can_play, list_of};
+ghost use Rattle.nats_history.specs.declared.turn.Turn.TheVariants as turns;
+ghost use Rattle.nats_history.specs.History.{opened, fed, taken, took, subscribes};
+ghost use Rattle.nats_history.specs.Schedule.{own_steps, due, due_chain, take_reply};
+ghost use Rattle.nats_session.specs.Handler.{LeadTo, Submits, Advances, can_play, seen_after};
 
 use super::ConnectionHandler;
-use crate::call::{Call, CallReply, TakeReply};
-use crate::turn::{Due, Turn};
-use nats_wire::{Bytes, NoMemory, ServerInfo};
+use nats_history::{
+    Bytes, Call, CallReply, Due, Event, NoMemory, ServerInfo, TakeReply,
+};
+use nats_wire::Connection;
 use std::alloc::Global;
 
+fn subscribes(call: &Call) -> bool
+    ensures { result ≡ subscribes call.now }
+{
+    match call {
+        Call::Publish(_) => false,
+        Call::Subscribe { .. } => true,
+    }
+}
+
 impl ConnectionHandler {
+    fn open_link(&mut self, alloc: Global, _info: &ServerInfo) -> Result<(), NoMemory>
+        ensures ok { OnOk result (self.new ≡ seen_after self.old (opened _info.now)) }
+        ensures err { OnErr result (self.new ≡ self.old) }
+    {
+        self.events.push(Event::Connected)?;
+        self.link = self.link.saturating_add(1);
+        self.is_up = true;
+        self.connection = Connection::new(alloc);
+        Ok(())
+    }
+
     /// A link came up, and its server said `info`. Its condition is `check` of that turn: no link came up yet, as a second
     /// link is not built. The crate's connector answers so.
     ///
@@ -21,12 +41,20 @@ impl ConnectionHandler {
     ///
     /// `NoMemory` leaves the session unchanged, and the same call may be made again.
     pub fn up(&mut self, alloc: Global, info: ServerInfo) -> Result<(), NoMemory>
-        requires { IsTrue (can_play self.old (turns.Up info)) }
-        ensures ok { OnOk result (self.new ≡ after self.old (opened info)) }
-        ensures stands { OnOk result (LeadTo self.old (own_steps self.old (turns.Up info)) self.new) }
+        requires { IsTrue (can_play self.old.parts (turns.Up info)) }
+        ensures ok { OnOk result (self.new ≡ seen_after self.old (opened info)) }
+        ensures stands { OnOk result (LeadTo self.old (own_steps self.old.parts (turns.Up info)) self.new) }
         ensures err { OnErr result (self.new ≡ self.old) }
     {
-        self.play_up(alloc, &info)
+        self.open_link(alloc, &info)
+    }
+
+    fn feed(&mut self, alloc: Global, bytes: &[u8]) -> Result<(), NoMemory>
+        requires { IsTrue self.old.parts.link.is_up }
+        ensures ok { OnOk result (self.new ≡ seen_after self.old (fed bytes.now)) }
+        ensures err { OnErr result (self.new ≡ self.old) }
+    {
+        self.connection.feed(alloc, bytes)
     }
 
     /// The link gave these bytes. Its condition is `check` of that turn; `advance` then reads what they complete.
@@ -34,49 +62,97 @@ impl ConnectionHandler {
     /// # Errors
     ///
     /// `NoMemory` leaves the session unchanged, and the same call may be made again.
-    pub fn piece(&mut self, bytes: &[u8]) -> Result<(), NoMemory>
-        requires { IsTrue (can_play self.old (turns.Piece bytes.now)) }
-        ensures ok { OnOk result (self.new ≡ after self.old (fed bytes.now)) }
-        ensures stands { OnOk result (LeadTo self.old (own_steps self.old (turns.Piece bytes.now)) self.new) }
+    pub fn piece(&mut self, alloc: Global, bytes: &[u8]) -> Result<(), NoMemory>
+        requires { IsTrue (can_play self.old.parts (turns.Piece bytes.now)) }
+        ensures ok { OnOk result (self.new ≡ seen_after self.old (fed bytes.now)) }
+        ensures stands { OnOk result (LeadTo self.old (own_steps self.old.parts (turns.Piece bytes.now)) self.new) }
         ensures err { OnErr result (self.new ≡ self.old) }
     {
-        self.play_piece(bytes)
+        self.feed(alloc, bytes)
+    }
+
+    fn let_go(&mut self, n: u64)
+        ensures { self.new ≡ seen_after self.old (taken (min n (length self.old.parts.link.wire.waiting))) }
+    {
+        let count = (n as usize).min(self.connection.pending());
+        self.connection.written(count);
     }
 
     /// The link took the first `n` waiting bytes, or all where fewer wait. Its condition is `check` of that turn. It takes
     /// no memory.
     pub fn written(&mut self, n: u64)
-        requires { IsTrue (can_play self.old (turns.Write n)) }
-        ensures parts { self.new ≡ after self.old (taken (min n (length self.old.wire.waiting))) }
-        ensures stands { LeadTo self.old (own_steps self.old (turns.Write n)) self.new }
+        requires { IsTrue (can_play self.old.parts (turns.Write n)) }
+        ensures seen { self.new ≡ seen_after self.old (taken (min n (length self.old.parts.link.wire.waiting))) }
+        ensures stands { LeadTo self.old (own_steps self.old.parts (turns.Write n)) self.new }
     {
-        self.play_written(n);
+        self.let_go(n);
     }
 
-    /// Takes in a call, or refuses it: `Full` exactly where as many accepted calls wait as the client capacity, and then
-    /// nothing changed. Its condition is `check` of that turn. An accepted call is handled by `advance`, in the order of
-    /// acceptance. The crate's bounded channel of commands.
+    fn accept(&mut self, alloc: Global, call: Call) -> Result<CallReply, Call>
+        ensures { Submits self.old call result self.new }
+    {
+        if let Some(refused) = self.refusal(&call) {
+            return Ok(refused);
+        }
+        let subscribes = subscribes(&call);
+        if let Err(refused) = self.calls.push(call) {
+            return Err(refused.value);
+        }
+        if !subscribes {
+            return Ok(CallReply::Accepted);
+        }
+        match self.subs.give(alloc) {
+            Ok(()) => Ok(CallReply::Numbered(self.subs.given())),
+            Err(NoMemory) => match self.calls.pop_back() {
+                Some(call) => Err(call),
+                None => unreachable!(),
+            },
+        }
+    }
+
+    /// Takes in a call, or refuses it: `Full` exactly where as many accepted calls wait as the client capacity; then nothing
+    /// changed, and the call is dropped. Its condition is `check` of that turn, of which a `Do` asks `!is_due()` alone. An
+    /// accepted call is handled by `advance`, in the order of acceptance. The crate's bounded channel of commands.
     ///
     /// # Errors
     ///
-    /// Want of memory hands the call back and leaves the session unchanged.
+    /// Want of memory hands the call back and leaves the session unchanged. It comes only where the call isn't refused.
     pub fn submit(&mut self, alloc: Global, call: Call) -> Result<CallReply, Call>
-        requires { IsTrue (can_play self.old (turns.Do call)) }
+        requires { IsTrue (can_play self.old.parts (turns.Do call)) }
         ensures submits { Submits self.old call result self.new }
-        ensures stands { OnOk result (LeadTo self.old (own_steps self.old (turns.Do call)) self.new) }
+        ensures stands { OnOk result (LeadTo self.old (own_steps self.old.parts (turns.Do call)) self.new) }
     {
-        self.play_call(alloc, call)
+        self.accept(alloc, call)
+    }
+
+    fn take_oldest(&mut self, sid: u64) -> TakeReply
+        ensures reply { result ≡ take_reply self.old.parts sid }
+        ensures rest { self.new ≡ seen_after self.old (took sid) }
+    {
+        match self.subs.take(sid) {
+            Some(message) => TakeReply::Message(message),
+            None => TakeReply::Empty,
+        }
     }
 
     /// Takes the oldest waiting message of the subscription of number `s` out of its queue, or answers `Empty`, and then
     /// nothing changed. Its condition is `check` of that turn. It takes no memory.
     pub fn take(&mut self, s: u64) -> TakeReply
-        requires { IsTrue (can_play self.old (turns.Take s)) }
-        ensures reply { result ≡ take_reply self.old s }
-        ensures rest { self.new ≡ after self.old (took s) }
-        ensures stands { LeadTo self.old (own_steps self.old (turns.Take s)) self.new }
+        requires { IsTrue (can_play self.old.parts (turns.Take s)) }
+        ensures reply { result ≡ take_reply self.old.parts s }
+        ensures rest { self.new ≡ seen_after self.old (took s) }
+        ensures stands { LeadTo self.old (own_steps self.old.parts (turns.Take s)) self.new }
     {
-        self.play_take(s)
+        self.take_oldest(s)
+    }
+
+    fn play_next(&mut self, alloc: Global) -> Result<Due, NoMemory>
+        ensures ok { IfOk result (λ name. Advances (due self.old.parts) self.old name self.new) }
+        ensures err { OnErr result (self.new ≡ self.old) }
+        ensures wants { OnErr result (IsTrue (is_some (due self.old.parts))) }
+    {
+        let look = self.look(alloc)?;
+        self.advance_by(alloc, look)
     }
 
     /// Plays the one step that is due, with what follows it at once, and names it; `Nothing` exactly where none is due.
@@ -84,13 +160,14 @@ impl ConnectionHandler {
     ///
     /// # Errors
     ///
-    /// `NoMemory` leaves the session unchanged, and the same call may be made again.
+    /// `NoMemory`, only where a step is due, leaves the session unchanged, and the same call may be made again.
     pub fn advance(&mut self, alloc: Global) -> Result<Due, NoMemory>
-        ensures ok { IfOk result (λ name. Advances (due self.old) self.old name self.new) }
-        ensures stands { OnOk result (LeadTo self.old (list_of (due self.old)) self.new) }
+        ensures ok { IfOk result (λ name. Advances (due self.old.parts) self.old name self.new) }
+        ensures stands { OnOk result (LeadTo self.old (due_chain self.old.parts (due self.old.parts)) self.new) }
         ensures err { OnErr result (self.new ≡ self.old) }
+        ensures wants { OnErr result (IsTrue (is_some (due self.old.parts))) }
     {
-        Ok(self.play_due(alloc)?.name())
+        self.play_next(alloc)
     }
 
     /// All bytes that wait, as one piece; no piece where none waits. They stay until `written` tells that they were taken.
@@ -99,7 +176,7 @@ impl ConnectionHandler {
     ///
     /// `NoMemory` leaves the session unchanged.
     pub fn pending_pieces(&mut self, alloc: Global) -> Result<Vec<Bytes>, NoMemory>
-        ensures pieces { IfOk result (λ v. v.items ≡ one_piece self.old.wire.waiting) }
+        ensures pieces { IfOk result (λ v. v.items ≡ one_piece self.old.parts.link.wire.waiting) }
         ensures same { self.new ≡ self.old }
     {
         self.connection.pending_pieces(alloc)

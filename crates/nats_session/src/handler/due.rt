@@ -1,131 +1,160 @@
 //! Due steps.
-ghost use Rattle.std.specs.Prelude.{◌≡◌, ◌+◌, ◌<◌, ◌++◌, ◌≤◌, length, OnOk, OnErr, IfOk, nat_lt, suc, IsTrue};
-ghost use Rattle.nats_wire.specs.Operations.{front, unfinished, got, message, op_view};
+ghost use Rattle.std.specs.Prelude.{◌≡◌, ◌++◌, ◌≤◌, length, OnOk, OnErr, IfOk, IsTrue, true, is_some};
+ghost use Rattle.nats_wire.specs.declared.op.ClientOp.TheVariants as client;
+ghost use Rattle.nats_wire.specs.Operations.{front, unfinished, got, op_view};
 ghost use Rattle.nats_wire.specs.Commands.{command_text};
-ghost use Rattle.nats_session.specs.declared.transcript.LinkWord.TheVariants.{Fault};
-ghost use Rattle.nats_session.specs.History.{link_end, read, handled};
-ghost use Rattle.nats_session.specs.Parts.{after, at_number, deliver, drop_events, item_of};
-ghost use Rattle.nats_session.specs.Schedule.{due, due_call, write_limit};
-ghost use Rattle.nats_session.specs.Delivery.{delivery_at};
-ghost use Rattle.nats_session.specs.Machine.{is_nothing};
-ghost use Rattle.nats_session.specs.Handler.{PlaysDue, Advances, LeadTo, list_of, due_name, played_by, command_of};
+ghost use Rattle.nats_history.specs.declared.transcript.LinkWord.TheVariants.{Fault};
+ghost use Rattle.nats_history.specs.declared.turn.Due.TheVariants as due_names;
+ghost use Rattle.nats_history.specs.Tables.{at_number, item_of};
+ghost use Rattle.nats_history.specs.History.{link_end, read, next_subscribed, subscribe_command, drop_events};
+ghost use Rattle.nats_history.specs.Parts.{at_in};
+ghost use Rattle.nats_history.specs.Schedule.{due, due_chain};
+ghost use Rattle.nats_history.specs.After.{written};
+ghost use Rattle.nats_session.specs.Delivery.{deliver, delivery_at, subscribed_one};
+ghost use Rattle.nats_session.specs.Handler.{Advances, Sees, is_nothing, handled_first, seen_after, own_name, end_in, push_all};
 
 use super::ConnectionHandler;
-use crate::call::Call;
-use crate::subs::Delivery;
-use crate::turn::Due;
-use nats_wire::{
-    ClientOp, Connection, Event, Message, NoMemory, Peeked, ServerOp, WireError, copy_subject,
+use crate::subs::{Delivery, Subscriptions};
+use nats_history::{
+    Call, Due, Event, LinkWord, Message, NoMemory, OutboundMessage, Subject,
 };
+use nats_wire::{ClientOp, Connection, Peeked, ServerOp, WireError, copy_subject};
 use std::alloc::Global;
-use std::mem;
 
-/// A due step that was played, with what it left over.
+/// Which step is due.
 #[derive(Drop)]
-pub enum Played {
-    /// None was due.
+pub enum Look {
+    /// None.
     Nothing,
-    /// A message for the subscription of this number was read.
-    Delivered(u64, Delivery),
-    /// An operation was read that is no message.
-    Read,
-    /// The oldest waiting call was handled.
-    Handled,
-    /// The link ended, with these buffers.
-    Ended(Connection),
+    /// This operation is to be read.
+    Read(Peeked),
+    /// The bytes at the front are no operation, so the link is to end.
+    Fault,
+    /// The oldest waiting call is to be handled.
+    Command,
 }
 
-impl Played {
-    /// Whether no step was due.
+impl Look {
+    /// Whether no step is due.
     pub fn is_nothing(&self) -> bool
         ensures { result ≡ is_nothing self.now }
     {
-        matches!(self, Played::Nothing)
-    }
-
-    /// The name of the step.
-    pub fn name(self) -> Due
-        ensures { result ≡ due_name self }
-    {
-        match self {
-            Played::Nothing => Due::Nothing,
-            Played::Delivered(sid, Delivery::Put) => Due::Put(sid),
-            Played::Delivered(sid, Delivery::Dropped(message)) => Due::Dropped(sid, message),
-            Played::Delivered(_, Delivery::Ignored) | Played::Read => Due::Read,
-            Played::Handled => Due::Handled,
-            Played::Ended(_) => Due::Ended,
-        }
+        matches!(self, Look::Nothing)
     }
 }
 
-fn command_of(call: &Call, sid: u64) -> Result<ClientOp, NoMemory>
-    ensures { IfOk result (λ op. op ≡ command_of call.now sid) }
-{
-    match call {
-        Call::Publish(message) => Ok(ClientOp::Publish {
-            subject: message.subject.copy()?,
-            payload: message.payload.clone()?,
-            respond: copy_subject(&message.reply)?,
-        }),
-        Call::Subscribe {
-            subject,
-            queue_group,
-        } => Ok(ClientOp::Subscribe {
-            sid,
-            subject: subject.copy()?,
-            queue_group: copy_subject(queue_group)?,
-        }),
-    }
-}
-
-/// Writes the command of a call that is handled; `sid` is the number that it subscribes under.
-fn write_call(
+fn write_publish(
     connection: &mut Connection,
     alloc: Global,
-    call: &Call,
-    sid: u64,
+    message: &OutboundMessage,
 ) -> Result<(), NoMemory>
-    ensures ok { OnOk result (connection.new ≡ record connection.old { waiting = connection.old.waiting ++ command_text (command_of call.now sid) }) }
+    ensures ok { OnOk result (connection.new ≡ record connection.old { waiting = connection.old.waiting ++ command_text (client.Publish message.now.subject message.now.payload message.now.reply) }) }
     ensures err { OnErr result (connection.new ≡ connection.old) }
 {
-    let op = command_of(call, sid)?;
+    let op = ClientOp::Publish {
+        subject: message.subject.copy(alloc)?,
+        payload: message.payload.clone()?,
+        respond: copy_subject(alloc, &message.reply)?,
+    };
     connection.enqueue_write_op(alloc, &op)
 }
 
+/// Handles a subscribe: writes its command, and opens the subscription of the next number.
+fn subscribe_next(
+    connection: &mut Connection,
+    subs: &mut Subscriptions,
+    alloc: Global,
+    subject: &Subject,
+    queue_group: &Option<Subject>,
+) -> Result<(), NoMemory>
+    ensures text { OnOk result (connection.new ≡ record connection.old { waiting = written true (subscribe_command (next_subscribed (at_in subs.old)) subject.now queue_group.now) connection.old.waiting }) }
+    ensures opens { OnOk result (subs.new ≡ subscribed_one subs.old) }
+    ensures err { OnErr result ((connection.new ≡ connection.old) × (subs.new ≡ subs.old)) }
+{
+    if let Some(sid) = subs.next_subscribed() {
+        let op = ClientOp::Subscribe {
+            sid,
+            subject: subject.copy(alloc)?,
+            queue_group: copy_subject(alloc, queue_group)?,
+        };
+        connection.enqueue_write_op(alloc, &op)?;
+    }
+    subs.subscribe();
+    Ok(())
+}
+
 impl ConnectionHandler {
-    /// Plays the step that is due. Reading comes first, then the calls that wait.
-    pub(crate) fn play_due(&mut self, alloc: Global) -> Result<Played, NoMemory>
-        ensures ok { IfOk result (λ says. PlaysDue (due self.old) self.old says self.new) }
-        ensures err { OnErr result (self.new ≡ self.old) }
+    /// Tells which step is due. Reading comes first, then the calls that wait.
+    pub(crate) fn look(&self, alloc: Global) -> Result<Look, NoMemory>
+        ensures sees { IfOk result (λ look. Sees self.now.parts look) }
+        ensures wants { OnErr result (IsTrue (is_some (due self.now.parts))) }
     {
         if !self.is_up {
-            return Ok(Played::Nothing);
+            return Ok(Look::Nothing);
         }
         match self.connection.peek_op(alloc) {
-            Ok(Some(peeked)) => self.read(alloc, peeked),
-            Ok(None) => self.handle_next(alloc),
-            Err(WireError::ReadFault) => Ok(Played::Ended(self.end_link(alloc)?)),
+            Ok(Some(peeked)) => Ok(Look::Read(peeked)),
+            Ok(None) => Ok(self.look_at_calls()),
+            Err(WireError::ReadFault) => Ok(Look::Fault),
             Err(WireError::NoMemory) => Err(NoMemory),
         }
     }
 
-    /// Ends the link by a fault, and gives its buffers back.
-    fn end_link(&mut self, alloc: Global) -> Result<Connection, NoMemory>
-        ensures ok { OnOk result (self.new ≡ after self.old (link_end Fault)) }
-        ensures buffers { IfOk result (λ connection. connection ≡ self.old.wire) }
+    fn look_at_calls(&self) -> Look
+        requires up { IsTrue self.now.parts.link.is_up }
+        requires nothing_to_read { front self.now.parts.link.wire.unread ≡ unfinished }
+        ensures { Sees self.now.parts result }
+    {
+        if self.connection.is_write_buf_full() || self.calls.is_empty() {
+            return Look::Nothing;
+        }
+        Look::Command
+    }
+
+    /// The word by which the link ends at the step that is due or at what follows it at once, if it does.
+    pub(crate) fn end_by(&self, look: &Look) -> Option<LinkWord>
+        requires { Sees self.now.parts look.now }
+        ensures { result ≡ end_in (due_chain self.now.parts (due self.now.parts)) }
+    {
+        match look {
+            Look::Fault => Some(LinkWord::Fault),
+            Look::Nothing | Look::Read(_) | Look::Command => None,
+        }
+    }
+
+    /// Plays the step that `look` told of, with what follows it at once, and names it.
+    pub(crate) fn advance_by(&mut self, alloc: Global, look: Look) -> Result<Due, NoMemory>
+        requires { Sees self.old.parts look }
+        ensures ok { IfOk result (λ name. Advances (due self.old.parts) self.old name self.new) }
+        ensures err { OnErr result (self.new ≡ self.old) }
+        ensures wants { OnErr result (IsTrue (is_some (due self.old.parts))) }
+    {
+        match look {
+            Look::Nothing => Ok(Due::Nothing),
+            Look::Read(peeked) => self.handle_server_op(alloc, peeked),
+            Look::Fault => self.end_link(alloc),
+            Look::Command => self.handle_command(alloc),
+        }
+    }
+
+    /// Ends the link by a fault.
+    fn end_link(&mut self, alloc: Global) -> Result<Due, NoMemory>
+        ensures ok { OnOk result (self.new ≡ seen_after self.old (link_end Fault)) }
+        ensures name { IfOk result (λ name. name ≡ due_names.Ended) }
         ensures err { OnErr result (self.new ≡ self.old) }
     {
         self.events.push(Event::Disconnected)?;
         self.is_up = false;
-        Ok(mem::replace(&mut self.connection, Connection::new(alloc)))
+        self.connection = Connection::new(alloc);
+        Ok(Due::Ended)
     }
 
-    fn read(&mut self, alloc: Global, peeked: Peeked) -> Result<Played, NoMemory>
-        requires fits { peeked.len ≤ length self.old.wire.unread }
-        requires up { IsTrue self.old.is_up }
-        requires front { front self.old.wire.unread ≡ got (op_view peeked.op) peeked.len }
-        ensures ok { OnOk result (self.new ≡ after self.old (read (op_view peeked.op))) }
-        ensures says { IfOk result (λ says. says ≡ played_by self.old (read (op_view peeked.op))) }
+    fn handle_server_op(&mut self, alloc: Global, peeked: Peeked) -> Result<Due, NoMemory>
+        requires fits { peeked.len ≤ length self.old.parts.link.wire.unread }
+        requires up { IsTrue self.old.parts.link.is_up }
+        requires front { front self.old.parts.link.wire.unread ≡ got (op_view peeked.op) peeked.len }
+        ensures ok { OnOk result (self.new ≡ seen_after self.old (read (op_view peeked.op))) }
+        ensures name { IfOk result (λ name. name ≡ own_name self.old.parts (read (op_view peeked.op))) }
         ensures err { OnErr result (self.new ≡ self.old) }
     {
         let Peeked { op, len } = peeked;
@@ -133,23 +162,27 @@ impl ConnectionHandler {
             ServerOp::Message { sid, message } => {
                 let delivery = self.deliver(sid, message)?;
                 self.connection.consume(len);
-                Ok(Played::Delivered(sid, delivery))
+                match delivery {
+                    Delivery::Put => Ok(Due::Put(sid)),
+                    Delivery::Dropped(message) => Ok(Due::Dropped(sid, message)),
+                    Delivery::Ignored => Ok(Due::Read),
+                }
             }
             ServerOp::Ping => {
                 self.connection.enqueue_write_op(alloc, &ClientOp::Pong)?;
                 self.connection.consume(len);
-                Ok(Played::Read)
+                Ok(Due::Read)
             }
             ServerOp::Ok | ServerOp::Pong => {
                 self.connection.consume(len);
-                Ok(Played::Read)
+                Ok(Due::Read)
             }
         }
     }
 
     fn deliver(&mut self, sid: u64, message: Message) -> Result<Delivery, NoMemory>
-        ensures ok { OnOk result (self.new ≡ record self.old { subs = at_number sid (deliver self.old.config message) self.old.subs; events = self.old.events ++ drop_events self.old.config sid (item_of sid self.old.subs) }) }
-        ensures answer { IfOk result (λ d. d ≡ delivery_at self.old.config message (item_of sid self.old.subs)) }
+        ensures ok { OnOk result (self.new ≡ record { parts = record self.old.parts { subs = record self.old.parts.subs { rows = at_number sid (deliver self.old.parts.config message) self.old.parts.subs.rows } }; events = push_all (drop_events self.old.parts.config sid (item_of sid self.old.parts.subs.rows)) self.old.events }) }
+        ensures answer { IfOk result (λ d. d ≡ delivery_at self.old.parts.config message (item_of sid self.old.parts.subs.rows)) }
         ensures err { OnErr result (self.new ≡ self.old) }
     {
         let delivery = self.subs.deliver(&self.config, sid, message)?;
@@ -159,33 +192,28 @@ impl ConnectionHandler {
         Ok(delivery)
     }
 
-    fn handle_next(&mut self, alloc: Global) -> Result<Played, NoMemory>
-        requires { IsTrue self.old.is_up }
-        ensures ok { IfOk result (λ says. PlaysDue (due_call (nat_lt (length self.old.wire.waiting) write_limit) self.old.calls) self.old says self.new) }
+    fn handle_command(&mut self, alloc: Global) -> Result<Due, NoMemory>
+        requires { IsTrue self.old.parts.link.is_up }
+        ensures ok { IfOk result (λ name. Advances (handled_first self.old.parts) self.old name self.new) }
         ensures err { OnErr result (self.new ≡ self.old) }
     {
-        if self.connection.is_write_buf_full() {
-            return Ok(Played::Nothing);
-        }
         let Some(call) = self.calls.front() else {
-            return Ok(Played::Nothing);
+            return Ok(Due::Nothing);
         };
-        if !call.is_subscribe() {
-            write_call(&mut self.connection, alloc, call, 0)?;
-            self.calls.discard();
-            return Ok(Played::Handled);
+        match call {
+            Call::Publish(message) => write_publish(&mut self.connection, alloc, message)?,
+            Call::Subscribe {
+                subject,
+                queue_group,
+            } => subscribe_next(
+                &mut self.connection,
+                &mut self.subs,
+                alloc,
+                subject,
+                queue_group,
+            )?,
         }
-        // What waits was given a number.
-        prove!(self.subscribed < self.subs.len());
-        write_call(
-            &mut self.connection,
-            alloc,
-            call,
-            self.subscribed as u64 + 1,
-        )?;
-        self.subs.open(self.subscribed);
-        self.subscribed += 1;
         self.calls.discard();
-        Ok(Played::Handled)
+        Ok(Due::Handled)
     }
 }

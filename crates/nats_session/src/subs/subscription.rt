@@ -1,13 +1,12 @@
 //! One subscription.
 ghost use Rattle.std.specs.Prelude.{◌≡◌, OnErr, IfOk, OnOk};
 ghost use Rattle.std.specs.Option.{option_copied};
-ghost use Rattle.nats_session.specs.Queue.{first, last};
-ghost use Rattle.nats_session.specs.Parts.{new_sub, open_sub, deliver, take_from};
-ghost use Rattle.nats_session.specs.Delivery.{delivery};
+ghost use Rattle.nats_history.specs.Queue.{first, last};
+ghost use Rattle.nats_history.specs.After.{new_sub};
+ghost use Rattle.nats_session.specs.Delivery.{open_sub, deliver, take_from, delivery};
 
-use crate::config::Config;
 use crate::queue::Queue;
-use nats_wire::{Message, NoMemory};
+use nats_history::{Config, Message, NoMemory};
 use std::alloc::Global;
 use std::marker::Model;
 
@@ -19,7 +18,7 @@ pub struct Subscription {
 }
 
 impl Model for Subscription {
-    ghost use Rattle.nats_session.specs.Parts.{Sub};
+    ghost use Rattle.nats_history.specs.History.{Sub};
 
     ghost Value = { Sub };
 
