@@ -2,7 +2,7 @@
 use Rattle.std.proofs.Common.{◌≡◌, ℕ, zero, suc, ◌-◌, ◌<◌, List, [], ◌∷◌, length, get_or, Option, Some, None, refl, ap, sym, arith, Bor}
 use Rattle.std.proofs.lemmas.Bool.{false≢true}
 use Rattle.std.specs.Option.{option_copied, IfSome, IsSome}
-use Rattle.nats_session.specs.Queue.{last}
+use Rattle.nats_history.specs.Queue.{last}
 
 pub last_read : {A : Type 0} (xs : List A) (k : ℕ) (x : A) → suc k ≡ length xs → x ≡ get_or xs k x → last xs ≡ Some x
 last_read [] k x e at = absurd (omega arith)

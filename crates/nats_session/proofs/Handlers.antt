@@ -1,5 +1,5 @@
 -- Laws on a handler as it is seen.
-use Rattle.std.proofs.Common.{◌≡◌, ℕ, zero, suc, ◌≤◌, List, [], ◌∷◌, ◌++◌, length, drop, map, Option, Some, None, Result, Ok, Err, OnOk, refl, sym, ◌∙◌, ap, subst, arith}
+use Rattle.std.proofs.Common.{◌≡◌, ℕ, zero, suc, ◌≤◌, List, [], ◌∷◌, ◌++◌, length, drop, map, Option, Some, None, Result, Ok, Err, OnOk, OnErr, IfOk, Bool, true, false, cond, ◌&&◌, refl, sym, ◌∙◌, ap, subst, arith}
 use Rattle.std.specs.Prelude.{slice_get}
 use Rattle.std.proofs.lemmas.List.{append-nil, append_assoc, map-append, length-append, length-map, drop-append-le, drop-drop, length-drop}
 use Rattle.std.proofs.lemmas.Result.{on_ok_weaker}
@@ -8,18 +8,23 @@ use Rattle.nats_wire.specs.declared.message.Message.{Message}
 use Rattle.nats_history.specs.declared.config.Config.{Config}
 use Rattle.nats_history.specs.declared.call.Call.{Call}
 use Rattle.nats_history.specs.declared.call.CallReply.{CallReply}
+use Rattle.nats_history.specs.declared.call.CallReply.TheVariants.{Numbered}
 use Rattle.nats_history.specs.declared.call.TakeReply.{TakeReply}
 use Rattle.nats_history.specs.declared.call.TakeReply.TheVariants as takes
 use Rattle.nats_history.specs.declared.turn.Turn.TheVariants.{Do}
 use Rattle.nats_history.specs.declared.turn.Due.{Due}
 use Rattle.nats_history.specs.Queue.{first}
 use Rattle.nats_history.specs.Tables.{at_index, at_number, item_of}
-use Rattle.nats_history.specs.History.{Step, took, History, Sub, second, events_by, at_place, events}
-use Rattle.nats_history.specs.Parts.{Parts, parts_of}
-use Rattle.nats_history.specs.Schedule.{oldest, take_reply_of, take_reply, took_step, own_steps, put_steps, chain, due_chain}
-use Rattle.nats_history.specs.After.{after, after_all, events_of}
+use Rattle.nats_history.specs.History.{Step, accepted, took, History, subscribes, Sub, has_room, listens, second, events_by, at_place, events}
+use Rattle.nats_history.specs.Parts.{Subs, Parts, parts_of}
+use Rattle.nats_history.specs.Schedule.{refusal, call_reply, accepted_step, oldest, take_reply_of, take_reply, took_step, own_steps, put_steps, chain, due_chain}
+use Rattle.nats_history.specs.After.{new_sub, sub_after, after, after_all, events_of}
 use Rattle.nats_history.proofs.Refines.{parts_after}
-use Rattle.nats_session.specs.Delivery.{take_from}
+use Rattle.nats_history.proofs.Tables.{at_number_same}
+use Rattle.nats_session.specs.declared.subs.subscription.Delivery.{Delivery}
+use Rattle.nats_session.specs.declared.subs.subscription.Delivery.TheVariants.{Put, Dropped, Ignored}
+use Rattle.nats_session.specs.Delivery.{delivery, delivery_at, deliver, take_from, given_one}
+use Rattle.nats_session.specs.Machine.{quiet}
 use Rattle.nats_session.specs.Handler.{Seen, HandedOut, StandsFor, push_all, seen_after, seen_all, LeadTo, Advances, Submits, next_of, handed, HandsOut}
 
 -- ---- a take where nothing waits changes nothing
@@ -49,7 +54,7 @@ own_take seen sid takes.Empty e =
 
 -- ---- standing for a history
 
-pushed : {A : Type 0} (more waiting : List A) → push_all more waiting ≡ waiting ++ more
+pub pushed : {A : Type 0} (more waiting : List A) → push_all more waiting ≡ waiting ++ more
 pushed [] waiting = sym (append-nil waiting)
 pushed (x ∷ more) waiting = pushed more (waiting ++ x ∷ []) ∙ append_assoc waiting (x ∷ []) more
 
@@ -111,7 +116,7 @@ next_stands c out h old new (event ∷ more) is e stands =
     in
     record {
       parts = ap (λ (s : Seen). s.parts) e ∙ stands.parts;
-      handed_out = omega (arith, left, length-drop out.events (map second (events c h)), length-map (events c h) (second {Event}));
+      handed_out = omega (arith, left, length-drop out.events (map second (events c h)), length-map (events c h) (λ (e : ℕ × Event). second e));
       waiting = ap (λ (s : Seen). s.events) e ∙ (ap (drop 1) stands.waiting ∙ drop_next out.events (map second (events c h)));
     }
   where
@@ -125,3 +130,74 @@ hands_out old new event is e c out h stands = (
   is ∙ ap first stands.waiting,
   subst (λ x. StandsFor c (handed x out) h new) (sym is) (next_stands c out h old new old.events refl e stands),
 )
+
+pub leads_advance : {E : Type 0} (old new : Seen) (next : Option Step) (r : Result Due E) → IfOk r (λ name. Advances next old name new) → OnOk r (LeadTo old (due_chain old.parts next) new)
+leads_advance old new next (Ok name) plays = leads_due old new next name plays
+leads_advance old new next (Err e) plays = tt
+
+-- ---- what a method that goes half way leaves
+
+pub on_err_of : {T E P : Type 0} (r : Result T E) → P → OnErr r P
+on_err_of (Ok x) p = tt
+on_err_of (Err e) p = p
+
+pub on_ok_both : {T E P Q R : Type 0} (r : Result T E) → OnOk r P → OnOk r Q → (P → Q → R) → OnOk r R
+on_ok_both (Ok x) p q f = f p q
+on_ok_both (Err e) p q f = tt
+
+pub on_ok_of : {T E P : Type 0} (r : Result T E) → P → OnOk r P
+on_ok_of (Ok x) p = p
+on_ok_of (Err e) p = tt
+
+-- a message that is dropped changes no subscription
+dropped_sub : (c : Config) (m n : Message) (sub : Sub) → delivery c m sub ≡ Dropped n → deliver c m sub ≡ sub
+dropped_sub c m n sub e = ap (λ ms. record sub { waiting = ms }) (by_case (listens sub) (has_room c sub) e)
+  where
+    by_case : (comes room : Bool) → cond comes (cond room Put (Dropped m)) Ignored ≡ Dropped n → cond (comes && room) (sub.waiting ++ m ∷ []) sub.waiting ≡ sub.waiting
+    by_case true true e = cc
+    by_case true false e = refl
+    by_case false room e = cc
+
+pub dropped_nothing : (c : Config) (m n : Message) (subs : List Sub) (sid : ℕ) → delivery_at c m (item_of sid subs) ≡ Dropped n → at_number sid (deliver c m) subs ≡ subs
+dropped_nothing c m n subs zero e = refl
+dropped_nothing c m n subs (suc i) e =
+    same_at i (deliver c m) subs (λ sub there. dropped_sub c m n sub (sym (ap (delivery_at c m) there) ∙ e))
+
+pub unchanged : (seen : Seen) (subs : Subs) (events : List Event) → subs ≡ seen.parts.subs → events ≡ seen.events → record { parts = record seen.parts { subs = subs }; events = events } ≡ seen
+unchanged seen subs events a b = rw (a, b) refl
+
+-- a subscribe that was taken in: one more call waits, and one more number was given
+pub numbered : (old new : Seen) (call : Call) → refusal old.parts call ≡ None → subscribes call ≡ true → new ≡ record old { parts = record old.parts { calls = old.parts.calls ++ call ∷ []; subs = given_one old.parts.subs } }
+    → (Numbered (suc old.parts.subs.given) ≡ call_reply old.parts call) × (new ≡ seen_all old (accepted_step (refusal old.parts call) call))
+numbered old new call free is e =
+    let c = old.parts.config in
+    let kept : at_number (suc old.parts.subs.given) (sub_after c (accepted call)) (old.parts.subs.rows ++ new_sub ∷ []) ≡ old.parts.subs.rows ++ new_sub ∷ [] =
+    at_number_same (suc old.parts.subs.given) (old.parts.subs.rows ++ new_sub ∷ [])
+    in
+    (rw (free, is) refl, rw (free, is, kept) e)
+
+abbrev TakenIn : Seen → Call → ℕ → Seen → Type 0
+TakenIn old call number new = (Numbered number ≡ call_reply old.parts call) × (new ≡ seen_all old (accepted_step (refusal old.parts call) call))
+
+abbrev with_call : Seen → List Call → Subs → Seen
+with_call seen calls subs = record seen { parts = record seen.parts { calls = calls; subs = subs } }
+
+-- the same by what the fields of the handler became
+pub numbered_by : (seen old : Seen) (call : Call) (calls : List Call) (subs : Subs) (number : ℕ) → seen ≡ old → refusal old.parts call ≡ None → subscribes call ≡ true
+    → calls ≡ seen.parts.calls ++ call ∷ [] → subs ≡ given_one seen.parts.subs → number ≡ subs.given → TakenIn old call number (with_call seen calls subs)
+numbered_by seen old call calls subs number same free is a b d =
+    let free_there : refusal seen.parts call ≡ None =
+    subst (λ (s : Seen). refusal s.parts call ≡ None) (sym same) free
+    in
+    let taken = numbered seen (with_call seen calls subs) call free_there is (rw (a, b) refl) in
+    subst (λ s. TakenIn s call number (with_call seen calls subs)) same (ap Numbered (d ∙ ap (λ (x : Subs). x.given) b) ∙ taken.0, taken.1)
+
+-- a take leaves no event
+pub take_quiet : (old : Seen) (sid : ℕ) → old.events ≡ [] → seen_after old (took sid) ≡ quiet (after_all old.parts (took_step sid (take_reply old.parts sid)))
+take_quiet old sid none =
+    let reply = take_reply old.parts sid in
+    ap (λ es. record { parts = after old.parts (took sid); events = es }) none ∙ ap quiet (ap (λ (s : Seen). s.parts) (own_take old sid reply refl) ∙ by_reply reply)
+  where
+    by_reply : (r : TakeReply) → (seen_all old (took_step sid r)).parts ≡ after_all old.parts (took_step sid r)
+    by_reply (takes.Message m) = refl
+    by_reply takes.Empty = refl

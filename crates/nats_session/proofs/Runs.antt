@@ -1,19 +1,21 @@
 -- A run is half way: playing the turns that are left from here is playing all of them from the beginning.
+use Rattle.std.specs.Prelude.{IsTrue}
 use Rattle.std.proofs.Common.{◌≡◌, ℕ, suc, ◌+◌, ◌≤◌, ◌<◌, true, false, cond, List, [], ◌∷◌, length, get_or, drop, Some, None, refl, sym, ◌∙◌, ap, add-one, drop-cons}
 use Rattle.std.proofs.lemmas.List.{drop_all}
-use Rattle.nats_session.specs.declared.config.Config.{Config}
-use Rattle.nats_session.specs.declared.turn.Turn.{Turn}
-use Rattle.nats_session.specs.Parts.{Parts}
-use Rattle.nats_session.specs.Schedule.{is_valid_turn, out_of_turn}
-use Rattle.nats_session.specs.Transcripts.{transcript}
-use Rattle.nats_session.specs.Handler.{idle}
+use Rattle.nats_history.specs.declared.config.Config.{Config}
+use Rattle.nats_history.specs.declared.turn.Turn.{Turn}
+use Rattle.nats_history.specs.Parts.{Parts}
+use Rattle.nats_history.specs.Schedule.{is_valid_turn, due, out_of_turn}
+use Rattle.nats_history.specs.Transcripts.{transcript}
+use Rattle.nats_history.proofs.Dues.{none_left}
+use Rattle.nats_session.specs.Handler.{idle, can_play}
 use Rattle.nats_session.specs.Sheet.{Sheet, empty_sheet, finished}
-use Rattle.nats_session.specs.Machine.{turn_parts, turn_sheet, played_parts, played_sheet, first_out_of_turn}
+use Rattle.nats_session.specs.Machine.{own_parts, turn_parts, turn_sheet, played_parts, played_sheet, first_out_of_turn}
 use Rattle.nats_session.proofs.Plays.{first_from_idle, transcript_from_idle}
 
 -- the first i turns were played
 pub record Running (c : Config) (turns : List Turn) (i : ℕ) (p : Parts) (sheet : Sheet) : Type 0 where
-  pub none : p.events ≡ []
+  pub none : due p ≡ None
   pub first : first_out_of_turn (suc i) (drop i turns) p ≡ first_out_of_turn 1 turns (idle c)
   pub parts : played_parts (drop i turns) p ≡ played_parts turns (idle c)
   pub written : played_sheet (suc i) (drop i turns) p sheet ≡ played_sheet 1 turns (idle c) empty_sheet
@@ -33,15 +35,19 @@ stops_at c turns i turn p sheet running less at bad =
     sym (first_from_idle c turns) ∙ (sym running.first ∙ here)
 
 pub goes_on : (c : Config) (turns : List Turn) (i : ℕ) (turn : Turn) (p p' : Parts) (sheet sheet' : Sheet) → Running c turns i p sheet → i < length turns → turn ≡ get_or turns i turn → is_valid_turn p turn ≡ true
-    → p' ≡ turn_parts turn p → sheet' ≡ turn_sheet (suc i) turn p sheet → p'.events ≡ [] → Running c turns (suc i) p' sheet'
-goes_on c turns i turn p p' sheet sheet' running less at good a b none =
+    → p' ≡ turn_parts turn p → sheet' ≡ turn_sheet (suc i) turn p sheet → Running c turns (suc i) p' sheet'
+goes_on c turns i turn p p' sheet sheet' running less at good a b =
     let next = next_turn turns i turn less at in
     record {
-      none = none;
+      none = ap due a ∙ none_left (own_parts turn p);
       first = ap (first_out_of_turn (suc (suc i)) (drop (suc i) turns)) a ∙ (sym (ap (λ ts. first_out_of_turn (suc i) ts p) next ∙ ap (λ v. cond v (first_out_of_turn (suc (suc i)) (drop (suc i) turns) (turn_parts turn p)) (Some (suc i))) good) ∙ running.first);
       parts = ap (played_parts (drop (suc i) turns)) a ∙ (sym (ap (λ ts. played_parts ts p) next) ∙ running.parts);
       written = ap (λ q. played_sheet (suc (suc i)) (drop (suc i) turns) q sheet') a ∙ (ap (played_sheet (suc (suc i)) (drop (suc i) turns) (turn_parts turn p)) b ∙ (sym (ap (λ ts. played_sheet (suc i) ts p sheet) next) ∙ running.written));
     }
+
+-- a turn that may come may be played
+pub may_play : (p : Parts) (turn : Turn) → is_valid_turn p turn ≡ true → due p ≡ None → IsTrue (can_play p turn)
+may_play p turn valid none = rw (valid, none) refl
 
 pub ends_at : (c : Config) (turns : List Turn) (i : ℕ) (p : Parts) (sheet : Sheet) → Running c turns i p sheet → length turns ≤ i → (out_of_turn c turns ≡ None) × (finished p sheet ≡ transcript c turns)
 ends_at c turns i p sheet running past =

@@ -1,43 +1,36 @@
 -- Laws on due steps as they are played, written and played out.
-use Rattle.std.proofs.Common.{◌≡◌, ℕ, zero, suc, ◌<◌, Bool, true, false, cond, ◌&&◌, List, [], ◌∷◌, ◌++◌, Option, Some, None, refl, sym, ◌∙◌, ap, subst}
 use Rattle.std.specs.Prelude.{slice_get}
 use Rattle.std.specs.Option.{option_map}
+use Rattle.std.proofs.Common.{◌≡◌, ℕ, zero, suc, ◌<◌, Bool, true, false, cond, ◌&&◌, List, [], ◌∷◌, ◌++◌, Option, Some, None, is_some, refl, sym, ◌∙◌, ap, subst}
 use Rattle.std.proofs.lemmas.Bool.{false≢true}
+use Rattle.std.proofs.lemmas.List.{append-nil}
+use Rattle.std.proofs.lemmas.Option.{none-some, same_Some}
+use Rattle.nats_names.specs.declared.event.Event.{Event}
 use Rattle.nats_wire.specs.declared.message.Message.{Message}
-use Rattle.nats_wire.specs.Operations.{message, Front, got, unfinished, fault, front}
-use Rattle.nats_session.specs.declared.config.Config.{Config}
-use Rattle.nats_session.specs.declared.call.Call.{Call}
-use Rattle.nats_session.specs.declared.call.TakeReply.{TakeReply}
-use Rattle.nats_session.specs.declared.call.TakeReply.TheVariants as takes
-use Rattle.nats_session.specs.declared.turn.Turn.TheVariants.{Take}
-use Rattle.nats_session.specs.declared.handler.due.Played.{Played}
-use Rattle.nats_session.specs.declared.handler.due.Played.TheVariants as played
+use Rattle.nats_wire.specs.Operations.{Operation, message, Front, got, unfinished, fault, front}
+use Rattle.nats_history.specs.declared.config.Config.{Config}
+use Rattle.nats_history.specs.declared.call.Call.{Call}
+use Rattle.nats_history.specs.declared.call.TakeReply.{TakeReply}
+use Rattle.nats_history.specs.declared.call.TakeReply.TheVariants as takes
+use Rattle.nats_history.specs.declared.turn.Due.{Due}
+use Rattle.nats_history.specs.declared.turn.Due.TheVariants as due_names
+use Rattle.nats_session.specs.declared.handler.due.Look.{Look}
+use Rattle.nats_session.specs.declared.handler.due.Look.TheVariants as looks
 use Rattle.nats_session.specs.declared.subs.subscription.Delivery.{Delivery}
 use Rattle.nats_session.specs.declared.subs.subscription.Delivery.TheVariants.{Put, Dropped, Ignored}
-use Rattle.nats_session.specs.declared.transcript.LinkWord.{LinkWord}
-use Rattle.nats_session.specs.declared.transcript.LinkWord.TheVariants as word
-use Rattle.nats_session.specs.Queue.{last}
-use Rattle.nats_session.specs.History.{Step, opened, fed, read, taken, accepted, handled, took, link_end}
-use Rattle.nats_session.specs.Parts.{Sub, Parts, at_index, at_number, item_of, sub_has_room, deliver, after}
-use Rattle.nats_session.specs.Schedule.{take_reply, took_step, due_call, due_by, due, due_bound}
+use Rattle.nats_history.specs.declared.transcript.LinkWord.TheVariants as word
+use Rattle.nats_history.specs.Queue.{first, last}
+use Rattle.nats_history.specs.Tables.{at_index, at_number, item_of}
+use Rattle.nats_history.specs.History.{Step, opened, fed, read, taken, accepted, handled, took, link_end, Sub, has_room, listens}
+use Rattle.nats_history.specs.Parts.{Parts}
+use Rattle.nats_history.specs.Schedule.{chain, due_call, due_by, due, due_chain, most_due}
+use Rattle.nats_history.specs.After.{sub_after, after, after_all, events_of, due_steps}
+use Rattle.nats_history.proofs.Dues.{bound_falls, none_due, one_due, after_append}
 use Rattle.nats_session.specs.Delivery.{delivery_at, youngest}
-use Rattle.nats_session.specs.Handler.{played_by, PlaysDue}
-use Rattle.nats_session.specs.Sheet.{Sheet, row_with, write_drop, write_delivery, write_step, write_events}
-use Rattle.nats_session.specs.Machine.{with_events, parts_noted, sheet_noted, parts_recorded, sheet_recorded, own_parts, settled_parts, settled_sheet, write_message, write_played, is_nothing, NotesDue}
-use Rattle.nats_session.proofs.Handlers.{own_take}
-use Rattle.nats_session.proofs.Dues.{bound_falls, none_due, one_due, due_steps_events}
-
--- ---- a take
-
-no_events : (p : Parts) → p.events ≡ [] → with_events [] p ≡ p
-no_events p e = ap (λ es. with_events es p) (sym e)
-
-pub take_parts : (p : Parts) (sid : ℕ) → p.events ≡ [] → after p (took sid) ≡ own_parts (Take sid) p
-take_parts p sid none = by_reply (take_reply p sid) refl
-  where
-    by_reply : (r : TakeReply) → take_reply p sid ≡ r → after p (took sid) ≡ parts_recorded (took_step sid r) p
-    by_reply (takes.Message m) e = sym (no_events (after p (took sid)) none)
-    by_reply takes.Empty e = own_take p sid takes.Empty e
+use Rattle.nats_session.specs.Handler.{Seen, push_all, seen_after, delivery_name, end_in, name_of, Advances, handled_first, Sees, is_nothing}
+use Rattle.nats_session.specs.Sheet.{Sheet, write_drop, write_delivery, write_step, write_events}
+use Rattle.nats_session.specs.Machine.{quiet, sheet_noted, sheet_recorded, settled_parts, settled_sheet, write_end, write_message, write_due, Notes}
+use Rattle.nats_session.proofs.Handlers.{pushed}
 
 -- ---- a message that was put is the youngest that waits
 
@@ -55,107 +48,156 @@ last_push [] y = refl
 last_push (x ∷ []) y = refl
 last_push (x ∷ z ∷ zs) y = last_push (z ∷ zs) y
 
-put_youngest : (c : Config) (m : Message) (item : Option Sub) → delivery_at c m item ≡ Put → youngest (option_map (deliver c m) item) ≡ Some m
-put_youngest c m None e = cc
-put_youngest c m (Some sub) e = by_case sub.is_open (sub_has_room c sub) e
+put_youngest : (c : Config) (sid : ℕ) (m : Message) (item : Option Sub) → delivery_at c m item ≡ Put → youngest (option_map (sub_after c (read (message sid m))) item) ≡ Some m
+put_youngest c sid m None e = cc
+put_youngest c sid m (Some sub) e = by_case (listens sub) (has_room c sub) e
   where
-    by_case : (opened room : Bool) → cond opened (cond room Put (Dropped m)) Ignored ≡ Put → last (cond (opened && room) (sub.waiting ++ m ∷ []) sub.waiting) ≡ Some m
+    by_case : (comes room : Bool) → cond comes (cond room Put (Dropped m)) Ignored ≡ Put → last (cond (comes && room) (sub.waiting ++ m ∷ []) sub.waiting) ≡ Some m
     by_case true true e = last_push sub.waiting m
     by_case true false e = cc
     by_case false room e = cc
 
 dropped_message : (c : Config) (m dropped : Message) (item : Option Sub) → delivery_at c m item ≡ Dropped dropped → dropped ≡ m
 dropped_message c m dropped None e = cc
-dropped_message c m dropped (Some sub) e = by_case sub.is_open (sub_has_room c sub) e
+dropped_message c m dropped (Some sub) e = by_case (listens sub) (has_room c sub) e
   where
-    by_case : (opened room : Bool) → cond opened (cond room Put (Dropped m)) Ignored ≡ Dropped dropped → dropped ≡ m
+    by_case : (comes room : Bool) → cond comes (cond room Put (Dropped m)) Ignored ≡ Dropped dropped → dropped ≡ m
     by_case true true e = cc
     by_case true false e = cc
     by_case false room e = cc
 
--- ---- what is written of a due step
+-- ---- what can be due
 
-due_fault : (p : Parts) (end : LinkWord) → due p ≡ Some (link_end end) → end ≡ word.Fault
-due_fault p end e = by_up p.is_up e
+abbrev CanBeDue : Step → Type 0
+CanBeDue (read operation) = Unit {0}
+CanBeDue (handled call) = Unit {0}
+CanBeDue (link_end end) = Unit {0}
+CanBeDue step = ⊥
+
+can_be_due : (p : Parts) (step : Step) → due p ≡ Some step → CanBeDue step
+can_be_due p step e = by_up p.link.is_up e
   where
-    by_call : (room : Bool) (calls : List Call) → due_call room calls ≡ Some (link_end end) → end ≡ word.Fault
-    by_call true (call ∷ more) e = cc
-    by_call true [] e = cc
-    by_call false calls e = cc
+    by_call : (room : Bool) (calls : List Call) → due_call room calls ≡ Some step → CanBeDue step
+    by_call true (call ∷ more) e = subst CanBeDue (same_Some (handled call) step e) tt
+    by_call true [] e = absurd (none-some step e)
+    by_call false calls e = absurd (none-some step e)
 
-    by_front : (f : Front) → due_by f p ≡ Some (link_end end) → end ≡ word.Fault
-    by_front (got operation n) e = cc
-    by_front (fault n) e = cc
+    by_front : (f : Front) → due_by f p ≡ Some step → CanBeDue step
+    by_front (got operation n) e = subst CanBeDue (same_Some (read operation) step e) tt
+    by_front (fault n) e = subst CanBeDue (same_Some (link_end word.Fault) step e) tt
     by_front unfinished e = by_call _ p.calls e
 
-    by_up : (up : Bool) → cond up (due_by (front p.wire.unread) p) None ≡ Some (link_end end) → end ≡ word.Fault
-    by_up true e = by_front (front p.wire.unread) e
-    by_up false e = cc
+    by_up : (up : Bool) → cond up (due_by (front p.link.wire.unread) p) None ≡ Some step → CanBeDue step
+    by_up true e = by_front (front p.link.wire.unread) e
+    by_up false e = absurd (none-some step e)
 
-write_due : (place : ℕ) (p : Parts) (step : Step) (sheet : Sheet) → due p ≡ Some step → is_nothing (played_by p step) ≡ false → write_played place (after p step) (played_by p step) sheet ≡ write_step place p step sheet
-write_due place p (read (message sid m)) sheet e some =
-    by_delivery (delivery_at p.config m (item_of sid p.subs)) refl
+-- ---- what is written of a due step
+
+written_due : (place : ℕ) (p : Parts) (step : Step) (sheet : Sheet) → CanBeDue step → write_due place (after p step) (name_of p step) (write_end (end_in (chain p step)) p sheet) ≡ write_step place p step sheet
+written_due place p (read (message sid m)) sheet can = by_delivery (delivery_at p.config m (item_of sid p.subs.rows)) refl
   where
-    by_delivery : (d : Delivery) → delivery_at p.config m (item_of sid p.subs) ≡ d → write_played place (after p (read (message sid m))) (played.Delivered sid d) sheet ≡ record sheet { subs = write_delivery place sid m d sheet.subs }
+    by_delivery : (d : Delivery) → delivery_at p.config m (item_of sid p.subs.rows) ≡ d → write_due place (after p (read (message sid m))) (delivery_name sid d) sheet ≡ record sheet { subs = write_delivery place sid m d sheet.subs }
     by_delivery Put is =
-        ap (λ item. write_message place sid (youngest item) sheet) (item_changed sid (deliver p.config m) p.subs) ∙ ap (λ found. write_message place sid found sheet) (put_youngest p.config m (item_of sid p.subs) is)
+        ap (λ item. write_message place sid (youngest item) sheet) (item_changed sid (sub_after p.config (read (message sid m))) p.subs.rows) ∙ ap (λ found. write_message place sid found sheet) (put_youngest p.config sid m (item_of sid p.subs.rows) is)
     by_delivery (Dropped dropped) is =
-        ap (λ n. record sheet { subs = at_number sid (write_drop place n) sheet.subs }) (dropped_message p.config m dropped (item_of sid p.subs) is)
+        ap (λ n. record sheet { subs = at_number sid (write_drop place n) sheet.subs }) (dropped_message p.config m dropped (item_of sid p.subs.rows) is)
     by_delivery Ignored is = refl
-write_due place p (read operation) sheet e some = refl
-write_due place p (handled call) sheet e some = refl
-write_due place p (link_end end) sheet e some =
-    ap (λ w. record sheet { links = sheet.links ++ row_with w sheet.taken p.wire.waiting ∷ []; taken = [] }) (sym (due_fault p end e))
-write_due place p (opened info) sheet e some = absurd (false≢true (sym some))
-write_due place p (fed bytes) sheet e some = absurd (false≢true (sym some))
-write_due place p (taken n) sheet e some = absurd (false≢true (sym some))
-write_due place p (accepted call) sheet e some = absurd (false≢true (sym some))
-write_due place p (took sid) sheet e some = absurd (false≢true (sym some))
+written_due place p (read operation) sheet can = refl
+written_due place p (handled call) sheet can = refl
+written_due place p (link_end end) sheet can = refl
+written_due place p (opened info) sheet can = absurd can
+written_due place p (fed bytes) sheet can = absurd can
+written_due place p (taken n) sheet can = absurd can
+written_due place p (accepted call) sheet can = absurd can
+written_due place p (took sid) sheet can = absurd can
 
-pub noted : (place : ℕ) (next : Option Step) (p p' p'' : Parts) (says : Played) (sheet sheet' sheet'' : Sheet) → due p ≡ next → PlaysDue next p says p' → is_nothing says ≡ false
-    → sheet' ≡ write_played place p' says sheet → sheet'' ≡ write_events place p'.events sheet' → p'' ≡ with_events [] p'
-    → NotesDue next place p sheet true p'' sheet''
-noted place None p p' p'' says sheet sheet' sheet'' is plays some a b e =
-    absurd (false≢true (sym some ∙ ap is_nothing plays.0))
-noted place (Some step) p p' p'' says sheet sheet' sheet'' is plays some a b e = (
-  refl,
-  e ∙ ap (with_events []) plays.1,
-  b ∙ (ap (λ (q : Parts). write_events place q.events sheet') plays.1 ∙ ap (write_events place (after p step).events) (a ∙ (ap (λ q. write_played place q says sheet) plays.1 ∙ (ap (λ s. write_played place (after p step) s sheet) plays.0 ∙ write_due place p step sheet is (ap is_nothing (sym plays.0) ∙ some))))),
+quiet_after : (old : Seen) (step : Step) → old.events ≡ [] → seen_after old step ≡ record { parts = after old.parts step; events = events_of old.parts step }
+quiet_after old step none =
+    ap (λ es. record { parts = after old.parts step; events = es }) (ap (push_all (events_of old.parts step)) none ∙ pushed (events_of old.parts step) [])
+
+-- a due step that was played, written and whose events were handed out
+pub noted : (place : ℕ) (next : Option Step) (old new last : Seen) (name : Due) (s0 s1 s2 s3 : Sheet) → due old.parts ≡ next → old.events ≡ [] → Advances next old name new
+    → s1 ≡ write_end (end_in (due_chain old.parts next)) old.parts s0 → s2 ≡ write_due place new.parts name s1 → s3 ≡ write_events place new.events s2 → last ≡ record new { events = [] }
+    → Notes next place old.parts s0 last s3
+noted place None old new last name s0 s1 s2 s3 is none plays a b d e = (
+  e ∙ ap (λ (s : Seen). record s { events = [] }) plays.1,
+  d ∙ (ap (λ (s : Seen). write_events place s.events s2) plays.1 ∙ (ap (λ es. write_events place es s2) none ∙ (no_events s2 ∙ (b ∙ (ap (λ n. write_due place new.parts n s1) plays.0 ∙ a))))),
 )
+  where
+    no_events : (s : Sheet) → write_events place [] s ≡ s
+    no_events s = ap (λ es. record s { events = es }) (append-nil s.events)
+noted place (Some step) old new last name s0 s1 s2 s3 is none plays a b d e =
+    let seen : new ≡ record { parts = after old.parts step; events = events_of old.parts step } =
+    plays.1 ∙ quiet_after old step none
+    in (
+      e ∙ ap (λ (s : Seen). record s { events = [] }) seen,
+      d ∙ (ap (λ (s : Seen). write_events place s.events s2) seen ∙ ap (write_events place (events_of old.parts step)) (b ∙ (ap (λ (s : Seen). write_due place s.parts name s1) seen ∙ (ap (λ n. write_due place (after old.parts step) n s1) plays.0 ∙ (ap (write_due place (after old.parts step) (name_of old.parts step)) a ∙ written_due place old.parts step s0 (can_be_due old.parts step is)))))),
+    )
+
+-- ---- a look
+
+pub none_seen : (p : Parts) (look : Look) → Sees p look → is_nothing look ≡ true → due p ≡ None
+none_seen p looks.Nothing sees is = sees
+none_seen p (looks.Read peeked) sees is = absurd (false≢true is)
+none_seen p looks.Fault sees is = absurd (false≢true is)
+none_seen p looks.Command sees is = absurd (false≢true is)
+
+some_handled : (calls : List Call) → is_some (first calls) ≡ true → is_some (option_map handled (first calls)) ≡ true
+some_handled [] e = absurd (false≢true e)
+some_handled (call ∷ more) e = refl
+
+pub some_seen : (p : Parts) (look : Look) → Sees p look → is_nothing look ≡ false → is_some (due p) ≡ true
+some_seen p looks.Nothing sees is = absurd (false≢true (sym is))
+some_seen p (looks.Read peeked) sees is = ap is_some sees.0
+some_seen p looks.Fault sees is = ap is_some sees
+some_seen p looks.Command sees is = ap is_some sees.0 ∙ some_handled p.calls sees.1
+
+-- no link ends at a call that is handled
+pub end_command : (p : Parts) → due p ≡ handled_first p → end_in (due_chain p (due p)) ≡ None
+end_command p e = ap (λ next. end_in (due_chain p next)) e ∙ by_calls p.calls
+  where
+    by_calls : (calls : List Call) → end_in (due_chain p (option_map handled (first calls))) ≡ None
+    by_calls [] = refl
+    by_calls (call ∷ more) = refl
 
 -- ---- until none is due
 
-pub record Goes (place : ℕ) (p : Parts) (sheet : Sheet) (p' : Parts) (sheet' : Sheet) : Type 0 where
-  pub falls : due_bound p' < due_bound p
-  pub none : p'.events ≡ []
-  pub same_parts : settled_parts p' ≡ settled_parts p
-  pub same_sheet : settled_sheet place p' sheet' ≡ settled_sheet place p sheet
+pub record Goes (place : ℕ) (p : Parts) (sheet : Sheet) (seen : Seen) (sheet' : Sheet) : Type 0 where
+  pub falls : most_due seen.parts < most_due p
+  pub none : seen.events ≡ []
+  pub same_parts : settled_parts seen.parts ≡ settled_parts p
+  pub same_sheet : settled_sheet place seen.parts sheet' ≡ settled_sheet place p sheet
 
-settle_parts : (p : Parts) (step : Step) → due p ≡ Some step → settled_parts (parts_noted step p) ≡ settled_parts p
+recorded_append : (place : ℕ) (xs ys : List Step) (p : Parts) (sheet : Sheet) → sheet_recorded place (xs ++ ys) p sheet ≡ sheet_recorded place ys (after_all p xs) (sheet_recorded place xs p sheet)
+recorded_append place [] ys p sheet = refl
+recorded_append place (x ∷ xs) ys p sheet = recorded_append place xs ys (after p x) (sheet_noted place x p sheet)
+
+settle_parts : (p : Parts) (step : Step) → due p ≡ Some step → settled_parts (after_all p (chain p step)) ≡ settled_parts p
 settle_parts p step e =
-    ap (λ steps. parts_recorded steps (parts_noted step p)) (due_steps_events [] (after p step)) ∙ sym (ap (λ steps. parts_recorded steps p) (one_due p step e))
+    sym (ap (after_all p) (one_due p step e) ∙ after_append (chain p step) (due_steps (after_all p (chain p step))) p)
 
-settle_sheet : (place : ℕ) (p : Parts) (step : Step) (sheet : Sheet) → due p ≡ Some step → settled_sheet place (parts_noted step p) (sheet_noted place step p sheet) ≡ settled_sheet place p sheet
+settle_sheet : (place : ℕ) (p : Parts) (step : Step) (sheet : Sheet) → due p ≡ Some step → settled_sheet place (after_all p (chain p step)) (sheet_recorded place (chain p step) p sheet) ≡ settled_sheet place p sheet
 settle_sheet place p step sheet e =
-    ap (λ steps. sheet_recorded place steps (parts_noted step p) (sheet_noted place step p sheet)) (due_steps_events [] (after p step)) ∙ sym (ap (λ steps. sheet_recorded place steps p sheet) (one_due p step e))
+    sym (ap (λ steps. sheet_recorded place steps p sheet) (one_due p step e) ∙ recorded_append place (chain p step) (due_steps (after_all p (chain p step))) p sheet)
 
-pub goes : (place : ℕ) (next : Option Step) (p p' : Parts) (sheet sheet' : Sheet) → due p ≡ next → NotesDue next place p sheet true p' sheet' → Goes place p sheet p' sheet'
-goes place None p p' sheet sheet' is notes = absurd (false≢true (sym notes.0))
-goes place (Some step) p p' sheet sheet' is notes = record {
-  falls = subst (λ q. due_bound q < due_bound p) (sym notes.1) (bound_falls p step is);
-  none = ap (λ (q : Parts). q.events) notes.1;
-  same_parts = ap settled_parts notes.1 ∙ settle_parts p step is;
-  same_sheet = ap (λ q. settled_sheet place q sheet') notes.1 ∙ (ap (settled_sheet place (parts_noted step p)) notes.2 ∙ settle_sheet place p step sheet is);
-}
+pub goes : (place : ℕ) (next : Option Step) (p : Parts) (seen : Seen) (sheet sheet' : Sheet) → due p ≡ next → is_some next ≡ true → Notes next place p sheet seen sheet' → Goes place p sheet seen sheet'
+goes place None p seen sheet sheet' is some notes = absurd (false≢true some)
+goes place (Some step) p seen sheet sheet' is some notes =
+    let more = after_all p (chain p step) in
+    let parts : seen.parts ≡ more = ap (λ (s : Seen). s.parts) notes.0 in
+    record {
+      falls = subst (λ q. most_due q < most_due p) (sym parts) (bound_falls p step is);
+      none = ap (λ (s : Seen). s.events) notes.0;
+      same_parts = ap settled_parts parts ∙ settle_parts p step is;
+      same_sheet = ap (λ q. settled_sheet place q sheet') parts ∙ (ap (settled_sheet place more) notes.1 ∙ settle_sheet place p step sheet is);
+    }
 
-pub stops : (place : ℕ) (next : Option Step) (p p' : Parts) (sheet sheet' : Sheet) → due p ≡ next → NotesDue next place p sheet false p' sheet' → (p' ≡ settled_parts p) × (sheet' ≡ settled_sheet place p sheet)
-stops place None p p' sheet sheet' is notes = (
-  notes.1 ∙ sym (ap (λ steps. parts_recorded steps p) (none_due p is)),
-  notes.2 ∙ sym (ap (λ steps. sheet_recorded place steps p sheet) (none_due p is)),
+pub stops : (place : ℕ) (p : Parts) (sheet : Sheet) → due p ≡ None → (p ≡ settled_parts p) × (sheet ≡ settled_sheet place p sheet)
+stops place p sheet is = (
+  sym (ap (λ steps. after_all p steps) (none_due p is)),
+  sym (ap (λ steps. sheet_recorded place steps p sheet) (none_due p is)),
 )
-stops place (Some step) p p' sheet sheet' is notes = absurd (false≢true notes.0)
 
--- no event waits behind steps that were recorded
-pub recorded_none : (steps : List Step) (p : Parts) → p.events ≡ [] → (parts_recorded steps p).events ≡ []
-recorded_none [] p e = e
-recorded_none (step ∷ steps) p e = recorded_none steps (parts_noted step p) refl
+-- a round of playing, where the look saw a step
+pub goes_by : (place : ℕ) (p : Parts) (look : Look) (seen : Seen) (sheet sheet' : Sheet) → Sees p look → is_nothing look ≡ false → Notes (due p) place p sheet seen sheet' → Goes place p sheet seen sheet'
+goes_by place p look seen sheet sheet' sees is notes = goes place (due p) p seen sheet sheet' refl (some_seen p look sees is) notes

@@ -1,32 +1,34 @@
 -- The sheet after one more step, and after one more answer.
-use Rattle.std.proofs.Common.{◌≡◌, ℕ, suc, ◌+◌, ◌≤◌, ◌<◌, Bool, true, false, cond, not, eqb, ◌&&◌, min, List, [], ◌∷◌, ◌++◌, length, take, drop, map, Option, None, refl, sym, ◌∙◌, ap, subst, arith, ◌⊎◌, inl, inr}
-use Rattle.std.proofs.lemmas.List.{append-nil, append_assoc, length-map, take-append-le, take_min, drop_all}
+use Rattle.std.proofs.Common.{◌≡◌, ℕ, suc, ◌+◌, ◌≤◌, ◌<◌, Bool, true, false, cond, not, eqb, ◌&&◌, min, List, [], ◌∷◌, ◌++◌, length, take, drop, map, Option, Some, None, zero, refl, sym, ◌∙◌, ap, subst, arith}
+use Rattle.std.proofs.lemmas.List.{append-nil, append_assoc, take-append-le, take_min}
 use Rattle.std.proofs.Math.Seq.{take-add}
+use Rattle.std.proofs.lemmas.Bool.{ne_eqb, le-ltb, ltb-true, ltb-false, false≢true}
 use Rattle.nats_names.specs.declared.event.Event.{Event}
 use Rattle.nats_wire.specs.declared.message.Message.{Message}
 use Rattle.nats_wire.specs.Operations.{message}
-use Rattle.nats_session.specs.declared.config.Config.{Config}
-use Rattle.nats_session.specs.declared.call.Call.TheVariants.{Publish, Subscribe}
-use Rattle.nats_session.specs.declared.call.TakeReply.{TakeReply}
-use Rattle.nats_session.specs.declared.call.CallReply.{CallReply}
-use Rattle.nats_session.specs.declared.transcript.LinkWord.{LinkWord}
-use Rattle.nats_session.specs.declared.transcript.LinkWord.TheVariants as word
-use Rattle.nats_session.specs.declared.transcript.LinkRow.{LinkRow}
-use Rattle.nats_session.specs.declared.transcript.SubRow.{SubRow}
+use Rattle.nats_history.specs.declared.config.Config.{Config}
+use Rattle.nats_history.specs.declared.call.Call.{Call}
+use Rattle.nats_history.specs.declared.call.TakeReply.{TakeReply}
+use Rattle.nats_history.specs.declared.call.CallReply.{CallReply}
+use Rattle.nats_history.specs.declared.transcript.LinkWord.{LinkWord}
+use Rattle.nats_history.specs.declared.transcript.LinkWord.TheVariants as word
+use Rattle.nats_history.specs.declared.transcript.LinkRow.{LinkRow}
+use Rattle.nats_history.specs.declared.transcript.SubRow.{SubRow}
 use Rattle.nats_session.specs.declared.subs.subscription.Delivery.{Delivery}
 use Rattle.nats_session.specs.declared.subs.subscription.Delivery.TheVariants.{Put, Dropped, Ignored}
-use Rattle.nats_session.specs.History.{Step, opened, fed, read, taken, accepted, handled, took, link_end, History, is_up, concerns, count_from, given, Told, nothing_told, waiting, has_room, told_after, told, numbers, link_text, taken_count, waiting_bytes, texts, commands, events_by, events}
-use Rattle.nats_session.specs.Parts.{Parts, second, sub_of, subs_of, parts_of, at_number, item_of, after}
+use Rattle.nats_history.specs.Tables.{About, is_about, at_number, item_of, count_from}
+use Rattle.nats_history.specs.History.{Step, opened, fed, read, taken, accepted, handled, took, link_end, History, is_up, subscribes, given_after, at_after, at_of, given, numbers, about, is_given, concerns, Told, nothing_told, sub_of, has_room, listens, told_after, told, rows_of, link_text, taken_count, waiting_bytes, text_by, events}
+use Rattle.nats_history.specs.Parts.{Parts, parts_of}
+use Rattle.nats_history.specs.After.{after, events_of}
 use Rattle.nats_session.specs.Delivery.{delivery, delivery_at}
-use Rattle.nats_session.specs.Transcripts.{Answer, nothing, called, asked, link_row, ended_links, reply_to, take_replies, call_replies, sub_row, sub_rows, shown}
+use Rattle.nats_history.specs.Transcripts.{Answer, nothing, called, asked, link_row, ended_links, reply_to, take_replies, call_replies, sub_row, sub_rows, shown}
 use Rattle.nats_session.specs.Sheet.{Sheet, empty_sheet, sheet_of, finished, AreGiven, Tells, new_row, write_put, write_drop, write_take, write_delivery, write_step, write_answer, write_events}
-use Rattle.nats_session.proofs.Words.{taken_fits}
-use Rattle.nats_session.proofs.Tables.{numbered, one_more, same_table, at_number_same, item_there, item_missing}
-use Rattle.nats_session.proofs.Refines.{told_nothing, range_of, events_more, parts_after}
-use Rattle.nats_session.proofs.Handlers.{stands_after}
-use Rattle.nats_session.specs.Machine.{with_events}
+use Rattle.nats_session.specs.Machine.{sheet_noted}
 use Rattle.nats_session.specs.Handler.{idle}
-use Rattle.std.proofs.lemmas.Bool.{ne_eqb}
+use Rattle.nats_history.proofs.Words.{taken_fits}
+use Rattle.nats_history.proofs.Tables.{numbered, one_more, same_table, same_up_to, at_number_same, item_there, item_missing}
+use Rattle.nats_history.proofs.Rows.{given_grows, is_given_to, told_nothing}
+use Rattle.nats_history.proofs.Refines.{parts_after}
 
 -- ---- rows
 
@@ -40,12 +42,12 @@ row_same : (b : Bool) (t u : Told) (takes : Takes) → u.puts ≡ t.puts → u.d
 row_same true t u takes p d = rw (p, d) refl
 row_same false t u takes p d = refl
 
--- a step that puts nothing and drops nothing leaves the rows
-rows_kept : (c : Config) (h : History) (answers : List (ℕ × Answer)) (place : ℕ) (step : Step) → given ((place, step) ∷ h) ≡ given h
+-- a step that gives no number, puts nothing and drops nothing leaves the rows
+rows_kept : (c : Config) (h : History) (answers : List (ℕ × Answer)) (place : ℕ) (step : Step) → given_after step (at_of h) ≡ given h
     → ((t : Told) → (told_after c place step t).puts ≡ t.puts) → ((t : Told) → (told_after c place step t).drops ≡ t.drops)
     → sub_rows c ((place, step) ∷ h) answers ≡ sub_rows c h answers
 rows_kept c h answers place step e puts drops =
-    ap (λ n. map (λ s. sub_row (told c s ((place, step) ∷ h)) (take_replies s answers)) (count_from 1 n)) e ∙ same_table _ _ (numbers h) (λ s. row_same (concerns s h step) (told c s h) (told_after c place step (told c s h)) (take_replies s answers) (puts (told c s h)) (drops (told c s h)))
+    ap (λ n. map (λ s. sub_row (told c s ((place, step) ∷ h)) (take_replies s answers)) (count_from 1 n)) e ∙ same_table _ _ (numbers h) (λ s. row_same (concerns s (at_of h) step) (told c s h) (told_after c place step (told c s h)) (take_replies s answers) (puts (told c s h)) (drops (told c s h)))
 
 -- what a message writes into one row
 abbrev write_one : ℕ → Message → Delivery → SubRow → SubRow
@@ -54,45 +56,72 @@ write_one place m (Dropped dropped) row = write_drop place m row
 write_one place m Ignored row = row
 
 row_read : (c : Config) (place sid : ℕ) (m : Message) (t : Told) (takes : Takes) → sub_row (told_after c place (read (message sid m)) t) takes ≡ write_one place m (delivery c m (sub_of t)) (sub_row t takes)
-row_read c place sid m t takes = rw (length-map (waiting t) second) (by_case t.is_open (has_room c t))
+row_read c place sid m t takes = by_case (listens (sub_of t)) (has_room c (sub_of t))
   where
-    by_case : (opened room : Bool) → row_of (t.puts ++ cond (opened && room) ((place, m) ∷ []) []) (t.drops ++ cond (opened && not room) ((place, m) ∷ []) []) takes
-        ≡ write_one place m (cond opened (cond room Put (Dropped m)) Ignored) (row_of t.puts t.drops takes)
+    by_case : (comes room : Bool) → row_of (t.puts ++ cond (comes && room) ((place, m) ∷ []) []) (t.drops ++ cond (comes && not room) ((place, m) ∷ []) []) takes
+        ≡ write_one place m (cond comes (cond room Put (Dropped m)) Ignored) (row_of t.puts t.drops takes)
     by_case true true = ap (λ xs. row_of (t.puts ++ (place, m) ∷ []) xs takes) (append-nil t.drops)
     by_case true false = ap (λ xs. row_of xs (t.drops ++ (place, m) ∷ []) takes) (append-nil t.puts)
     by_case false room = rw (append-nil t.puts, append-nil t.drops) refl
 
 -- what becomes of a message hangs on what is told of its number, also of one that was not given
-delivery_is : (c : Config) (h : History) (sid : ℕ) (m : Message) → delivery_at c m (item_of sid (subs_of c h)) ≡ delivery c m (sub_of (told c sid h))
-delivery_is c h sid m = by_range (range_of sid (given h))
+delivery_is : (c : Config) (h : History) (sid : ℕ) (m : Message) → delivery_at c m (item_of sid (rows_of c h)) ≡ delivery c m (sub_of (told c sid h))
+delivery_is c h sid m = by_given (is_given sid (at_of h)) refl
   where
-    missing : (sid ≡ 0) ⊎ (given h < sid) → item_of sid (subs_of c h) ≡ None
-    missing (inl z) = ap (λ k. item_of k (subs_of c h)) z
-    missing (inr past) = item_missing (λ s. sub_of (told c s h)) (given h) sid past
+    there : (s : ℕ) → is_given s (at_of h) ≡ true → item_of s (rows_of c h) ≡ Some (sub_of (told c s h))
+    there zero e = absurd (false≢true e)
+    there (suc k) e =
+        let less = ltb-true k (given h) e in
+        item_there (λ s. sub_of (told c s h)) (given h) (suc k) (omega arith) (omega (arith, less))
 
-    by_range : ((sid ≡ 0) ⊎ (given h < sid)) ⊎ ((0 < sid) × (sid ≤ given h)) → delivery_at c m (item_of sid (subs_of c h)) ≡ delivery c m (sub_of (told c sid h))
-    by_range (inl apart) =
-        ap (delivery_at c m) (missing apart) ∙ sym (ap (λ t. delivery c m (sub_of t)) (told_nothing c sid h apart))
-    by_range (inr there) =
-        ap (delivery_at c m) (item_there (λ s. sub_of (told c s h)) (given h) sid there.0 there.1)
+    missing : (s : ℕ) → is_given s (at_of h) ≡ false → item_of s (rows_of c h) ≡ None
+    missing zero e = refl
+    missing (suc k) e =
+        let past = ltb-false k (given h) e in
+        item_missing (λ s. sub_of (told c s h)) (given h) (suc k) (omega (arith, past))
+
+    by_given : (b : Bool) → is_given sid (at_of h) ≡ b → delivery_at c m (item_of sid (rows_of c h)) ≡ delivery c m (sub_of (told c sid h))
+    by_given true e = ap (delivery_at c m) (there sid e)
+    by_given false e =
+        ap (delivery_at c m) (missing sid e) ∙ sym (ap (λ t. delivery c m (sub_of t)) (told_nothing c sid h e))
 
 delivery_rows : (place sid : ℕ) (m : Message) (d : Delivery) (rows : List SubRow) → at_number sid (write_one place m d) rows ≡ write_delivery place sid m d rows
 delivery_rows place sid m Put rows = refl
 delivery_rows place sid m (Dropped dropped) rows = refl
 delivery_rows place sid m Ignored rows = at_number_same sid rows
 
+-- what is told of one number after a step, where it was given
+one_told : (c : Config) (place : ℕ) (step : Step) (h : History) (s : ℕ) (takes : Takes) → is_given s (at_after step (at_of h)) ≡ true
+    → sub_row (told c s ((place, step) ∷ h)) takes ≡ sub_row (cond (is_about s (about (at_of h) step)) (told_after c place step (told c s h)) (told c s h)) takes
+one_told c place step h s takes there = by_about (is_about s (about (at_of h) step)) _ there
+  where
+    by_about : (a b : Bool) → b ≡ true → sub_row (cond (a && b) (told_after c place step (told c s h)) (told c s h)) takes ≡ sub_row (cond a (told_after c place step (told c s h)) (told c s h)) takes
+    by_about true b e = ap (λ x. sub_row (cond x (told_after c place step (told c s h)) (told c s h)) takes) e
+    by_about false b e = refl
+
+rows_told : (c : Config) (h : History) (answers : List (ℕ × Answer)) (place : ℕ) (step : Step)
+    → sub_rows c ((place, step) ∷ h) answers ≡ map (λ s. sub_row (cond (is_about s (about (at_of h) step)) (told_after c place step (told c s h)) (told c s h)) (take_replies s answers)) (count_from 1 (given_after step (at_of h)))
+rows_told c h answers place step =
+    same_up_to _ _ (given_after step (at_of h)) (λ s low high. one_told c place step h s (take_replies s answers) (is_given_to s (at_after step (at_of h)) low high))
+
 rows_read : (c : Config) (h : History) (answers : List (ℕ × Answer)) (place sid : ℕ) (m : Message)
-    → sub_rows c ((place, read (message sid m)) ∷ h) answers ≡ write_delivery place sid m (delivery_at c m (item_of sid (subs_of c h))) (sub_rows c h answers)
+    → sub_rows c ((place, read (message sid m)) ∷ h) answers ≡ write_delivery place sid m (delivery_at c m (item_of sid (rows_of c h))) (sub_rows c h answers)
 rows_read c h answers place sid m =
     let d = delivery c m (sub_of (told c sid h)) in
-    numbered (λ s t. sub_row t (take_replies s answers)) (write_one place m d) (λ s. told_after c place (read (message sid m)) (told c s h)) (λ s. told c s h) (given h) sid (row_read c place sid m (told c sid h) (take_replies sid answers)) ∙ (delivery_rows place sid m d (sub_rows c h answers) ∙ sym (ap (λ e. write_delivery place sid m e (sub_rows c h answers)) (delivery_is c h sid m)))
+    rows_told c h answers place (read (message sid m)) ∙ (numbered (λ s t. sub_row t (take_replies s answers)) (write_one place m d) (λ s. told_after c place (read (message sid m)) (told c s h)) (λ s. told c s h) (given h) sid (row_read c place sid m (told c sid h) (take_replies sid answers)) ∙ (delivery_rows place sid m d (sub_rows c h answers) ∙ sym (ap (λ e. write_delivery place sid m e (sub_rows c h answers)) (delivery_is c h sid m))))
 
-rows_accepted : (c : Config) (h : History) (answers : List (ℕ × Answer)) (place : ℕ) (subject : List ℕ) (group : Option (List ℕ)) → AreGiven h answers
-    → sub_rows c ((place, accepted (Subscribe subject group)) ∷ h) answers ≡ sub_rows c h answers ++ new_row ∷ []
-rows_accepted c h answers place subject group named =
-    let step = accepted (Subscribe subject group) in
-    let less : given h < suc (given h) = omega arith in
-    one_more (λ s t. sub_row t (take_replies s answers)) (λ s. told_after c place step (told c s h)) (λ s. told c s h) (given h) new_row (ap (λ t. sub_row (told_after c place step t) (take_replies (suc (given h)) answers)) (told_nothing c (suc (given h)) h (inr less)) ∙ ap (λ takes. sub_row nothing_told takes) (named (suc (given h)) less))
+rows_accepted : (c : Config) (h : History) (answers : List (ℕ × Answer)) (place : ℕ) (call : Call) → AreGiven h answers
+    → sub_rows c ((place, accepted call) ∷ h) answers ≡ cond (subscribes call) (sub_rows c h answers ++ new_row ∷ []) (sub_rows c h answers)
+rows_accepted c h answers place call named =
+    same_table _ _ _ (λ s. row_same (concerns s (at_of h) (accepted call)) (told c s h) (told_after c place (accepted call) (told c s h)) (take_replies s answers) (append-nil (told c s h).puts) (append-nil (told c s h).drops)) ∙ by_call (subscribes call)
+  where
+    not_yet : is_given (suc (given h)) (at_of h) ≡ false
+    not_yet = le-ltb (given h) (given h) (omega arith)
+
+    by_call : (b : Bool) → map (λ s. sub_row (told c s h) (take_replies s answers)) (count_from 1 (cond b (suc (given h)) (given h))) ≡ cond b (sub_rows c h answers ++ new_row ∷ []) (sub_rows c h answers)
+    by_call true =
+        one_more (λ s. sub_row (told c s h) (take_replies s answers)) (given h) new_row (ap (λ t. sub_row t (take_replies (suc (given h)) answers)) (told_nothing c (suc (given h)) h not_yet) ∙ ap (λ takes. sub_row nothing_told takes) (named (suc (given h)) (omega arith)))
+    by_call false = refl
 
 -- ---- the bytes that the link took
 
@@ -105,8 +134,8 @@ none_taken : (b : Bool) (t : ℕ) (text more : List ℕ) → t ≤ length text �
 none_taken true t text more fits = take-append-le t text more fits
 none_taken false t text more fits = refl
 
-taken_kept : (h : History) (more : List ℕ) → cond (is_up h) (take (taken_count h) (link_text h ++ more)) [] ≡ cond (is_up h) (take (taken_count h) (link_text h)) []
-taken_kept h more = none_taken (is_up h) (taken_count h) (link_text h) more (taken_fits h)
+taken_kept : (c : Config) (h : History) (more : List ℕ) → cond (is_up h) (take (taken_count c h) (link_text c h ++ more)) [] ≡ cond (is_up h) (take (taken_count c h) (link_text c h)) []
+taken_kept c h more = none_taken (is_up h) (taken_count c h) (link_text c h) more (taken_fits c h)
 
 -- ---- the sheet after one more step
 
@@ -116,65 +145,41 @@ sheet_with ls ts ss es cs = record { links = ls; taken = ts; subs = ss; events =
 same_sheet : (ls ls' : List LinkRow) (ts ts' : List ℕ) (ss ss' : List SubRow) (es : List (ℕ × Event)) (cs : List (ℕ × CallReply)) → ls ≡ ls' → ts ≡ ts' → ss ≡ ss' → sheet_with ls ts ss es cs ≡ sheet_with ls' ts' ss' es cs
 same_sheet ls ls' ts ts' ss ss' es cs a b d = rw (a, b, d) refl
 
-ended_row : (end : LinkWord) (h : History) → is_up h ≡ true → link_row end h ≡ record { end = end; taken = cond (is_up h) (take (taken_count h) (link_text h)) []; left = waiting_bytes h }
-ended_row end h up = rw up refl
+ended_row : (c : Config) (end : LinkWord) (h : History) → is_up h ≡ true → link_row c end h ≡ record { end = end; taken = cond (is_up h) (take (taken_count c h) (link_text c h)) []; left = waiting_bytes c h }
+ended_row c end h up = rw up refl
 
 -- a link ends only while it is up
 abbrev pub EndsUp : Bool → Step → Type 0
 EndsUp up (link_end end) = up ≡ true
 EndsUp up step = Unit {0}
 
-sheet_after : (c : Config) (n : ℕ) (h : History) (answers : List (ℕ × Answer)) (place : ℕ) (step : Step) → AreGiven h answers → EndsUp (is_up h) step
-    → sheet_of c ((place, step) ∷ h) answers ≡ write_events place (events_by c h step) (write_step place (parts_of c n h) step (sheet_of c h answers))
-sheet_after c n h answers place (opened info) named up = refl
-sheet_after c n h answers place (fed bytes) named up =
-    same_sheet _ _ _ _ _ _ _ _ refl (taken_kept h []) refl
-sheet_after c n h answers place (read (message sid m)) named up =
-    same_sheet _ _ _ _ _ _ _ _ refl (taken_kept h []) (rows_read c h answers place sid m)
-sheet_after c n h answers place (read operation) named up =
-    same_sheet _ _ _ _ _ _ _ _ refl (taken_kept h (texts (commands h (read operation)))) refl
-sheet_after c n h answers place (taken k) named up =
-    same_sheet _ _ _ _ _ _ _ _ refl (more_taken (is_up h) (taken_count h) k (link_text h)) refl
-sheet_after c n h answers place (accepted (Publish m)) named up =
-    same_sheet _ _ _ _ _ _ _ _ refl (taken_kept h []) refl
-sheet_after c n h answers place (accepted (Subscribe subject group)) named up =
-    same_sheet _ _ _ _ _ _ _ _ refl (taken_kept h []) (rows_accepted c h answers place subject group named)
-sheet_after c n h answers place (handled call) named up =
-    same_sheet _ _ _ _ _ _ _ _ refl (taken_kept h (texts (commands h (handled call)))) (rows_kept c h answers place (handled call) refl (λ t. append-nil t.puts) (λ t. append-nil t.drops))
-sheet_after c n h answers place (took sid) named up =
-    same_sheet _ _ _ _ _ _ _ _ refl (taken_kept h []) (rows_kept c h answers place (took sid) refl (λ t. append-nil t.puts) (λ t. append-nil t.drops))
-sheet_after c n h answers place (link_end end) named up =
-    same_sheet _ _ _ _ _ _ _ _ (ap (λ row. ended_links h ++ row ∷ []) (ended_row end h up)) refl refl
+sheet_after : (c : Config) (h : History) (answers : List (ℕ × Answer)) (place : ℕ) (step : Step) → AreGiven h answers → EndsUp (is_up h) step
+    → sheet_of c ((place, step) ∷ h) answers ≡ sheet_noted place step (parts_of c h) (sheet_of c h answers)
+sheet_after c h answers place (opened info) named up =
+    same_sheet _ _ _ _ _ _ _ _ refl refl (rows_kept c h answers place (opened info) refl (λ t. append-nil t.puts) (λ t. append-nil t.drops))
+sheet_after c h answers place (link_end end) named up =
+    same_sheet _ _ _ _ _ _ _ _ (ap (λ row. ended_links c h ++ row ∷ []) (ended_row c end h up)) refl (rows_kept c h answers place (link_end end) refl (λ t. append-nil t.puts) (λ t. append-nil t.drops))
+sheet_after c h answers place (read (message sid m)) named up =
+    same_sheet _ _ _ _ _ _ _ _ refl (taken_kept c h (text_by c h (read (message sid m)))) (rows_read c h answers place sid m)
+sheet_after c h answers place (read operation) named up =
+    same_sheet _ _ _ _ _ _ _ _ refl (taken_kept c h (text_by c h (read operation))) (rows_kept c h answers place (read operation) refl (λ t. append-nil t.puts) (λ t. append-nil t.drops))
+sheet_after c h answers place (taken k) named up =
+    same_sheet _ _ _ _ _ _ _ _ refl (more_taken (is_up h) (taken_count c h) k (link_text c h)) (rows_kept c h answers place (taken k) refl (λ t. append-nil t.puts) (λ t. append-nil t.drops))
+sheet_after c h answers place (accepted call) named up =
+    same_sheet _ _ _ _ _ _ _ _ refl (taken_kept c h (text_by c h (accepted call))) (rows_accepted c h answers place call named)
+sheet_after c h answers place step named up =
+    same_sheet _ _ _ _ _ _ _ _ refl (taken_kept c h (text_by c h step)) (rows_kept c h answers place step refl (λ t. append-nil t.puts) (λ t. append-nil t.drops))
 
-none_left : (es : List (ℕ × Event)) → drop (length es) (map second es) ≡ []
-none_left es = drop_all (length es) (map second es) (rw length-map (omega arith))
-
-step_events : (c : Config) (h : History) (place : ℕ) (step : Step) → (after (parts_of c (length (events c h)) h) step).events ≡ events_by c h step
-step_events c h place step =
-    let fits : length (events c h) ≤ length (events c h) = omega arith in
-    sym (ap (λ (p : Parts). p.events) (parts_after c (length (events c h)) h place step fits)) ∙ (events_more (length (events c h)) (events c h) place (events_by c h step) fits ∙ ap (λ es. es ++ events_by c h step) (none_left (events c h)))
-
-pub given_grows : (h : History) (place : ℕ) (step : Step) → given h ≤ given ((place, step) ∷ h)
-given_grows h place (accepted (Subscribe subject group)) = omega arith
-given_grows h place step = omega arith
-
-two_ways : (place : ℕ) (step : Step) (p q : Parts) (s t : Sheet) → p ≡ q → s ≡ t → write_events place (after p step).events (write_step place p step s) ≡ write_events place (after q step).events (write_step place q step t)
-two_ways place step p q s t a b = rw (a, b) refl
-
-pub tells_step : (c : Config) (h : History) (answers : List (ℕ × Answer)) (place : ℕ) (step : Step) (p : Parts) (sheet : Sheet) → Tells c h answers p sheet → EndsUp p.is_up step
-    → Tells c ((place, step) ∷ h) answers (with_events [] (after p step)) (write_events place (after p step).events (write_step place p step sheet))
+pub tells_step : (c : Config) (h : History) (answers : List (ℕ × Answer)) (place : ℕ) (step : Step) (p : Parts) (sheet : Sheet) → Tells c h answers p sheet → EndsUp p.link.is_up step
+    → Tells c ((place, step) ∷ h) answers (after p step) (sheet_noted place step p sheet)
 tells_step c h answers place step p sheet tells up =
-    let n = length (events c h) in
-    let more = length (events c ((place, step) ∷ h)) in
-    let same = tells.stands.parts in
-    let up_there : EndsUp (is_up h) step = subst (λ (q : Parts). EndsUp q.is_up step) same up in
+    let up_there : EndsUp (is_up h) step =
+    subst (λ (q : Parts). EndsUp q.link.is_up step) tells.parts up
+    in
     record {
-      stands = record {
-        handed_out = omega arith;
-        parts = ap (with_events []) (stands_after c n h place step p tells.stands).parts ∙ ap (λ es. with_events es (parts_of c n ((place, step) ∷ h))) (sym (none_left (events c ((place, step) ∷ h))));
-      };
-      written = two_ways place step p (parts_of c n h) sheet (sheet_of c h answers) same tells.written ∙ (ap (λ es. write_events place es (write_step place (parts_of c n h) step (sheet_of c h answers))) (step_events c h place step) ∙ sym (sheet_after c n h answers place step tells.given_numbers up_there));
-      given_numbers = λ s past. tells.given_numbers s (omega (arith, past, given_grows h place step));
+      parts = ap (λ q. after q step) tells.parts ∙ sym (parts_after c h place step);
+      written = ap (λ q. sheet_noted place step q sheet) tells.parts ∙ (ap (sheet_noted place step (parts_of c h)) tells.written ∙ sym (sheet_after c h answers place step tells.given_numbers up_there));
+      given_numbers = λ s past. tells.given_numbers s (omega (arith, past, given_grows step (at_of h)));
     }
 
 -- ---- the sheet after one more answer
@@ -229,7 +234,7 @@ given_still h answers place (called reply) named there s past =
 pub tells_answer : (c : Config) (h : History) (answers : List (ℕ × Answer)) (place : ℕ) (answer : Answer) (p : Parts) (sheet : Sheet) → Tells c h answers p sheet → IsGiven h answer
     → Tells c h (answers ++ (place, answer) ∷ []) p (write_answer place answer sheet)
 tells_answer c h answers place answer p sheet tells there = record {
-  stands = tells.stands;
+  parts = tells.parts;
   written = ap (write_answer place answer) tells.written ∙ sym (sheet_answered c h answers place answer);
   given_numbers = given_still h answers place answer tells.given_numbers there;
 }
@@ -245,11 +250,7 @@ last_link false bytes text = refl
 
 pub tells_finished : (c : Config) (h : History) (answers : List (ℕ × Answer)) (p : Parts) (sheet : Sheet) → Tells c h answers p sheet → finished p sheet ≡ shown c h answers
 tells_finished c h answers p sheet tells =
-    rw (tells.stands.parts, tells.written) (ap (λ last. record { links = ended_links h ++ last; subs = sub_rows c h answers; events = events c h; calls = call_replies answers }) (last_link (is_up h) (take (taken_count h) (link_text h)) (drop (taken_count h) (link_text h))))
+    rw (tells.parts, tells.written) (ap (λ last. record { links = ended_links c h ++ last; subs = sub_rows c h answers; events = events c h; calls = call_replies answers }) (last_link (is_up h) (take (taken_count c h) (link_text c h)) (drop (taken_count c h) (link_text c h))))
 
 pub tells_nothing : (c : Config) → Tells c [] [] (idle c) empty_sheet
-tells_nothing c = record {
-  stands = record { handed_out = omega arith; parts = refl };
-  written = refl;
-  given_numbers = λ s past. refl;
-}
+tells_nothing c = record { parts = refl; written = refl; given_numbers = λ s past. refl }

@@ -50,8 +50,8 @@ abbrev pub row_with : LinkWord → List ℕ → List ℕ → LinkRow
 row_with end bytes left = record { end = end; taken = bytes; left = left }
 
 abbrev pub links_written : Parts → Step → List ℕ → List LinkRow → List LinkRow
-links_written p (link_end end) taken links = links ++ row_with end taken p.link.wire.waiting ∷ []
-links_written p step taken links = links
+links_written p (link_end end) before links = links ++ row_with end before p.link.wire.waiting ∷ []
+links_written p step before links = links
 
 abbrev pub taken_written : Parts → Step → List ℕ → List ℕ
 taken_written p (opened info) before = []

@@ -85,13 +85,7 @@ impl Draft {
     }
 
     /// Something happened to subscription `sid`.
-    pub fn note(
-        &mut self,
-        alloc: Global,
-        place: u64,
-        sid: u64,
-        note: Note,
-    ) -> Result<(), NoMemory>
+    pub fn note(&mut self, alloc: Global, place: u64, sid: u64, note: Note) -> Result<(), NoMemory>
         ensures { OnOk result (self.new ≡ record self.old { subs = at_number sid (write_note place note) self.old.subs }) }
     {
         note_in(&mut self.subs, alloc, place, sid, note)

@@ -14,6 +14,7 @@ mod tests;
 pub use handler::ConnectionHandler;
 pub use nats_history::{
     Bytes, Call, CallReply, Config, Due, Event, LinkRow, LinkWord, Message, NoMemory,
-    OutboundMessage, RunError, Seq, ServerInfo, SubRow, Subject, TakeReply, Token, Transcript, Turn,
+    OutboundMessage, RunError, Seq, ServerInfo, SubRow, Subject, TakeReply, Token, Transcript,
+    Turn,
 };
 pub use play::run;

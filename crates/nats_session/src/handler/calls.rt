@@ -7,9 +7,7 @@ ghost use Rattle.nats_history.specs.Schedule.{own_steps, due, due_chain, take_re
 ghost use Rattle.nats_session.specs.Handler.{LeadTo, Submits, Advances, can_play, seen_after};
 
 use super::ConnectionHandler;
-use nats_history::{
-    Bytes, Call, CallReply, Due, Event, NoMemory, ServerInfo, TakeReply,
-};
+use nats_history::{Bytes, Call, CallReply, Due, Event, NoMemory, ServerInfo, TakeReply};
 use nats_wire::Connection;
 use std::alloc::Global;
 

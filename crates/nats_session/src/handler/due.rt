@@ -6,17 +6,17 @@ ghost use Rattle.nats_wire.specs.Commands.{command_text};
 ghost use Rattle.nats_history.specs.declared.transcript.LinkWord.TheVariants.{Fault};
 ghost use Rattle.nats_history.specs.declared.turn.Due.TheVariants as due_names;
 ghost use Rattle.nats_history.specs.Tables.{at_number, item_of};
-ghost use Rattle.nats_history.specs.History.{link_end, read, next_subscribed, subscribe_command, drop_events};
+ghost use Rattle.nats_history.specs.History.{link_end, read, handled, commands, drop_events};
 ghost use Rattle.nats_history.specs.Parts.{at_in};
 ghost use Rattle.nats_history.specs.Schedule.{due, due_chain};
-ghost use Rattle.nats_history.specs.After.{written};
-ghost use Rattle.nats_session.specs.Delivery.{deliver, delivery_at, subscribed_one};
+ghost use Rattle.nats_history.specs.After.{written, subs_after};
+ghost use Rattle.nats_session.specs.Delivery.{deliver, delivery_at};
 ghost use Rattle.nats_session.specs.Handler.{Advances, Sees, is_nothing, handled_first, seen_after, own_name, end_in, push_all};
 
 use super::ConnectionHandler;
 use crate::subs::{Delivery, Subscriptions};
 use nats_history::{
-    Call, Due, Event, LinkWord, Message, NoMemory, OutboundMessage, Subject,
+    Call, Config, Due, Event, LinkWord, Message, NoMemory, OutboundMessage, Subject,
 };
 use nats_wire::{ClientOp, Connection, Peeked, ServerOp, WireError, copy_subject};
 use std::alloc::Global;
@@ -59,28 +59,50 @@ fn write_publish(
     connection.enqueue_write_op(alloc, &op)
 }
 
-/// Handles a subscribe: writes its command, and opens the subscription of the next number.
-fn subscribe_next(
+fn write_subscribe(
     connection: &mut Connection,
-    subs: &mut Subscriptions,
     alloc: Global,
+    sid: u64,
     subject: &Subject,
     queue_group: &Option<Subject>,
 ) -> Result<(), NoMemory>
-    ensures text { OnOk result (connection.new ≡ record connection.old { waiting = written true (subscribe_command (next_subscribed (at_in subs.old)) subject.now queue_group.now) connection.old.waiting }) }
-    ensures opens { OnOk result (subs.new ≡ subscribed_one subs.old) }
+    ensures ok { OnOk result (connection.new ≡ record connection.old { waiting = connection.old.waiting ++ command_text (client.Subscribe sid subject.now queue_group.now) }) }
+    ensures err { OnErr result (connection.new ≡ connection.old) }
+{
+    let op = ClientOp::Subscribe {
+        sid,
+        subject: subject.copy(alloc)?,
+        queue_group: copy_subject(alloc, queue_group)?,
+    };
+    connection.enqueue_write_op(alloc, &op)
+}
+
+/// Writes the commands of a call that is handled, and changes the subscription that it is about.
+fn handle_call(
+    connection: &mut Connection,
+    subs: &mut Subscriptions,
+    alloc: Global,
+    _config: &Config,
+    call: &Call,
+) -> Result<(), NoMemory>
+    ensures text { OnOk result (connection.new ≡ record connection.old { waiting = written true (commands _config.now (at_in subs.old) subs.old.rows (handled call.now)) connection.old.waiting }) }
+    ensures subs { OnOk result (subs.new ≡ subs_after _config.now (handled call.now) subs.old) }
     ensures err { OnErr result ((connection.new ≡ connection.old) × (subs.new ≡ subs.old)) }
 {
-    if let Some(sid) = subs.next_subscribed() {
-        let op = ClientOp::Subscribe {
-            sid,
-            subject: subject.copy(alloc)?,
-            queue_group: copy_subject(alloc, queue_group)?,
-        };
-        connection.enqueue_write_op(alloc, &op)?;
+    match call {
+        Call::Publish(message) => write_publish(connection, alloc, message),
+        Call::Subscribe {
+            subject,
+            queue_group,
+        } => {
+            let Some(sid) = subs.next_subscribed() else {
+                return Ok(());
+            };
+            write_subscribe(connection, alloc, sid, subject, queue_group)?;
+            subs.subscribe();
+            Ok(())
+        }
     }
-    subs.subscribe();
-    Ok(())
 }
 
 impl ConnectionHandler {
@@ -200,19 +222,13 @@ impl ConnectionHandler {
         let Some(call) = self.calls.front() else {
             return Ok(Due::Nothing);
         };
-        match call {
-            Call::Publish(message) => write_publish(&mut self.connection, alloc, message)?,
-            Call::Subscribe {
-                subject,
-                queue_group,
-            } => subscribe_next(
-                &mut self.connection,
-                &mut self.subs,
-                alloc,
-                subject,
-                queue_group,
-            )?,
-        }
+        handle_call(
+            &mut self.connection,
+            &mut self.subs,
+            alloc,
+            &self.config,
+            call,
+        )?;
         self.calls.discard();
         Ok(Due::Handled)
     }

@@ -2,7 +2,7 @@
 use Rattle.std.proofs.Common.{sym, ap, ◌∙◌}
 use Rattle.std.proofs.lemmas.Result.{on_ok_weaker}
 use Rattle.nats_session.specs.Sheet.{write_note}
-use Rattle.nats_session.proofs.Tables.{set_number, number_missing}
+use Rattle.nats_session.proofs.Items.{set_number, number_missing}
 use Rattle.nats_session.proofs.draft.note_in.Goals as goal
 
 pub returns-in-Some : goal.returns-in-Some

@@ -4,4 +4,4 @@ use Rattle.nats_session.proofs.handler.ConnectionHandler.submit.Goals as goal
 
 pub returns-clause-stands : goal.returns-clause-stands
 returns-clause-stands c =
-    leads_call c.args.self.now c.play_call.new.self c.args.call c.play_call.result c.play_call.ensures
+    leads_call c.args.self.now c.accept.new.self c.args.call c.accept.result c.accept.ensures

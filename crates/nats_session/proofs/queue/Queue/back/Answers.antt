@@ -1,6 +1,6 @@
 -- The youngest item is the last one.
 use Rattle.std.proofs.Common.{◌∙◌, ap, arith}
-use Rattle.nats_session.specs.Queue.{last}
+use Rattle.nats_history.specs.Queue.{last}
 use Rattle.nats_session.proofs.Ends.{back_is}
 use Rattle.nats_session.proofs.queue.Queue.back.Goals as goal
 
