@@ -1,6 +1,6 @@
 -- The lines of a script, one at a time.
 use Rattle.std.proofs.Common.{◌≡◌, ℕ, suc, ◌+◌, List, [], ◌∷◌, ◌++◌, Option, Some, Result, Ok, Err, refl, sym, ap, ◌∙◌, append_assoc, add-one}
-use Rattle.nats_session.specs.declared.turn.Turn.{Turn}
+use Rattle.nats_history.specs.declared.turn.Turn.{Turn}
 use Rattle.nats_replay.specs.Script.{lines_of, onto_turns, built_turn, turn_of_line, turns_from}
 use Rattle.nats_replay.specs.Cut.{IsFirstLine}
 

@@ -5,15 +5,15 @@ use Rattle.std.specs.List.{flat_map}
 use Rattle.nats_names.specs.declared.event.Event.{Event}
 use Rattle.nats_names.specs.Events.{event_text}
 use Rattle.nats_wire.specs.declared.message.Message.{Message}
-use Rattle.nats_session.specs.declared.call.CallReply.{CallReply}
-use Rattle.nats_session.specs.declared.call.CallReply.TheVariants.{Accepted, Numbered, Full}
-use Rattle.nats_session.specs.declared.call.TakeReply.{TakeReply}
-use Rattle.nats_session.specs.declared.call.TakeReply.TheVariants as took
-use Rattle.nats_session.specs.declared.transcript.LinkWord.{LinkWord}
-use Rattle.nats_session.specs.declared.transcript.LinkWord.TheVariants.{Up, Fault}
-use Rattle.nats_session.specs.declared.transcript.LinkRow.{LinkRow}
-use Rattle.nats_session.specs.declared.transcript.SubRow.{SubRow}
-use Rattle.nats_session.specs.declared.transcript.Transcript.{Transcript}
+use Rattle.nats_history.specs.declared.call.CallReply.{CallReply}
+use Rattle.nats_history.specs.declared.call.CallReply.TheVariants.{Accepted, Numbered, Full}
+use Rattle.nats_history.specs.declared.call.TakeReply.{TakeReply}
+use Rattle.nats_history.specs.declared.call.TakeReply.TheVariants as took
+use Rattle.nats_history.specs.declared.transcript.LinkWord.{LinkWord}
+use Rattle.nats_history.specs.declared.transcript.LinkWord.TheVariants.{Up, Fault}
+use Rattle.nats_history.specs.declared.transcript.LinkRow.{LinkRow}
+use Rattle.nats_history.specs.declared.transcript.SubRow.{SubRow}
+use Rattle.nats_history.specs.declared.transcript.Transcript.{Transcript}
 use Rattle.nats_replay.specs.Spelling.{spelled, spelled_or_absent}
 
 -- the end of each line

@@ -5,10 +5,10 @@ use Rattle.std.specs.List.{slice_split}
 use Rattle.std.specs.Str.{bytes_eq}
 use Rattle.nats_names.specs.Names.{is_valid, is_publishable}
 use Rattle.nats_wire.specs.Info.{default_info}
-use Rattle.nats_session.specs.declared.config.Config.{Config}
-use Rattle.nats_session.specs.declared.call.Call.TheVariants.{Publish, Subscribe}
-use Rattle.nats_session.specs.declared.turn.Turn.{Turn}
-use Rattle.nats_session.specs.declared.turn.Turn.TheVariants.{Up, Piece, Write, Do, Take}
+use Rattle.nats_history.specs.declared.config.Config.{Config}
+use Rattle.nats_history.specs.declared.call.Call.TheVariants.{Publish, Subscribe}
+use Rattle.nats_history.specs.declared.turn.Turn.{Turn}
+use Rattle.nats_history.specs.declared.turn.Turn.TheVariants.{Up, Piece, Write, Do, Take}
 use Rattle.nats_replay.specs.declared.turns.Word.{Word}
 use Rattle.nats_replay.specs.declared.turns.Word.TheVariants as word
 use Rattle.nats_replay.specs.declared.script.Script.{Script}

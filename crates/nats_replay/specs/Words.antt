@@ -1,10 +1,10 @@
 -- The words of the command line, and what each status says of the bytes that were read.
 use Rattle.std.specs.Prelude.{◌≡◌, ℕ, Bool, ◌==◌, ◌∷◌, [], List, Some, None, length, ◌≤◌, codes}
 use Rattle.std.specs.List.{list_any}
-use Rattle.nats_session.specs.declared.config.Config.{Config}
-use Rattle.nats_session.specs.declared.turn.Turn.{Turn}
-use Rattle.nats_session.specs.Schedule.{out_of_turn}
-use Rattle.nats_session.specs.Transcripts.{transcript}
+use Rattle.nats_history.specs.declared.config.Config.{Config}
+use Rattle.nats_history.specs.declared.turn.Turn.{Turn}
+use Rattle.nats_history.specs.Schedule.{out_of_turn}
+use Rattle.nats_history.specs.Transcripts.{transcript}
 use Rattle.nats_replay.specs.declared.script.Script.TheVariants.{Good, Bad}
 use Rattle.nats_replay.specs.Printed.{printed}
 use Rattle.nats_replay.specs.Script.{script}

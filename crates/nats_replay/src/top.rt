@@ -2,10 +2,10 @@
 ghost use Rattle.std.specs.Prelude.{◌≡◌, ◌≢◌, ◌≤◌, ◌<◌, ◌⊎◌, map, length, None, IsTrue, List, IfSome, MatchBool};
 ghost use Rattle.std.specs.String.{string_bytes};
 ghost use Rattle.std.specs.Io.KnownBytes.{Appends};
-ghost use Rattle.nats_session.specs.declared.config.Config.{Config};
-ghost use Rattle.nats_session.specs.declared.turn.Turn.{Turn};
-ghost use Rattle.nats_session.specs.Schedule.{out_of_turn};
-ghost use Rattle.nats_session.specs.Transcripts.{transcript};
+ghost use Rattle.nats_history.specs.declared.config.Config.{Config};
+ghost use Rattle.nats_history.specs.declared.turn.Turn.{Turn};
+ghost use Rattle.nats_history.specs.Schedule.{out_of_turn};
+ghost use Rattle.nats_history.specs.Transcripts.{transcript};
 ghost use Rattle.nats_replay.specs.declared.script.Script.TheVariants.{Good};
 ghost use Rattle.nats_replay.specs.Script.{script};
 ghost use Rattle.nats_replay.specs.Printed.{printed};

@@ -74,19 +74,20 @@ fn submit(
     handler: &mut ConnectionHandler,
     call: Call,
 ) -> Result<CallReply, NoMemory> {
-    let turn = Turn::Do(call.copy()?);
+    let turn = Turn::Do(call.copy(alloc)?);
     assert!(rt; handler.check(&turn));
     handler.submit(alloc, call).map_err(|_| NoMemory)
 }
 
 fn piece(
+    alloc: Global,
     rt: &impl Abort,
     handler: &mut ConnectionHandler,
     bytes: &'static [u8],
 ) -> Result<(), NoMemory> {
     let turn = Turn::Piece(Bytes::from_static(bytes));
     assert!(rt; handler.check(&turn));
-    handler.piece(bytes)
+    handler.piece(alloc, bytes)
 }
 
 fn take(rt: &impl Abort, handler: &mut ConnectionHandler, s: u64) -> TakeReply {
@@ -141,7 +142,7 @@ fn put_and_taken(
     handler: &mut ConnectionHandler,
 ) -> Result<(), NoMemory> {
     subscribe_on(alloc, rt, handler)?;
-    piece(rt, handler, MESSAGE)?;
+    piece(alloc, rt, handler, MESSAGE)?;
     assert!(rt; handler.is_due());
     assert!(rt; matches!(handler.advance(alloc)?, Due::Put(1)));
     assert!(rt; handler.last_put(1).is_some());
@@ -182,7 +183,7 @@ fn answered(
     handler: &mut ConnectionHandler,
 ) -> Result<(), NoMemory> {
     up(alloc, rt, handler)?;
-    piece(rt, handler, b"PING\r\n")?;
+    piece(alloc, rt, handler, b"PING\r\n")?;
     assert!(rt; matches!(handler.advance(alloc)?, Due::Read));
     assert_eq!(rt; handler.pending(), 6);
     Ok(())
