@@ -9,6 +9,8 @@ use Rattle.nats_names.specs.declared.client_error.ClientError.{ClientError}
 use Rattle.nats_names.specs.declared.client_error.ClientError.TheVariants as client
 use Rattle.nats_names.specs.declared.client_error.CallbackError.{CallbackError}
 use Rattle.nats_names.specs.declared.client_error.CallbackError.TheVariants as callback
+use Rattle.nats_names.specs.declared.addr_error.AddrError.{AddrError}
+use Rattle.nats_names.specs.declared.addr_error.AddrError.TheVariants as addr
 use Rattle.nats_names.specs.declared.state.State.{State}
 use Rattle.nats_names.specs.declared.state.State.TheVariants as state
 
@@ -34,6 +36,16 @@ client_error_text client.ServerNotInPool = codes "nats: reconnect callback retur
 abbrev pub callback_error_text : CallbackError → List ℕ
 callback_error_text (callback.Client error) = client_error_text error
 callback_error_text (callback.Server error) = server_error_text error
+
+-- what the refusal of a signer or an authentication callback prints, of its words
+abbrev pub auth_error_text : List ℕ → List ℕ
+auth_error_text words = codes "AuthError(" ++ words ++ codes ")"
+
+-- what the refusal of an address prints
+abbrev pub addr_error_text : AddrError → List ℕ
+addr_error_text addr.Url = codes "NATS server URL is invalid"
+addr_error_text addr.Scheme = codes "invalid scheme for NATS server URL"
+addr_error_text addr.NoMemory = codes "out of memory"
 
 -- what the state of a connection prints
 abbrev pub state_text : State → List ℕ

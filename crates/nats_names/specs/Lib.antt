@@ -1,3 +1,4 @@
+pub mod Causes
 pub mod Errors
 pub mod Events
 pub mod Names

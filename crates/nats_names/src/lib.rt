@@ -1,7 +1,11 @@
 //! Names, events and small values of the NATS client that every crate above stands on.
 #![tactic(auto)]
 
+mod addr_error;
+mod auth_error;
+mod cause;
 mod client_error;
+mod error;
 mod event;
 mod failed;
 mod seq;
@@ -15,8 +19,12 @@ mod tests;
 mod text;
 mod token;
 
+pub use addr_error::AddrError;
+pub use auth_error::AuthError;
 pub use bytes::Bytes;
+pub use cause::{Cause, OpWord};
 pub use client_error::{CallbackError, ClientError};
+pub use error::Error;
 pub use event::Event;
 pub use failed::{Failed, NoMemory};
 pub use seq::Seq;

@@ -1,6 +1,7 @@
 use crate::{
-    Bytes, CallbackError, ClientError, Event, Failed, InvalidStatusCode, NoMemory, Seq,
-    ServerError, State, StatusCode, Subject, SubjectError, Text, ToSubject, Token,
+    AddrError, AuthError, Bytes, CallbackError, Cause, ClientError, Error, Event, Failed,
+    InvalidStatusCode, NoMemory, OpWord, Seq, ServerError, State, StatusCode, Subject,
+    SubjectError, Text, ToSubject, Token,
 };
 use std::alloc::Global;
 use std::fmt::Display;
@@ -166,5 +167,40 @@ fn a_list_keeps_the_order_of_its_items(rt: HostRuntime) -> Result<(), Fail> {
     list.push(rt.alloc(), 2)?;
     let copy = list.clone()?;
     assert!(rt; list.as_slice() == [1, 2].as_slice() && list == copy);
+    Ok(())
+}
+
+fn prints_caused(alloc: Global, source: Cause, text: &str) -> Result<bool, NoMemory> {
+    let error = Error::with_source(SubjectError::InvalidFormat, source);
+    Ok(prints(alloc, &error, text)? && error.kind() == SubjectError::InvalidFormat)
+}
+
+#[test]
+fn an_error_prints_its_kind_and_its_cause(rt: HostRuntime) -> Result<(), Fail> {
+    let alloc = rt.alloc();
+    let plain: Error<SubjectError> = SubjectError::InvalidFormat.into();
+    assert!(rt; prints(alloc, &plain, "invalid subject format")? && plain.source().is_none());
+    let word = Cause::Unexpected(OpWord::Pong);
+    assert!(rt;
+        prints_caused(
+            alloc,
+            word,
+            "invalid subject format: unexpected operation: PONG"
+        )?
+    );
+    let refused = AuthError::new(String::from_str(alloc, "no key")?);
+    assert!(rt; refused.copy(alloc)? == refused);
+    let refused = Cause::Auth(refused);
+    assert!(rt; prints_caused(alloc, refused, "invalid subject format: AuthError(no key)")?);
+    assert!(rt;
+        prints(
+            alloc,
+            &AddrError::Scheme,
+            "invalid scheme for NATS server URL"
+        )?
+    );
+    let (limit, size) = (33, 34);
+    let large = "Payload size limit of 33 exceeded by message size of 34";
+    assert!(rt; prints(alloc, &Cause::Payload { limit, size }, large)?);
     Ok(())
 }

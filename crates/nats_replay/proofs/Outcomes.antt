@@ -9,6 +9,7 @@ use Rattle.nats_replay.specs.declared.top.Refusal.TheVariants.{ReadFault, Unread
 use Rattle.nats_replay.specs.Outside.{Rose, Tally}
 use Rattle.nats_replay.specs.Words.{run_words, IsTranscript, IsUnreadable, IsOutOfTurn}
 use Rattle.nats_replay.specs.Played.{Comes, Whole, Played}
+use Rattle.nats_replay.specs.declared.whole.TheConstants.{SCRIPT_LIMIT}
 
 -- what is so of the bytes that were read is so of those that were held
 held_is : (held : Option (List ℕ)) (bytes : List ℕ) (Is : List ℕ → Type 0) → IfSome held (λ h. h ≡ bytes) → Is bytes → IfSome held Is
@@ -16,11 +17,11 @@ held_is None bytes Is e h = tt
 held_is (Some x) bytes Is e h = subst Is (sym e) h
 
 abbrev pub Parts : Option (List ℕ) → Tally → Tally → List ℕ → Type 0
-Parts held before after bytes = IfSome held (λ h. h ≡ bytes) × (length bytes ≤ 16777216) × Rose before.ends after.ends
+Parts held before after bytes = IfSome held (λ h. h ≡ bytes) × (length bytes ≤ SCRIPT_LIMIT) × Rose before.ends after.ends
 
 whole_is : (held : Option (List ℕ)) (before after : Tally) (bytes : List ℕ) (Is : List ℕ → Type 0) → Parts held before after bytes → Is bytes → Whole held before after Is
 whole_is held before after bytes Is read h =
-    (held_is held bytes Is read.0 h, held_is held bytes (λ b. length b ≤ 16777216) read.0 read.1, read.2)
+    (held_is held bytes Is read.0 h, held_is held bytes (λ b. length b ≤ SCRIPT_LIMIT) read.0 read.1, read.2)
 
 -- what the bytes that were read come to is what the source's bytes come to
 pub played : (held : Option (List ℕ)) (before after : Tally) (bytes : List ℕ) (r : Result (Vec ℕ) Refusal) → Parts held before after bytes → Comes bytes r → Played held before after r

@@ -11,7 +11,7 @@ use Rattle.std.specs.Result.{result_ok}
 use Rattle.std.specs.Str.Parse.{ParsesUnsigned, digits_value}
 use Rattle.std.proofs.lemmas.Str.Parse.{IsDigitsTest, IsNumeralModel, numerals_by_value, parse_digits}
 use Rattle.std.proofs.lemmas.Str.{IsUtf8-from_ascii, is_utf8-from_IsUtf8, IsUtf8-from_is_utf8}
-use Rattle.nats_replay.specs.Spelling.{letter, spelled, utf8_text, has_leading_zero, is_numeral, number_of}
+use Rattle.nats_replay.specs.Spelling.{letter, spelled, utf8_text, has_leading_zero, is_numeral, field_number}
 
 -- what is spelled letter by letter
 pub spelled_letters : (bytes : List ℕ) → eqb (length bytes) 0 ≡ false → spelled bytes ≡ flat_map letter bytes
@@ -69,7 +69,7 @@ pub numeral_is_utf8 : (field : List ℕ) → is_numeral field ≡ true → IsUtf
 numeral_is_utf8 field e = IsUtf8-from_ascii field (IsAscii-from_digits field (own.to field (digits_are field e)))
 
 -- what `parse` reads of a numeral is its number
-pub number_gives : {E : Type 0} (field : List ℕ) (r : Result ℕ E) → is_numeral field ≡ true → ParsesUnsigned 64 10 field r → result_ok r ≡ number_of field
+pub number_gives : {E : Type 0} (field : List ℕ) (r : Result ℕ E) → is_numeral field ≡ true → ParsesUnsigned 64 10 field r → result_ok r ≡ field_number field
 number_gives {E} field (Ok n) numeral h =
     let g = parse_digits own {E = E} 64 field (Ok n) h (digits_are field numeral) in
     rw (numeral, lt-ltb _ _ g.0.1) (ap (λ (x : ℕ). Some x) g.1)

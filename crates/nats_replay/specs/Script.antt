@@ -9,11 +9,12 @@ use Rattle.nats_history.specs.declared.config.Config.{Config}
 use Rattle.nats_history.specs.declared.call.Call.TheVariants.{Publish, Subscribe}
 use Rattle.nats_history.specs.declared.turn.Turn.{Turn}
 use Rattle.nats_history.specs.declared.turn.Turn.TheVariants.{Up, Piece, Write, Do, Take}
-use Rattle.nats_replay.specs.declared.turns.Word.{Word}
-use Rattle.nats_replay.specs.declared.turns.Word.TheVariants as word
+use Rattle.nats_replay.specs.declared.read.TheConstants.{MAX_PAYLOAD}
+use Rattle.nats_replay.specs.declared.turn_lines.Word.{Word}
+use Rattle.nats_replay.specs.declared.turn_lines.Word.TheVariants as word
 use Rattle.nats_replay.specs.declared.script.Script.{Script}
 use Rattle.nats_replay.specs.declared.script.Script.TheVariants.{Good, Bad}
-use Rattle.nats_replay.specs.Spelling.{bytes_of, text_of, token_of, number_of}
+use Rattle.nats_replay.specs.Spelling.{field_bytes, field_text, field_token, field_number}
 
 -- ---- lines and fields
 
@@ -52,7 +53,7 @@ config_with clients messages prefix id = None
 -- `config C S check P X`: client capacity, subscription capacity, inbox prefix, mux id
 abbrev pub config_of_fields : List (List ℕ) → Option Config
 config_of_fields (first ∷ clients ∷ messages ∷ mode ∷ prefix ∷ id ∷ []) =
-    if bytes_eq first (codes "config") && bytes_eq mode (codes "check") then config_with (number_of clients) (number_of messages) (text_of prefix) (token_of id) else None
+    if bytes_eq first (codes "config") && bytes_eq mode (codes "check") then config_with (field_number clients) (field_number messages) (field_text prefix) (field_token id) else None
 config_of_fields fields = None
 
 abbrev pub config_of_line : List ℕ → Option Config
@@ -80,7 +81,7 @@ sub_turn subject = Do (Subscribe subject None)
 
 -- `sub S ~`
 abbrev pub sub_of : List (List ℕ) → Option Turn
-sub_of (subject ∷ group ∷ []) = if bytes_eq group (codes "~") then option_map sub_turn (text_of subject) else None
+sub_of (subject ∷ group ∷ []) = if bytes_eq group (codes "~") then option_map sub_turn (field_text subject) else None
 sub_of fields = None
 
 -- a publish that asks for no answer
@@ -93,17 +94,17 @@ pub_with subject payload = None
 
 -- `pub S ~ B`
 abbrev pub pub_of : List (List ℕ) → Option Turn
-pub_of (subject ∷ reply ∷ payload ∷ []) = if bytes_eq reply (codes "~") then pub_with (text_of subject) (bytes_of payload) else None
+pub_of (subject ∷ reply ∷ payload ∷ []) = if bytes_eq reply (codes "~") then pub_with (field_text subject) (field_bytes payload) else None
 pub_of fields = None
 
 -- a turn by its word and its further fields: `up N`, `piece B`, `write N`, `sub S ~`, `pub S ~ B`, `take s`
 abbrev pub turn_of : Word → List (List ℕ) → Option Turn
-turn_of word.Up fields = option_map up_turn (option_and_then number_of (only fields))
-turn_of word.Piece fields = option_map Piece (option_and_then bytes_of (only fields))
-turn_of word.Write fields = option_map Write (option_and_then number_of (only fields))
+turn_of word.Up fields = option_map up_turn (option_and_then field_number (only fields))
+turn_of word.Piece fields = option_map Piece (option_and_then field_bytes (only fields))
+turn_of word.Write fields = option_map Write (option_and_then field_number (only fields))
 turn_of word.Sub fields = sub_of fields
 turn_of word.Pub fields = pub_of fields
-turn_of word.Take fields = option_map Take (option_and_then number_of (only fields))
+turn_of word.Take fields = option_map Take (option_and_then field_number (only fields))
 turn_of word.Other fields = None
 
 abbrev pub turn_of_fields : List (List ℕ) → Option Turn
@@ -118,11 +119,11 @@ turn_of_line line = turn_of_fields (fields_of line)
 -- whether a turn can be played so far: a link of one greatest size alone, a subscribe of a valid subject alone, and a
 -- publish to a publishable subject alone, of no more bytes than that size
 abbrev pub is_built : Turn → Bool
-is_built (Up info) = info.max_payload == 1048576
+is_built (Up info) = info.max_payload == MAX_PAYLOAD
 is_built (Piece bytes) = true
 is_built (Write n) = true
 is_built (Do (Subscribe subject group)) = is_valid subject
-is_built (Do (Publish m)) = is_publishable m.subject && nat_le (length m.payload) 1048576
+is_built (Do (Publish m)) = is_publishable m.subject && nat_le (length m.payload) MAX_PAYLOAD
 is_built (Take s) = true
 
 -- the turn, where it can be played so far

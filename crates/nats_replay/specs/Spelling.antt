@@ -63,24 +63,24 @@ letters (a ∷ b ∷ c ∷ more) =
     if a == 37 then onto_escaped (escaped b c) (letters more) else onto_plain a (letters (b ∷ c ∷ more))
 
 -- the bytes that a field spells, in the one way that they are spelled
-abbrev pub bytes_of : List ℕ → Option (List ℕ)
-bytes_of [] = None
-bytes_of (a ∷ []) = if a == 37 then Some [] else letters (a ∷ [])
-bytes_of (a ∷ b ∷ more) = letters (a ∷ b ∷ more)
+abbrev pub field_bytes : List ℕ → Option (List ℕ)
+field_bytes [] = None
+field_bytes (a ∷ []) = if a == 37 then Some [] else letters (a ∷ [])
+field_bytes (a ∷ b ∷ more) = letters (a ∷ b ∷ more)
 
 abbrev pub utf8_text : List ℕ → Option (List ℕ)
 utf8_text bytes = if is_utf8 bytes then Some bytes else None
 
 -- the text that a field spells
-abbrev pub text_of : List ℕ → Option (List ℕ)
-text_of field = option_and_then utf8_text (bytes_of field)
+abbrev pub field_text : List ℕ → Option (List ℕ)
+field_text field = option_and_then utf8_text (field_bytes field)
 
 abbrev pub token_text : List ℕ → Option (List ℕ)
 token_text text = if is_token text then Some text else None
 
 -- the token that a field spells
-abbrev pub token_of : List ℕ → Option (List ℕ)
-token_of field = option_and_then token_text (text_of field)
+abbrev pub field_token : List ℕ → Option (List ℕ)
+field_token field = option_and_then token_text (field_text field)
 
 -- ---- numbers
 
@@ -95,6 +95,6 @@ abbrev pub is_numeral : List ℕ → Bool
 is_numeral field = not (length field == 0) && not (has_leading_zero field) && list_all is_ascii_digit field
 
 -- the number of a field, below 2^64
-abbrev pub number_of : List ℕ → Option ℕ
-number_of field =
+abbrev pub field_number : List ℕ → Option ℕ
+field_number field =
     if is_numeral field && nat_lt (digits_value 10 field) (2 ^ 64) then Some (digits_value 10 field) else None

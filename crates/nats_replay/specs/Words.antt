@@ -8,6 +8,7 @@ use Rattle.nats_history.specs.Transcripts.{transcript}
 use Rattle.nats_replay.specs.declared.script.Script.TheVariants.{Good, Bad}
 use Rattle.nats_replay.specs.Printed.{printed}
 use Rattle.nats_replay.specs.Script.{script}
+use Rattle.nats_replay.specs.declared.whole.TheConstants.{SCRIPT_LIMIT}
 
 -- the words that play a script: the one word `run`
 abbrev pub run_words : List (List ℕ)
@@ -37,5 +38,5 @@ IsOutOfTurn bytes = (config : Config) × (turns : List Turn) × (place : ℕ)
 
 -- bytes are no more than a script may have, and spell settings and turns that may come where they stand
 abbrev pub IsPlayable : List ℕ → Type 0
-IsPlayable bytes = (length bytes ≤ 16777216) × (config : Config) × (turns : List Turn)
+IsPlayable bytes = (length bytes ≤ SCRIPT_LIMIT) × (config : Config) × (turns : List Turn)
     × (script bytes ≡ Good config turns) × (out_of_turn config turns ≡ None)

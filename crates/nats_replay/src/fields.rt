@@ -3,7 +3,7 @@ ghost use Rattle.std.specs.Prelude.{◌≡◌, ◌<◌, length, IfOk, MatchOptio
 ghost use Rattle.std.specs.Option.{option_map};
 ghost use Rattle.std.specs.List.{list_all};
 ghost use Rattle.std.specs.Char.{is_ascii_digit};
-ghost use Rattle.nats_replay.specs.Spelling.{hex_value, escaped, letters, bytes_of, utf8_text, text_of, token_of, has_leading_zero, is_numeral, number_of};
+ghost use Rattle.nats_replay.specs.Spelling.{hex_value, escaped, letters, field_bytes, utf8_text, field_text, field_token, has_leading_zero, is_numeral, field_number};
 ghost use Rattle.nats_replay.specs.Cut.{IsLetter};
 
 use crate::spelling::is_plain;
@@ -56,8 +56,8 @@ fn letters(alloc: Global, field: &[u8]) -> Result<Option<Vec<u8>>, NoMemory>
 }
 
 /// The bytes that a field spells; `None` where it spells none.
-pub fn bytes_of(alloc: Global, field: &[u8]) -> Result<Option<Vec<u8>>, NoMemory>
-    ensures { IfOk result (λ b. option_map (λ v. v.items) b ≡ bytes_of field.now) }
+pub fn field_bytes(alloc: Global, field: &[u8]) -> Result<Option<Vec<u8>>, NoMemory>
+    ensures { IfOk result (λ b. option_map (λ v. v.items) b ≡ field_bytes field.now) }
 {
     match field {
         [] => Ok(None),
@@ -76,20 +76,20 @@ fn utf8_text(alloc: Global, bytes: &[u8]) -> Result<Option<Subject>, NoMemory>
 }
 
 /// The text that a field spells, as a subject; `None` where it spells no UTF-8 text.
-pub fn text_of(alloc: Global, field: &[u8]) -> Result<Option<Subject>, NoMemory>
-    ensures { IfOk result (λ s. s ≡ text_of field.now) }
+pub fn field_text(alloc: Global, field: &[u8]) -> Result<Option<Subject>, NoMemory>
+    ensures { IfOk result (λ s. s ≡ field_text field.now) }
 {
-    match bytes_of(alloc, field)? {
+    match field_bytes(alloc, field)? {
         Some(bytes) => utf8_text(alloc, bytes.as_slice()),
         None => Ok(None),
     }
 }
 
 /// The token that a field spells; `None` where it spells none.
-pub fn token_of(alloc: Global, field: &[u8]) -> Result<Option<Token>, NoMemory>
-    ensures { IfOk result (λ t. t ≡ token_of field.now) }
+pub fn field_token(alloc: Global, field: &[u8]) -> Result<Option<Token>, NoMemory>
+    ensures { IfOk result (λ t. t ≡ field_token field.now) }
 {
-    let Some(text) = text_of(alloc, field)? else {
+    let Some(text) = field_text(alloc, field)? else {
         return Ok(None);
     };
     Ok(Token::new(text.as_str()))
@@ -114,8 +114,8 @@ fn is_numeral(field: &[u8]) -> bool
 }
 
 /// The number that a field spells: decimal without a leading zero, below 2^64.
-pub fn number_of(field: &[u8]) -> Option<u64>
-    ensures { result ≡ number_of field.now }
+pub fn field_number(field: &[u8]) -> Option<u64>
+    ensures { result ≡ field_number field.now }
 {
     if !is_numeral(field) {
         return None;

@@ -10,16 +10,18 @@ mod read;
 mod script;
 mod spelling;
 mod top;
-mod turns;
+mod turn_lines;
 mod whole;
 
 pub use memory::{Failing, MemorySink, MemorySource};
 pub use nats_names::{Failed, NoMemory};
+pub use nats_session::{Config, RunError, Seq, Transcript, Turn};
 pub use outside::{Reading, Sink, Source, Writing};
 pub use print::print_transcript;
 pub use read::read_script;
 pub use script::Script;
-pub use top::{NO_MEMORY, replay};
+pub use top::{NO_MEMORY, WRITE_FAULT, replay};
+pub use whole::SCRIPT_LIMIT;
 
 #[cfg(test)]
 mod tests;

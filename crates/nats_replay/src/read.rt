@@ -4,21 +4,24 @@ ghost use Rattle.nats_replay.specs.Script.{lines_of, is_built, built_turn, turn_
 
 use crate::cut::first_line;
 use crate::script::Script;
-use crate::turns::{config_of_line, turn_of_line};
+use crate::turn_lines::{config_of_line, turn_of_line};
 use nats_names::{NoMemory, Seq};
 use nats_session::{Call, Config, Turn};
 use std::alloc::Global;
 
 // ---- what is built so far
 
+/// The greatest size of a message, in bytes, that a script's server takes so far. The server's default.
+const MAX_PAYLOAD: u64 = 1_048_576;
+
 fn is_built(turn: &Turn) -> bool
     ensures { result ≡ is_built turn.now }
 {
     match turn {
-        Turn::Up(info) => info.max_payload == 1_048_576,
+        Turn::Up(info) => info.max_payload == MAX_PAYLOAD,
         Turn::Do(Call::Subscribe { subject, .. }) => subject.is_valid(),
         Turn::Do(Call::Publish(message)) => {
-            message.subject.is_publishable() && message.payload.len() <= 1_048_576
+            message.subject.is_publishable() && message.payload.len() as u64 <= MAX_PAYLOAD
         }
         Turn::Piece(_) | Turn::Write(_) | Turn::Take(_) => true,
     }

@@ -1,5 +1,5 @@
 //! The top call: what the program does.
-ghost use Rattle.std.specs.Prelude.{◌≡◌, ◌≢◌, ◌≤◌, ◌<◌, ◌⊎◌, map, length, None, IsTrue, List, IfSome, MatchBool};
+ghost use Rattle.std.specs.Prelude.{◌≡◌, ◌≢◌, ◌≤◌, ◌<◌, ◌⊎◌, suc, map, length, None, IsTrue, List, IfSome, MatchBool};
 ghost use Rattle.std.specs.String.{string_bytes};
 ghost use Rattle.std.specs.Io.KnownBytes.{Appends};
 ghost use Rattle.nats_history.specs.declared.config.Config.{Config};
@@ -17,7 +17,7 @@ use crate::outside::{Sink, Source};
 use crate::print::print_transcript;
 use crate::read::read_script;
 use crate::script::Script;
-use crate::whole::{ReadRefusal, read_all, write_all};
+use crate::whole::{ReadRefusal, SCRIPT_LIMIT, read_all, write_all};
 use nats_session::{Config, RunError, Seq, Turn, run};
 use std::alloc::Global;
 
@@ -46,7 +46,7 @@ const UNKNOWN: u8 = 2;
 /// The source failed.
 const READ_FAULT: u8 = 3;
 /// The sink failed.
-const WRITE_FAULT: u8 = 4;
+pub const WRITE_FAULT: u8 = 4;
 /// A line of the script cannot be read.
 const UNREADABLE: u8 = 5;
 /// A turn of the script may not come where it stands.
@@ -151,13 +151,13 @@ pub fn replay<S: Source, K: Sink>(
     // 6: every line can be read, and a turn may not come where it stands.
     ensures out_of_turn { result ≡ 6 → IfSome (S.left source.old) IsOutOfTurn }
     // 8: the source held more than a script may have, and gave more.
-    ensures too_long { result ≡ 8 → IfSome (S.left source.old) (λ bytes. 16777216 < length bytes) }
-    ensures too_much { result ≡ 8 → RoseBy 16777217 (S.given source.old) (S.given source.new) }
+    ensures too_long { result ≡ 8 → IfSome (S.left source.old) (λ bytes. SCRIPT_LIMIT < length bytes) }
+    ensures too_much { result ≡ 8 → RoseBy (suc SCRIPT_LIMIT) (S.given source.old) (S.given source.new) }
     // The others to `run`, but 3 and 7: the source was read to its end, and held no more than a script may have.
     ensures ended { map string_bytes words.now ≡ run_words → result ≢ 3 → result ≢ 7 → result ≢ 8 →
         Rose (S.ends source.old) (S.ends source.new) }
     ensures within { map string_bytes words.now ≡ run_words → result ≢ 3 → result ≢ 7 → result ≢ 8 →
-        IfSome (S.left source.old) (λ bytes. length bytes ≤ 16777216) }
+        IfSome (S.left source.old) (λ bytes. length bytes ≤ SCRIPT_LIMIT) }
     // Completeness: a script that can be played is played, but for a fault or want of memory.
     ensures complete { map string_bytes words.now ≡ run_words → IfSome (S.left source.old) (λ bytes. IsPlayable bytes →
         Still (S.faults source.old) (S.faults source.new) → Still (K.faults sink.old) (K.faults sink.new) →

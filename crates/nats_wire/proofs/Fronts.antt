@@ -4,7 +4,9 @@ use Rattle.std.specs.Prelude.{◌==◌, ◌&&◌, nat_lt, if◌then◌else◌}
 use Rattle.std.specs.Option.{option_map}
 use Rattle.std.proofs.lemmas.List.{take-append-le, drop-append-le}
 use Rattle.std.proofs.lemmas.Bool.{ltb-false, le-ltb}
-use Rattle.nats_wire.specs.Operations.{Operation, message, ok_op, ping_op, pong_op, Front, unfinished, got, fault, Cut, onto_line, cut_line, Word, ok, ping, pong, error, info, message_word, header_message, other, word_of, Head, message_of, message_or_fault, head_of, front_of_word, front_of_cut, front, past, behind}
+use Rattle.nats_wire.specs.Operations.{Operation, message, ok_op, ping_op, pong_op, Front, unfinished, got, fault, Cut, onto_line, cut_line, word_of, Head, message_of, message_or_fault, head_of, front_of_word, front_of_cut, front, past, behind}
+use Rattle.nats_wire.specs.declared.decode.Word.{Word}
+use Rattle.nats_wire.specs.declared.decode.Word.TheVariants as word
 use Rattle.nats_wire.specs.Laws.{IsGot, AllThere}
 
 -- a cut of a longer text
@@ -81,14 +83,14 @@ line_takes first op line n is = let e : length line + 2 ≡ n = cc in omega arit
 word_stays : (word : Word) (line rest more : List ℕ) (op : Operation) (n : ℕ)
     → front_of_word word line rest ≡ got op n
     → (front_of_word word line (rest ++ more) ≡ got op n) × (n ≤ length line + 2 + length rest) × (0 < n)
-word_stays message_word line rest more op n is = message_stays (length line) rest more (head_of (drop 4 line)) op n is
-word_stays ok line rest more op n is = (is, line_fits ok_op op line rest n is, line_takes ok_op op line n is)
-word_stays ping line rest more op n is = (is, line_fits ping_op op line rest n is, line_takes ping_op op line n is)
-word_stays pong line rest more op n is = (is, line_fits pong_op op line rest n is, line_takes pong_op op line n is)
-word_stays error line rest more op n is = cc
-word_stays info line rest more op n is = cc
-word_stays header_message line rest more op n is = cc
-word_stays other line rest more op n is = cc
+word_stays word.Message line rest more op n is = message_stays (length line) rest more (head_of (drop 4 line)) op n is
+word_stays word.Ok line rest more op n is = (is, line_fits ok_op op line rest n is, line_takes ok_op op line n is)
+word_stays word.Ping line rest more op n is = (is, line_fits ping_op op line rest n is, line_takes ping_op op line n is)
+word_stays word.Pong line rest more op n is = (is, line_fits pong_op op line rest n is, line_takes pong_op op line n is)
+word_stays word.Error line rest more op n is = cc
+word_stays word.Info line rest more op n is = cc
+word_stays word.HeaderMessage line rest more op n is = cc
+word_stays word.Other line rest more op n is = cc
 
 got_stays : (bytes more : List ℕ) (found : Option Cut) (op : Operation) (n : ℕ)
     → cut_line bytes ≡ found → front_of_cut found ≡ got op n
@@ -132,14 +134,14 @@ message_fault_stays end rest more (Some head) n is =
 word_fault_stays : (word : Word) (line rest more : List ℕ) (n : ℕ)
     → front_of_word word line rest ≡ fault n
     → (front_of_word word line (rest ++ more) ≡ fault n) × (n ≤ length line + 2)
-word_fault_stays message_word line rest more n is = message_fault_stays (length line) rest more (head_of (drop 4 line)) n is
-word_fault_stays ok line rest more n is = cc
-word_fault_stays ping line rest more n is = cc
-word_fault_stays pong line rest more n is = cc
-word_fault_stays error line rest more n is = (is, (let e : 0 ≡ n = cc in omega arith))
-word_fault_stays info line rest more n is = (is, (let e : 0 ≡ n = cc in omega arith))
-word_fault_stays header_message line rest more n is = (is, (let e : 0 ≡ n = cc in omega arith))
-word_fault_stays other line rest more n is = (is, (let e : length line + 2 ≡ n = cc in omega arith))
+word_fault_stays word.Message line rest more n is = message_fault_stays (length line) rest more (head_of (drop 4 line)) n is
+word_fault_stays word.Ok line rest more n is = cc
+word_fault_stays word.Ping line rest more n is = cc
+word_fault_stays word.Pong line rest more n is = cc
+word_fault_stays word.Error line rest more n is = (is, (let e : 0 ≡ n = cc in omega arith))
+word_fault_stays word.Info line rest more n is = (is, (let e : 0 ≡ n = cc in omega arith))
+word_fault_stays word.HeaderMessage line rest more n is = (is, (let e : 0 ≡ n = cc in omega arith))
+word_fault_stays word.Other line rest more n is = (is, (let e : length line + 2 ≡ n = cc in omega arith))
 
 fault_stays : (bytes more : List ℕ) (found : Option Cut) (n : ℕ)
     → cut_line bytes ≡ found → front_of_cut found ≡ fault n

@@ -5,7 +5,7 @@ use Rattle.std.specs.List.{filter, slice_split, onto_first, position_or_len, bef
 use Rattle.std.proofs.lemmas.List.Splits.{slice_split_first}
 use Rattle.std.specs.Str.{is_utf8, IsUtf8}
 use Rattle.std.proofs.lemmas.Str.{IsUtf8-from_is_utf8, is_utf8-from_IsUtf8}
-use Rattle.nats_wire.specs.Operations.{Head, number_of, pieces_of, head_with, head_of_pieces, head_of, bytes_of}
+use Rattle.nats_wire.specs.Operations.{Head, number_of, pieces_of, head_with, head_of_pieces, head_of, length_or_0}
 
 kept_step : (test : Bool) (piece : List ℕ) (more : List (List ℕ)) → test ≡ false → piece ∷ more ≡ (if not test then piece ∷ more else more)
 kept_step true piece more is = cc
@@ -64,15 +64,15 @@ total_filter p [] = omega arith
 total_filter p (text ∷ texts) = filter_step (p text) text (filter p texts) texts (total_filter p texts)
 
 with_short : (subject : List ℕ) (reply : Option (List ℕ)) (sid count : Option ℕ) (head : Head)
-    → head_with subject reply sid count ≡ Some head → length head.subject + bytes_of head.reply ≡ length subject + bytes_of reply
+    → head_with subject reply sid count ≡ Some head → length head.subject + length_or_0 head.reply ≡ length subject + length_or_0 reply
 with_short subject reply None count head is = cc
 with_short subject reply (Some sid) None head is = cc
 with_short subject reply (Some sid) (Some count) head is =
     let e : record { subject = subject; sid = sid; reply = reply; count = count } ≡ head = cc in
-    sym (ap (λ (h : Head). length h.subject + bytes_of h.reply) e)
+    sym (ap (λ (h : Head). length h.subject + length_or_0 h.reply) e)
 
 pieces_short : (pieces : List (List ℕ)) (head : Head) → head_of_pieces pieces ≡ Some head
-    → length head.subject + bytes_of head.reply ≤ total pieces
+    → length head.subject + length_or_0 head.reply ≤ total pieces
 pieces_short [] head is = cc
 pieces_short (a ∷ []) head is = cc
 pieces_short (a ∷ b ∷ []) head is = cc
@@ -82,13 +82,13 @@ pieces_short (a ∷ b ∷ c ∷ d ∷ e ∷ more) head is = cc
 
 head_short_by : (test : Bool) (text : List ℕ) (head : Head)
     → (if test then head_of_pieces (pieces_of text) else None) ≡ Some head
-    → length head.subject + bytes_of head.reply ≤ length text
+    → length head.subject + length_or_0 head.reply ≤ length text
 head_short_by true text head is =
     omega (arith, pieces_short (pieces_of text) head is, total_filter (λ piece. not (length piece == 0)) (slice_split (λ b. b == 32) text), total_split (λ b. b == 32) text)
 head_short_by false text head is = cc
 
 -- the subject and the reply of a message are no longer than its line
-pub head_short : (text : List ℕ) (head : Head) → head_of text ≡ Some head → length head.subject + bytes_of head.reply ≤ length text
+pub head_short : (text : List ℕ) (head : Head) → head_of text ≡ Some head → length head.subject + length_or_0 head.reply ≤ length text
 head_short text head is = head_short_by (is_utf8 text) text head is
 
 utf8_step : (test : Bool) (text : List ℕ) → test ≡ true → (if test then head_of_pieces (pieces_of text) else None) ≡ head_of_pieces (pieces_of text)

@@ -7,8 +7,6 @@ use Rattle.nats_wire.specs.declared.decode.Front.TheVariants as front
 use Rattle.nats_wire.specs.declared.decode.OpText.{OpText}
 use Rattle.nats_wire.specs.declared.decode.OpText.TheVariants as op
 use Rattle.nats_wire.specs.declared.decode.MessageText.{MessageText}
-use Rattle.nats_wire.specs.declared.decode.Word.{Word}
-use Rattle.nats_wire.specs.declared.decode.Word.TheVariants as word
 use Rattle.nats_wire.specs.declared.decode.Line.{Line}
 use Rattle.nats_wire.specs.declared.decode.Piece.{Piece}
 use Rattle.nats_wire.specs.declared.decode.Head.{Head}
@@ -33,16 +31,6 @@ abbrev pub front_view : Front → grammar.Front
 front_view front.Unfinished = unfinished
 front_view (front.Got text n) = got (op_text_view text) n
 front_view (front.Fault n) = fault n
-
-abbrev pub word_view : Word → grammar.Word
-word_view word.Ok = grammar.ok
-word_view word.Ping = grammar.ping
-word_view word.Pong = grammar.pong
-word_view word.Error = grammar.error
-word_view word.Info = grammar.info
-word_view word.Message = grammar.message_word
-word_view word.HeaderMessage = grammar.header_message
-word_view word.Other = grammar.other
 
 abbrev pub line_view : Line → Cut
 line_view line = record { line = line.text.now; rest = line.rest.now }

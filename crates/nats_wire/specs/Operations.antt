@@ -7,6 +7,8 @@ use Rattle.std.specs.Str.Parse.{digits_value, without_leading_plus}
 use Rattle.nats_wire.specs.declared.message.Message.{Message}
 use Rattle.nats_wire.specs.declared.op.ServerOp.{ServerOp}
 use Rattle.nats_wire.specs.declared.op.ServerOp.TheVariants as server
+use Rattle.nats_wire.specs.declared.decode.Word.{Word}
+use Rattle.nats_wire.specs.declared.decode.Word.TheVariants as word
 
 -- an operation by its content
 pub data Operation : Type 0 where
@@ -47,18 +49,15 @@ cut_line (a ∷ b ∷ more) =
     if a == 13 && b == 10 then Some (record { line = []; rest = more }) else option_map (onto_line a) (cut_line (b ∷ more))
 
 -- what a line begins with, tested in this order
-pub data Word : Type 0 where
-  ok ping pong error info message_word header_message other : Word
-
 abbrev pub word_of : List ℕ → Word
 word_of line =
-    if starts_with nat_eq line (codes "+OK") then ok else
-    (if starts_with nat_eq line (codes "PING") then ping else
-    (if starts_with nat_eq line (codes "PONG") then pong else
-    (if starts_with nat_eq line (codes "-ERR") then error else
-    (if starts_with nat_eq line (codes "INFO ") then info else
-    (if starts_with nat_eq line (codes "MSG ") then message_word else
-    (if starts_with nat_eq line (codes "HMSG ") then header_message else other))))))
+    if starts_with nat_eq line (codes "+OK") then word.Ok else
+    (if starts_with nat_eq line (codes "PING") then word.Ping else
+    (if starts_with nat_eq line (codes "PONG") then word.Pong else
+    (if starts_with nat_eq line (codes "-ERR") then word.Error else
+    (if starts_with nat_eq line (codes "INFO ") then word.Info else
+    (if starts_with nat_eq line (codes "MSG ") then word.Message else
+    (if starts_with nat_eq line (codes "HMSG ") then word.HeaderMessage else word.Other))))))
 
 -- a number: a plus or none, then one or more digits, below 2^64
 abbrev pub number_of : List ℕ → Option ℕ
@@ -92,9 +91,10 @@ head_of_pieces pieces = None
 abbrev pub head_of : List ℕ → Option Head
 head_of text = if is_utf8 text then head_of_pieces (pieces_of text) else None
 
-abbrev pub bytes_of : Option (List ℕ) → ℕ
-bytes_of None = 0
-bytes_of (Some text) = length text
+-- the length of a text that may be absent
+abbrev pub length_or_0 : Option (List ℕ) → ℕ
+length_or_0 None = 0
+length_or_0 (Some text) = length text
 
 -- the message of a line and the payload after it; its length counts payload, reply and subject
 abbrev pub message_of : Head → List ℕ → Message
@@ -102,7 +102,7 @@ message_of head payload = record {
   subject = head.subject;
   reply = head.reply;
   payload = payload;
-  length = head.count + bytes_of head.reply + length head.subject;
+  length = head.count + length_or_0 head.reply + length head.subject;
 }
 
 -- a message whose line takes `end` bytes: the line, CR LF, the payload, and two bytes that aren't tested
@@ -114,14 +114,14 @@ message_or_fault end rest (Some head) =
 
 -- a line by its word: `+OK`, `PING` and `PONG` take the line and its CR LF, whatever follows the word in the line
 abbrev pub front_of_word : Word → List ℕ → List ℕ → Front
-front_of_word message_word line rest = message_or_fault (length line) rest (head_of (drop 4 line))
-front_of_word other line rest = fault (length line + 2)
-front_of_word ok line rest = got ok_op (length line + 2)
-front_of_word ping line rest = got ping_op (length line + 2)
-front_of_word pong line rest = got pong_op (length line + 2)
-front_of_word error line rest = fault 0
-front_of_word info line rest = fault 0
-front_of_word header_message line rest = fault 0
+front_of_word word.Message line rest = message_or_fault (length line) rest (head_of (drop 4 line))
+front_of_word word.Other line rest = fault (length line + 2)
+front_of_word word.Ok line rest = got ok_op (length line + 2)
+front_of_word word.Ping line rest = got ping_op (length line + 2)
+front_of_word word.Pong line rest = got pong_op (length line + 2)
+front_of_word word.Error line rest = fault 0
+front_of_word word.Info line rest = fault 0
+front_of_word word.HeaderMessage line rest = fault 0
 
 abbrev pub front_of_cut : Option Cut → Front
 front_of_cut None = unfinished

@@ -1,5 +1,5 @@
 //! A connection to a server: bytes in, operations out; commands in, bytes out. It reads and writes nothing itself.
-ghost use Rattle.std.specs.Prelude.{◌≡◌, ◌≤◌, ◌++◌, [], length, drop, OnOk, OnErr, IfOk, IfSome, nat_le};
+ghost use Rattle.std.specs.Prelude.{◌≡◌, ◌<◌, ◌≤◌, ◌++◌, [], length, drop, OnOk, OnErr, IfOk, IfSome, nat_le};
 ghost use Rattle.nats_wire.specs.Wire.{fresh};
 ghost use Rattle.nats_wire.specs.Operations.{front, is_unfinished};
 ghost use Rattle.nats_wire.specs.Commands.{command_text, one_piece};
@@ -64,7 +64,8 @@ impl Connection {
     ///
     /// # Errors
     ///
-    /// `ReadFault` where the bytes at the front are no operation that is known, and `NoMemory`.
+    /// `ReadFault` exactly where the bytes at the front are no operation that is known. `NoMemory` only where an operation
+    /// stands there: a fault and an unfinished rest are told without taking memory.
     pub fn peek_op(&self, alloc: Global) -> Result<Option<Peeked>, WireError>
         ensures looks { Looks (front self.now.unread) result }
         ensures fits { IfOk result (λ peeked. IfSome peeked (λ p. p.len ≤ length self.now.unread)) }
@@ -107,8 +108,8 @@ impl Connection {
     ///
     /// # Errors
     ///
-    /// `ReadFault` where the bytes at the front are no operation that is known: a line that begins with no word of the
-    /// protocol is taken away, and else nothing is. `NoMemory`, and nothing is taken.
+    /// `ReadFault` exactly where the bytes at the front are no operation that is known: a line that begins with no word of
+    /// the protocol is taken away, and else nothing is. `NoMemory` only where an operation stands there, and nothing is taken.
     pub fn try_read_op(&mut self, alloc: Global) -> Result<Option<ServerOp>, WireError>
         ensures { Reads (front self.old.unread) self.old result self.new }
     {
@@ -165,9 +166,10 @@ impl Connection {
     }
 
     /// The waiting bytes as pieces to be written in order: one, or none where nothing waits. They stay until `written`
-    /// takes them. Own call.
+    /// takes them. Memory is taken only where something waits. Own call.
     pub fn pending_pieces(&mut self, alloc: Global) -> Result<Vec<Bytes>, NoMemory>
         ensures pieces { IfOk result (λ pieces. pieces.items ≡ one_piece self.old.waiting) }
+        ensures memory { OnErr result (0 < length self.old.waiting) }
         ensures stays { self.new ≡ self.old }
     {
         let mut pieces = Vec::new(alloc);

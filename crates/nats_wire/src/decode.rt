@@ -1,8 +1,8 @@
 //! Reads what stands at the front of a text: the grammar of server operations, in code. It takes no memory.
 ghost use Rattle.std.specs.Prelude.{◌≡◌, ◌+◌, ◌^◌, ◌<◌, ◌≤◌, length, take, drop, Some, None, IfSome, codes, option_map, nat_lt, if◌then◌else◌};
 ghost use Rattle.std.specs.List.{starts_with};
-ghost use Rattle.nats_wire.specs.Operations.{message_word, cut_line, word_of, number_of, pieces_of, head_with, head_of_pieces, head_of, bytes_of, message_of, message_or_fault, front_of_word, front};
-ghost use Rattle.nats_wire.specs.Decoder.{front_view, message_view, word_view, line_view, head_view, pieces_from};
+ghost use Rattle.nats_wire.specs.Operations.{cut_line, word_of, number_of, pieces_of, head_with, head_of_pieces, head_of, length_or_0, message_of, message_or_fault, front_of_word, front};
+ghost use Rattle.nats_wire.specs.Decoder.{front_view, message_view, line_view, head_view, pieces_from};
 
 use memchr::memmem;
 use std::str;
@@ -87,8 +87,8 @@ fn cut(bytes: &[u8]) -> Option<Line<'_>>
 }
 
 fn first_word(line: &[u8]) -> Word
-    ensures word { word_view result ≡ word_of line.now }
-    ensures long { word_view result ≡ message_word → 4 ≤ length line.now }
+    ensures word { result ≡ word_of line.now }
+    ensures long { result ≡ Word.Message → 4 ≤ length line.now }
 {
     if line.starts_with(b"+OK") {
         Word::Ok
@@ -191,7 +191,7 @@ fn payload_of(rest: &[u8], count: usize) -> Option<&[u8]>
 }
 
 fn message_text<'a>(head: &Head<'a>, payload: &'a [u8]) -> MessageText<'a>
-    requires { head.now.count + bytes_of (head_view head.now).reply + length head.now.subject.now < 2 ^ 64 }
+    requires { head.now.count + length_or_0 (head_view head.now).reply + length head.now.subject.now < 2 ^ 64 }
     ensures { message_view result ≡ message_of (head_view head.now) payload.now }
 {
     let reply_len = head.reply.map_or(0, |reply| reply.len());

@@ -1,15 +1,56 @@
-//! `replay run` reads a script of turns from standard input and prints their transcript.
+//! `replay run` reads a script of turns from standard input and prints their transcript. `replay --help` and
+//! `replay --version` tell of the program.
 #![tactic(auto)]
 
-use nats_replay::{NO_MEMORY, Reading, Writing, replay};
+use nats_replay::{NO_MEMORY, Reading, WRITE_FAULT, Writing, replay};
 use std::process::ExitCode;
 use std::rt::Env;
 use std::{env, io};
+
+/// What `--version` prints.
+const VERSION: &str = "replay 0.1.0, of Wichapok, a port of the core of async-nats 0.51.0\n";
+
+/// What `--help` prints: the words and the statuses of `nats_replay::replay`.
+const HELP: &str = "\
+usage: replay run < SCRIPT
+       replay --help | --version
+
+run reads a script of turns from standard input, plays them and prints their transcript.
+
+exit status:
+  0  the transcript is printed
+  2  the words are no command
+  3  standard input failed
+  4  standard output failed
+  5  a line of the script cannot be read
+  6  a turn of the script may not come where it stands
+  7  out of memory
+  8  the script is longer than 16,777,216 bytes
+";
 
 /// The words of the command line, without the program's name.
 fn words<R: Env + AllocGlobal>(rt: &R) -> io::Result<Vec<String>> {
     let words = env::args(rt)?.skip(1).collect(rt.alloc())?;
     Ok(words)
+}
+
+/// The text that the words ask for, where they ask about the program.
+fn about(words: &[String]) -> Option<&'static str> {
+    let [word] = words else {
+        return None;
+    };
+    match word.as_str() {
+        "--help" => Some(HELP),
+        "--version" => Some(VERSION),
+        _ => None,
+    }
+}
+
+fn tell<R: Print>(rt: &R, text: &str) -> ExitCode {
+    match print!(rt; "{text}") {
+        Ok(()) => ExitCode::SUCCESS,
+        Err(_) => ExitCode::from(WRITE_FAULT),
+    }
 }
 
 /// Words that are no UTF-8 are taken as none, which are no command.
@@ -21,6 +62,9 @@ fn main(rt: HostRuntime) -> ExitCode {
         }
         Err(_) => Vec::new(rt.alloc()),
     };
+    if let Some(text) = about(words.as_slice()) {
+        return tell(&rt, text);
+    }
     let mut source = Reading::new(rt.stdin());
     let mut sink = Writing::new(rt.stdout());
     ExitCode::from(replay(rt.alloc(), words.as_slice(), &mut source, &mut sink))

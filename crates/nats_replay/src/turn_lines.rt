@@ -1,12 +1,12 @@
 //! The lines of a script: the settings and the turns.
 ghost use Rattle.std.specs.Prelude.{◌≡◌, ◌∷◌, [], None, IfOk, MatchOption, option_and_then};
 ghost use Rattle.std.specs.Option.{option_copied};
-ghost use Rattle.nats_replay.specs.Spelling.{bytes_of, number_of};
+ghost use Rattle.nats_replay.specs.Spelling.{field_bytes, field_number};
 ghost use Rattle.nats_replay.specs.Script.{fields_of, only, config_with, config_of_fields, config_of_line, word_of, up_turn, sub_turn, sub_of, pub_with, pub_of, turn_of, turn_of_line};
 ghost use Rattle.nats_replay.specs.Cut.{parts_behind};
 
 use crate::cut::{cut, only};
-use crate::fields::{bytes_of, number_of, text_of, token_of};
+use crate::fields::{field_bytes, field_number, field_text, field_token};
 use nats_names::{Bytes, NoMemory, Subject, Token};
 use nats_session::{Call, Config, OutboundMessage, ServerInfo, Turn};
 use std::alloc::Global;
@@ -72,10 +72,10 @@ pub fn config_of_line(alloc: Global, line: &[u8]) -> Result<Option<Config>, NoMe
         return Ok(None);
     }
     Ok(config_with(
-        number_of(fields.clients),
-        number_of(fields.messages),
-        text_of(alloc, fields.prefix)?,
-        token_of(alloc, fields.id)?,
+        field_number(fields.clients),
+        field_number(fields.messages),
+        field_text(alloc, fields.prefix)?,
+        field_token(alloc, fields.id)?,
     ))
 }
 
@@ -108,22 +108,22 @@ fn word_of(field: &[u8]) -> Word
 }
 
 fn number_in(fields: Option<&[u8]>) -> Option<u64>
-    ensures { result ≡ option_and_then number_of (only (parts_behind 32 (option_copied fields.entry))) }
+    ensures { result ≡ option_and_then field_number (only (parts_behind 32 (option_copied fields.entry))) }
 {
-    number_of(only(fields)?)
+    field_number(only(fields)?)
 }
 
 fn bytes_field(alloc: Global, field: &[u8]) -> Result<Option<Bytes>, NoMemory>
-    ensures { IfOk result (λ b. b ≡ bytes_of field.now) }
+    ensures { IfOk result (λ b. b ≡ field_bytes field.now) }
 {
-    match bytes_of(alloc, field)? {
+    match field_bytes(alloc, field)? {
         Some(bytes) => Ok(Some(Bytes::from_vec(bytes)?)),
         None => Ok(None),
     }
 }
 
 fn bytes_in(alloc: Global, fields: Option<&[u8]>) -> Result<Option<Bytes>, NoMemory>
-    ensures { IfOk result (λ b. b ≡ option_and_then bytes_of (only (parts_behind 32 (option_copied fields.entry)))) }
+    ensures { IfOk result (λ b. b ≡ option_and_then field_bytes (only (parts_behind 32 (option_copied fields.entry)))) }
 {
     let Some(field) = only(fields) else {
         return Ok(None);
@@ -167,7 +167,7 @@ fn sub_of(alloc: Global, fields: Option<&[u8]>) -> Result<Option<Turn>, NoMemory
     if group != b"~".as_slice() {
         return Ok(None);
     }
-    match text_of(alloc, subject)? {
+    match field_text(alloc, subject)? {
         Some(subject) => Ok(Some(sub_turn(subject))),
         None => Ok(None),
     }
@@ -203,7 +203,7 @@ fn pub_of(alloc: Global, fields: Option<&[u8]>) -> Result<Option<Turn>, NoMemory
     if reply != b"~".as_slice() {
         return Ok(None);
     }
-    Ok(pub_with(text_of(alloc, subject)?, bytes_field(alloc, payload)?))
+    Ok(pub_with(field_text(alloc, subject)?, bytes_field(alloc, payload)?))
 }
 
 fn turn_of(alloc: Global, word: Word, fields: Option<&[u8]>) -> Result<Option<Turn>, NoMemory>

@@ -1,7 +1,7 @@
 -- A numeral is a text, and `parse` reads its number.
 use Rattle.std.proofs.Common.{◌∙◌, sym}
 use Rattle.nats_replay.proofs.Spelled.{number_gives, numeral_is_utf8}
-use Rattle.nats_replay.proofs.fields.number_of.Goals as goal
+use Rattle.nats_replay.proofs.fields.field_number.Goals as goal
 
 pub returns-in-Ok : goal.returns-in-Ok
 returns-in-Ok c =

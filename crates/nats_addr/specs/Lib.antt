@@ -1,0 +1,3 @@
+pub mod Addr
+pub mod Noted
+pub mod Resolving

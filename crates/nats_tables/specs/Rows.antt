@@ -1,0 +1,47 @@
+-- How a table shows the rows that it keeps, and those that it forgot.
+use Rattle.std.specs.Prelude.{◌≡◌, ◌<◌, ◌≤◌, ℕ, cond, Bool, false, ◌&&◌, List, map, Option, Some, None, if◌then◌else◌}
+use Rattle.std.specs.Ordering.{nat_cmp}
+use Rattle.std.specs.Option.{IfSome, unwrap_or}
+use Rattle.std.specs.Map.{lookup}
+use Rattle.std.specs.BTreeMap.{is_at}
+use Rattle.nats_tables.specs.Numbers.{count_from, item_of}
+
+-- what is kept of a number
+abbrev pub look : {A : Type 0} → ℕ → List (ℕ × A) → Option A
+look s es = lookup (is_at (nat_cmp s)) es
+
+-- fs is es with w at a number, where None takes it out
+abbrev pub UpdatedAt : {A : Type 0} → ℕ → Option A → List (ℕ × A) → List (ℕ × A) → Type 0
+UpdatedAt k w es fs = (q : ℕ) → look q fs ≡ cond (is_at (nat_cmp k) q) w (look q es)
+
+-- fs is es without a number where it is over, and else the same
+abbrev pub ForgotIf : {A : Type 0} → Bool → ℕ → List (ℕ × A) → List (ℕ × A) → Type 0
+ForgotIf over k es fs = (q : ℕ) → look q fs ≡ cond (over && is_at (nat_cmp k) q) None (look q es)
+
+-- the row of a number: those that are not kept look alike
+abbrev pub row_in : {A : Type 0} → A → List (ℕ × A) → ℕ → A
+row_in gone es s = unwrap_or (look s es) gone
+
+-- the rows of all numbers that were given
+abbrev pub rows_in : {A : Type 0} → A → ℕ → List (ℕ × A) → List A
+rows_in gone given es = map (row_in gone es) (count_from 1 given)
+
+-- a row as it is shown: one that is over is forgotten
+abbrev pub tidied : {A : Type 0} → (A → Bool) → A → A → A
+tidied over gone row = if over row then gone else row
+
+-- a number with its row stays in memory: it was given, and the row is not over
+abbrev pub Stays : {A : Type 0} → (A → Bool) → ℕ → ℕ → A → Type 0
+Stays over given s row = (0 < s) × (s ≤ given) × (over row ≡ false)
+
+abbrev pub KeepsOnly : {A : Type 0} → (A → Bool) → ℕ → List (ℕ × A) → Type 0
+KeepsOnly over given es = (s : ℕ) → IfSome (look s es) (Stays over given s)
+
+-- the row of a number, where one that was not given looks like one that is forgotten
+abbrev pub row_at : {A : Type 0} → A → ℕ → List A → A
+row_at gone s rows = unwrap_or (item_of s rows) gone
+
+-- the row of a number, if it was given and is not over
+abbrev pub kept_row : {A : Type 0} → (A → Bool) → Option A → Option A
+kept_row over None = None
+kept_row over (Some row) = if over row then None else Some row

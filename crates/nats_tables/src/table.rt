@@ -1,0 +1,172 @@
+//! A table of numbered rows that forgets those that are over.
+ghost use Rattle.std.specs.Prelude.{◌≡◌, ◌++◌, [], ◌∷◌, Bool, true, false, length, OnOk, OnErr, IfOk, None};
+ghost use Rattle.std.specs.Option.{option_copied};
+ghost use Rattle.nats_tables.specs.Numbers.{item_of, at_number};
+ghost use Rattle.nats_tables.specs.Rows.{row_at, kept_row, tidied, UpdatedAt, ForgotIf};
+
+use nats_names::NoMemory;
+use std::alloc::Global;
+use std::collections::BTreeMap;
+use std::marker::Model;
+
+/// A row of a table, which may be over.
+pub trait Row: Drop {
+    /// What stands for a row that is forgotten.
+    ghost forgotten: { Self };
+
+    ghost over: { Self → Bool };
+
+    /// Whether nothing can change it any more, so that a table may forget it.
+    fn is_over(&self) -> bool
+        ensures { result ≡ over self.now };
+
+    ghost forgotten_is_over: { over forgotten ≡ true };
+}
+
+/// A change of a row that takes no memory.
+pub trait Change<T: Row> {
+    ghost changes: { Self → T → T };
+
+    /// Changes the row.
+    fn change(&self, row: &mut T)
+        ensures { row.new ≡ changes self.now row.old };
+
+    /// What is forgotten stays so.
+    ghost leaves_forgotten: { (c : Self) → tidied T.over T.forgotten (changes c T.forgotten) ≡ T.forgotten };
+}
+
+/// A change of a row that may want memory, and that answers something.
+pub trait TryChange<T: Row> {
+    type Answer;
+
+    ghost changes: { Self → T → T };
+
+    ghost answers: { Self → T → Self.Answer };
+
+    /// Changes the row, and answers what became of it.
+    fn try_change(self, row: &mut T) -> Result<Self::Answer, NoMemory>
+        ensures ok { OnOk result (row.new ≡ changes self row.old) }
+        ensures answer { IfOk result (λ a. a ≡ answers self row.old) }
+        ensures err { OnErr result (row.new ≡ row.old) };
+
+    /// The answer where there is no row to change.
+    fn refuse(self) -> Self::Answer
+        ensures { result ≡ answers self T.forgotten };
+
+    /// What is forgotten stays so.
+    ghost leaves_forgotten: { (c : Self) → tidied T.over T.forgotten (changes c T.forgotten) ≡ T.forgotten };
+}
+
+/// Rows by their numbers, from 1. Contracts see all rows that got a number, in the order of their numbers; in memory are
+/// those that are not over. A call costs at most the logarithm of what is in memory. Our own; the crate has a `HashMap`.
+#[derive(Drop)]
+pub struct Table<T: Row> {
+    given: u64,
+    kept: BTreeMap<u64, T>,
+}
+
+impl<T: Row> Model for Table<T> {
+    ghost use Rattle.std.specs.Prelude.{List};
+    ghost use Rattle.nats_tables.specs.Rows.{rows_in, KeepsOnly};
+
+    ghost Value = { List T };
+
+    ghost view = { λ t. rows_in T.forgotten t.given t.kept.entries };
+
+    ghost invariant = { λ t. KeepsOnly T.over t.given t.kept.entries };
+}
+
+fn forget<T: Row>(kept: &mut BTreeMap<u64, T>, number: u64)
+    ensures { UpdatedAt number None kept.old.entries kept.new.entries }
+{
+    let _ = kept.remove(&number);
+}
+
+fn forget_if<T: Row>(kept: &mut BTreeMap<u64, T>, number: u64, over: bool)
+    ensures { ForgotIf over number kept.old.entries kept.new.entries }
+{
+    if over {
+        forget(kept, number);
+    }
+}
+
+impl<T: Row> Table<T> {
+    /// No row. It takes no memory.
+    pub fn new(alloc: Global) -> Table<T>
+        ensures { result ≡ [] }
+    {
+        Table {
+            given: 0,
+            kept: BTreeMap::new(alloc),
+        }
+    }
+
+    /// How many numbers were given.
+    pub fn len(&self) -> u64
+        ensures { result ≡ length self.now }
+    {
+        self.given
+    }
+
+    /// Gives the next number to a row.
+    ///
+    /// # Errors
+    ///
+    /// `NoMemory` where memory is wanting, or where all 2^64 - 1 numbers were given; the table is unchanged then.
+    pub fn give(&mut self, row: T) -> Result<(), NoMemory>
+        requires { T.over row ≡ false }
+        ensures ok { OnOk result (self.new ≡ self.old ++ row ∷ []) }
+        ensures err { OnErr result (self.new ≡ self.old) }
+    {
+        let Some(number) = self.given.checked_add(1) else {
+            return Err(NoMemory);
+        };
+        let Ok(_) = self.kept.insert(number, row) else {
+            return Err(NoMemory);
+        };
+        self.given = number;
+        Ok(())
+    }
+
+    /// The row of a number; `None` where that number was not given or its row is over.
+    pub fn item(&self, number: u64) -> Option<&T>
+        ensures { option_copied result ≡ kept_row T.over (item_of number self.now) }
+    {
+        self.kept.get(&number)
+    }
+
+    /// Changes the row of a number, if it was given, and forgets it where it is over then.
+    pub fn alter<C: Change<T>>(&mut self, number: u64, change: &C)
+        ensures { self.new ≡ at_number number (λ row. tidied T.over T.forgotten (C.changes change.now row)) self.old }
+    {
+        let Some(row) = self.kept.get_mut(&number) else {
+            return;
+        };
+        change.change(row);
+        let over = row.is_over();
+        forget_if(&mut self.kept, number, over);
+    }
+
+    /// Changes the row of a number where memory may be wanting, and forgets it where it is over then.
+    ///
+    /// # Errors
+    ///
+    /// `NoMemory` leaves the table unchanged.
+    pub fn try_alter<C: TryChange<T>>(
+        &mut self,
+        number: u64,
+        change: C,
+    ) -> Result<C::Answer, NoMemory>
+        ensures ok { OnOk result (self.new ≡ at_number number (λ row. tidied T.over T.forgotten (C.changes change row)) self.old) }
+        ensures answer { IfOk result (λ a. a ≡ C.answers change (row_at T.forgotten number self.old)) }
+        ensures err { OnErr result (self.new ≡ self.old) }
+    {
+        let Some(row) = self.kept.get_mut(&number) else {
+            return Ok(change.refuse());
+        };
+        let answer = change.try_change(row)?;
+        let over = row.is_over();
+        forget_if(&mut self.kept, number, over);
+        Ok(answer)
+    }
+}

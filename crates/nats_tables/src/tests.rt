@@ -1,0 +1,89 @@
+//! A small table of counters, of which one that is stopped is over.
+ghost use Rattle.std.specs.Prelude.{◌≡◌, true, false};
+ghost use Rattle.std.proofs.Common.{refl};
+
+use crate::{Change, NoMemory, Row, Table, TryChange};
+use std::test::Fail;
+
+#[derive(Clone, Copy, PartialEq, Eq, Debug, Drop)]
+struct Counter {
+    count: u64,
+    is_stopped: bool,
+}
+
+impl Row for Counter {
+    ghost forgotten = { record { count = 0; is_stopped = true } };
+
+    ghost over = { λ c. c.is_stopped };
+
+    fn is_over(&self) -> bool {
+        self.is_stopped
+    }
+
+    ghost forgotten_is_over = { refl };
+}
+
+#[derive(Clone, Copy, Drop)]
+struct Stop;
+
+impl Change<Counter> for Stop {
+    ghost changes = { λ _ c. record c { is_stopped = true } };
+
+    fn change(&self, row: &mut Counter) {
+        row.is_stopped = true;
+    }
+
+    ghost leaves_forgotten = { λ _. refl };
+}
+
+/// Sets a counter, and answers what it was.
+#[derive(Clone, Copy, Drop)]
+struct Set {
+    count: u64,
+}
+
+impl TryChange<Counter> for Set {
+    type Answer = u64;
+
+    ghost changes = { λ s c. record c { count = s.count } };
+
+    ghost answers = { λ _ c. c.count };
+
+    fn try_change(self, row: &mut Counter) -> Result<u64, NoMemory> {
+        let was = row.count;
+        row.count = self.count;
+        Ok(was)
+    }
+
+    fn refuse(self) -> u64 {
+        0
+    }
+
+    ghost leaves_forgotten = { λ _. refl };
+}
+
+fn started() -> Counter
+    ensures { result.is_stopped ≡ false }
+{
+    Counter {
+        count: 7,
+        is_stopped: false,
+    }
+}
+
+/// Two counters are given, one is set and stopped: its number stays given, and its row is gone.
+#[test]
+fn a_row_that_is_over_is_forgotten(rt: HostRuntime) -> Result<(), Fail> {
+    let mut table = Table::new(rt.alloc());
+    table.give(started())?;
+    table.give(started())?;
+    assert_eq!(rt; table.try_alter(2, Set { count: 9 })?, 7);
+    assert_eq!(rt; table.item(2).map(|row| row.count), Some(9));
+    table.alter(2, &Stop);
+    assert!(rt; table.item(2).is_none());
+    assert!(rt; table.item(1).is_some());
+    assert!(rt; table.item(3).is_none());
+    assert_eq!(rt; table.try_alter(2, Set { count: 1 })?, 0);
+    assert_eq!(rt; table.len(), 2);
+    Ok(())
+}
