@@ -45,7 +45,7 @@ fn read_turns(alloc: Global, config: Config, lines: &[u8]) -> Result<Script, NoM
         let Some(turn) = read_turn(alloc, line)? else {
             return Ok(Script::Bad(k));
         };
-        turns.push(turn)?;
+        turns.push(alloc, turn)?;
         rest = more;
         k += 1;
     }

@@ -330,7 +330,7 @@ fn turns_are_read_in_any_order(rt: HostRuntime) -> Result<(), Fail> {
 
 fn only<T: Drop>(alloc: Global, item: T) -> Result<Seq<T>, NoMemory> {
     let mut items = Seq::new(alloc);
-    items.push(item)?;
+    items.push(alloc, item)?;
     Ok(items)
 }
 
