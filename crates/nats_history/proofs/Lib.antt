@@ -2,5 +2,4 @@ pub mod Dues
 pub mod Plays
 pub mod Refines
 pub mod Rows
-pub mod Tables
 pub mod Words

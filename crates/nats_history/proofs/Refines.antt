@@ -10,7 +10,7 @@ use Rattle.nats_history.specs.History.{Step, opened, fed, read, taken, accepted,
 use Rattle.nats_history.specs.Parts.{Parts, parts_of}
 use Rattle.nats_history.specs.After.{write_all, written, bytes_after, unread_after, calls_after, commands_of, after}
 use Rattle.nats_history.proofs.Words.{drop_one_more, drop_more_of, calls_accepted, unread_read, unread_fed, waiting_more, written_all}
-use Rattle.nats_history.proofs.Tables.{length-count_from}
+use Rattle.nats_tables.proofs.Numbers.{length-count_from}
 use Rattle.nats_history.proofs.Rows.{rows_told}
 
 pub length-rows : (c : Config) (h : History) → length (rows_of c h) ≡ given h

@@ -8,10 +8,10 @@ use Rattle.nats_wire.specs.Operations.{message}
 use Rattle.nats_history.specs.declared.config.Config.{Config}
 use Rattle.nats_history.specs.declared.call.Call.{Call}
 use Rattle.nats_history.specs.History.{Step, opened, fed, read, taken, accepted, handled, took, link_end, History, subscribes, At, given_after, at_after, at_of, given, numbers, about, is_given, concerns, Told, nothing_told, second, sub_of, puts, puts_by, takes_after, told_after, told, rows_of}
-use Rattle.nats_history.specs.Tables.{count_from, About, is_about, change}
+use Rattle.nats_tables.specs.Numbers.{count_from, About, is_about, change}
 use Rattle.nats_history.specs.After.{new_sub, sub_after, grown, rows_after}
 use Rattle.nats_history.proofs.Words.{drop_one_more}
-use Rattle.nats_history.proofs.Tables.{changed, same_up_to, one_more}
+use Rattle.nats_tables.proofs.Numbers.{changed, same_up_to, one_more}
 
 -- ---- numbers that were given
 

@@ -9,7 +9,7 @@ use Rattle.nats_wire.specs.Wire.{Wire}
 use Rattle.nats_history.specs.declared.config.Config.{Config}
 use Rattle.nats_history.specs.declared.call.Call.{Call}
 use Rattle.nats_history.specs.History.{Step, opened, fed, read, taken, accepted, handled, took, link_end, links_after, up_after, subscribes, At, given_after, subscribed_after, about, Sub, puts, open_after, commands, new_events}
-use Rattle.nats_history.specs.Tables.{change}
+use Rattle.nats_tables.specs.Numbers.{change}
 use Rattle.nats_history.specs.Parts.{Link, Subs, Parts, at_in}
 use Rattle.nats_history.specs.Schedule.{chain, due, most_due}
 

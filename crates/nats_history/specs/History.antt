@@ -13,7 +13,7 @@ use Rattle.nats_history.specs.declared.call.Call.{Call}
 use Rattle.nats_history.specs.declared.call.Call.TheVariants.{Publish, Subscribe}
 use Rattle.nats_history.specs.declared.transcript.LinkWord.{LinkWord}
 use Rattle.nats_history.specs.declared.transcript.LinkWord.TheVariants.{Up, Fault}
-use Rattle.nats_history.specs.Tables.{About, nobody, only, is_about, named, item_of, count_from}
+use Rattle.nats_tables.specs.Numbers.{About, nobody, only, is_about, named, item_of, count_from}
 
 -- what can happen
 pub data Step : Type 0 where

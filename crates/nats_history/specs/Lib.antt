@@ -5,5 +5,4 @@ pub mod Parts
 pub mod Queue
 pub mod Refusals
 pub mod Schedule
-pub mod Tables
 pub mod Transcripts

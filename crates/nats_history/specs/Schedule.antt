@@ -12,7 +12,7 @@ use Rattle.nats_history.specs.declared.turn.Turn.{Turn}
 use Rattle.nats_history.specs.declared.turn.Turn.TheVariants.{Up, Piece, Write, Do, Take}
 use Rattle.nats_history.specs.declared.transcript.LinkWord.{LinkWord}
 use Rattle.nats_history.specs.declared.transcript.LinkWord.TheVariants as word
-use Rattle.nats_history.specs.Tables.{item_of}
+use Rattle.nats_tables.specs.Numbers.{item_of}
 use Rattle.nats_history.specs.History.{Step, opened, fed, read, taken, accepted, handled, took, link_end, History, subscribes, names, Sub}
 use Rattle.nats_history.specs.Parts.{Parts, parts_of}
 

@@ -14,13 +14,13 @@ use Rattle.nats_history.specs.declared.call.TakeReply.TheVariants as takes
 use Rattle.nats_history.specs.declared.turn.Turn.TheVariants.{Do}
 use Rattle.nats_history.specs.declared.turn.Due.{Due}
 use Rattle.nats_history.specs.Queue.{first}
-use Rattle.nats_history.specs.Tables.{at_index, at_number, item_of}
+use Rattle.nats_tables.specs.Numbers.{at_index, at_number, item_of}
 use Rattle.nats_history.specs.History.{Step, accepted, took, History, subscribes, Sub, has_room, listens, second, events_by, at_place, events}
 use Rattle.nats_history.specs.Parts.{Subs, Parts, parts_of}
 use Rattle.nats_history.specs.Schedule.{refusal, call_reply, accepted_step, oldest, take_reply_of, take_reply, took_step, own_steps, put_steps, chain, due_chain}
 use Rattle.nats_history.specs.After.{new_sub, sub_after, after, after_all, events_of}
 use Rattle.nats_history.proofs.Refines.{parts_after}
-use Rattle.nats_history.proofs.Tables.{at_number_same}
+use Rattle.nats_tables.proofs.Numbers.{at_number_same}
 use Rattle.nats_session.specs.declared.subs.subscription.Delivery.{Delivery}
 use Rattle.nats_session.specs.declared.subs.subscription.Delivery.TheVariants.{Put, Dropped, Ignored}
 use Rattle.nats_session.specs.Delivery.{delivery, delivery_at, deliver, take_from, given_one}

@@ -1,8 +1,8 @@
 -- What code that goes by places makes of a table of numbered things.
 use Rattle.std.proofs.Common.{◌≡◌, ℕ, zero, suc, ◌<◌, List, [], ◌∷◌, length, get_or, set, Some, None, refl, sym, ◌∙◌, ap, arith, ◌⊎◌, inl, inr}
 use Rattle.std.proofs.lemmas.Option.{slice_get_read, slice_get_past}
-use Rattle.nats_history.specs.Tables.{at_index, at_number, item_of}
-use Rattle.nats_history.proofs.Tables.{at_index_past}
+use Rattle.nats_tables.specs.Numbers.{at_index, at_number, item_of}
+use Rattle.nats_tables.proofs.Numbers.{at_index_past}
 
 -- a write of what f makes of the item at a place
 pub set_changed : {A : Type 0} (f : A → A) (xs : List A) (i : ℕ) (x y : A) → i < length xs → x ≡ get_or xs i x → y ≡ f x → set xs i y ≡ at_index i f xs

@@ -11,7 +11,7 @@ use Rattle.nats_history.specs.declared.call.TakeReply.{TakeReply}
 use Rattle.nats_history.specs.declared.call.TakeReply.TheVariants as takes
 use Rattle.nats_history.specs.declared.turn.Turn.{Turn}
 use Rattle.nats_history.specs.declared.turn.Turn.TheVariants.{Up, Piece, Write, Do, Take}
-use Rattle.nats_history.specs.Tables.{item_of}
+use Rattle.nats_tables.specs.Numbers.{item_of}
 use Rattle.nats_history.specs.History.{Step, link_end, accepted, History, at_of, given}
 use Rattle.nats_history.specs.Parts.{Parts, parts_of}
 use Rattle.nats_history.specs.Schedule.{refusal, take_reply, is_valid_turn, chain, accepted_step, took_step, own_steps, due_by, due, most_due, put_steps, after_turn, steps_from, steps, out_of_turn_from, out_of_turn}

@@ -20,7 +20,7 @@ use Rattle.nats_session.specs.declared.subs.subscription.Delivery.{Delivery}
 use Rattle.nats_session.specs.declared.subs.subscription.Delivery.TheVariants.{Put, Dropped, Ignored}
 use Rattle.nats_history.specs.declared.transcript.LinkWord.TheVariants as word
 use Rattle.nats_history.specs.Queue.{first, last}
-use Rattle.nats_history.specs.Tables.{at_index, at_number, item_of}
+use Rattle.nats_tables.specs.Numbers.{at_index, at_number, item_of}
 use Rattle.nats_history.specs.History.{Step, opened, fed, read, taken, accepted, handled, took, link_end, Sub, has_room, listens}
 use Rattle.nats_history.specs.Parts.{Parts}
 use Rattle.nats_history.specs.Schedule.{chain, due_call, due_by, due, due_chain, most_due}

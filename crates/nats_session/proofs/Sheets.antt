@@ -16,7 +16,7 @@ use Rattle.nats_history.specs.declared.transcript.LinkRow.{LinkRow}
 use Rattle.nats_history.specs.declared.transcript.SubRow.{SubRow}
 use Rattle.nats_session.specs.declared.subs.subscription.Delivery.{Delivery}
 use Rattle.nats_session.specs.declared.subs.subscription.Delivery.TheVariants.{Put, Dropped, Ignored}
-use Rattle.nats_history.specs.Tables.{About, is_about, at_number, item_of, count_from}
+use Rattle.nats_tables.specs.Numbers.{About, is_about, at_number, item_of, count_from}
 use Rattle.nats_history.specs.History.{Step, opened, fed, read, taken, accepted, handled, took, link_end, History, is_up, subscribes, given_after, at_after, at_of, given, numbers, about, is_given, concerns, Told, nothing_told, sub_of, has_room, listens, told_after, told, rows_of, link_text, taken_count, waiting_bytes, text_by, events}
 use Rattle.nats_history.specs.Parts.{Parts, parts_of}
 use Rattle.nats_history.specs.After.{after, events_of}
@@ -26,7 +26,7 @@ use Rattle.nats_session.specs.Sheet.{Sheet, empty_sheet, sheet_of, finished, Are
 use Rattle.nats_session.specs.Machine.{sheet_noted}
 use Rattle.nats_session.specs.Handler.{idle}
 use Rattle.nats_history.proofs.Words.{taken_fits}
-use Rattle.nats_history.proofs.Tables.{numbered, one_more, same_table, same_up_to, at_number_same, item_there, item_missing}
+use Rattle.nats_tables.proofs.Numbers.{numbered, one_more, same_table, same_up_to, at_number_same, item_there, item_missing}
 use Rattle.nats_history.proofs.Rows.{given_grows, is_given_to, told_nothing}
 use Rattle.nats_history.proofs.Refines.{parts_after}
 

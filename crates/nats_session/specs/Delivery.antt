@@ -5,7 +5,7 @@ use Rattle.nats_history.specs.declared.config.Config.{Config}
 use Rattle.nats_session.specs.declared.subs.subscription.Delivery.{Delivery}
 use Rattle.nats_session.specs.declared.subs.subscription.Delivery.TheVariants.{Put, Dropped, Ignored}
 use Rattle.nats_history.specs.Queue.{first, last}
-use Rattle.nats_history.specs.Tables.{named, change}
+use Rattle.nats_tables.specs.Numbers.{named, change}
 use Rattle.nats_history.specs.History.{Sub, has_room, listens, next_subscribed}
 use Rattle.nats_history.specs.Parts.{Subs, at_in}
 use Rattle.nats_history.specs.After.{delivered, new_sub}

@@ -17,7 +17,7 @@ use Rattle.nats_session.specs.declared.handler.due.Look.TheVariants as looks
 use Rattle.nats_session.specs.declared.subs.subscription.Delivery.{Delivery}
 use Rattle.nats_session.specs.declared.subs.subscription.Delivery.TheVariants.{Put, Dropped, Ignored}
 use Rattle.nats_history.specs.Queue.{first}
-use Rattle.nats_history.specs.Tables.{item_of}
+use Rattle.nats_tables.specs.Numbers.{item_of}
 use Rattle.nats_history.specs.History.{Step, read, accepted, handled, link_end, History, second, events}
 use Rattle.nats_history.specs.Parts.{Subs, Parts, parts_of}
 use Rattle.nats_history.specs.Schedule.{is_valid_turn, refusal, call_reply, accepted_step, due, chain, due_chain, put_steps}

@@ -7,7 +7,7 @@ use Rattle.nats_history.specs.declared.turn.Turn.TheVariants.{Do, Take}
 use Rattle.nats_history.specs.declared.turn.Due.{Due}
 use Rattle.nats_history.specs.declared.turn.Due.TheVariants as due_names
 use Rattle.nats_history.specs.History.{Step}
-use Rattle.nats_history.specs.Tables.{at_number, item_of}
+use Rattle.nats_tables.specs.Numbers.{at_number, item_of}
 use Rattle.nats_history.specs.Parts.{Parts}
 use Rattle.nats_history.specs.Schedule.{is_valid_turn, own_steps, call_reply, take_reply, chain}
 use Rattle.nats_history.specs.Transcripts.{Answer, nothing, called, asked}

@@ -16,7 +16,7 @@ use Rattle.nats_session.specs.declared.draft.Note.TheVariants as notes
 use Rattle.nats_session.specs.declared.subs.subscription.Delivery.{Delivery}
 use Rattle.nats_session.specs.declared.subs.subscription.Delivery.TheVariants.{Put, Dropped, Ignored}
 use Rattle.nats_history.specs.History.{Step, opened, read, taken, accepted, link_end, History, is_up, subscribes, link_text, taken_count, at_place, given, events}
-use Rattle.nats_history.specs.Tables.{at_number, item_of}
+use Rattle.nats_tables.specs.Numbers.{at_number, item_of}
 use Rattle.nats_history.specs.Parts.{Parts, parts_of}
 use Rattle.nats_session.specs.Delivery.{delivery_at}
 use Rattle.nats_history.specs.Transcripts.{Answer, nothing, called, asked, ended_links, sub_rows, take_replies, call_replies}

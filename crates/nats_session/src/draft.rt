@@ -2,7 +2,7 @@
 ghost use Rattle.std.specs.Prelude.{◌≡◌, ◌+◌, [], ◌∷◌, ◌++◌, OnOk, IfOk, length, List, ℕ, if◌then◌else◌};
 ghost use Rattle.nats_history.specs.declared.transcript.LinkWord.TheVariants.{Up};
 ghost use Rattle.nats_history.specs.History.{at_place};
-ghost use Rattle.nats_history.specs.Tables.{at_number};
+ghost use Rattle.nats_tables.specs.Numbers.{at_number};
 ghost use Rattle.nats_session.specs.Machine.{write_due};
 ghost use Rattle.nats_session.specs.Sheet.{Sheet, empty_sheet, new_row, write_note, write_events, finished, row_with};
 

@@ -1,7 +1,7 @@
 //! How subscriptions are kept: this file alone knows.
 ghost use Rattle.std.specs.Prelude.{◌≡◌, ◌<◌, [], length, OnOk, OnErr, IfOk, is_some};
 ghost use Rattle.std.specs.Option.{option_copied};
-ghost use Rattle.nats_history.specs.Tables.{at_index, at_number, item_of};
+ghost use Rattle.nats_tables.specs.Numbers.{at_index, at_number, item_of};
 ghost use Rattle.nats_history.specs.History.{next_subscribed};
 ghost use Rattle.nats_history.specs.Parts.{at_in};
 ghost use Rattle.nats_session.specs.Delivery.{open_sub, deliver, take_from, delivery_at, oldest_of, youngest, given_one, subscribed_one};

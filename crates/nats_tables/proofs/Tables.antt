@@ -1,12 +1,12 @@
 -- The rows that a table shows, after what is kept of one number changed.
-use Rattle.std.proofs.Common.{◌≡◌, ℕ, zero, suc, ◌<◌, ◌≤◌, Bool, true, false, cond, ◌&&◌, List, [], ◌∷◌, ◌++◌, length, Option, Some, None, IfSome, Less, Equal, Greater, nat_cmp, nat_lt, ◌==◌, unwrap_or, refl, sym, ◌∙◌, ap, subst, arith, ◌⊎◌, inl, inr}
+use Rattle.std.proofs.Common.{◌≡◌, map, ℕ, zero, suc, ◌<◌, ◌≤◌, Bool, true, false, cond, ◌&&◌, List, [], ◌∷◌, ◌++◌, length, Option, Some, None, IfSome, Less, Equal, Greater, nat_cmp, nat_lt, ◌==◌, unwrap_or, refl, sym, ◌∙◌, ap, subst, arith, ◌⊎◌, inl, inr}
 use Rattle.std.specs.BTreeMap.{is_at}
 use Rattle.std.specs.Ordering.{is_eq}
 use Rattle.std.proofs.lemmas.Bool.{ne_eqb, eq-eqb}
 use Rattle.std.proofs.lemmas.List.{length-map}
 use Rattle.nats_tables.specs.Numbers.{count_from, at_number, item_of}
-use Rattle.nats_tables.specs.Rows.{look, UpdatedAt, ForgotIf, row_in, rows_in, tidied, row_at, kept_row, Stays, KeepsOnly}
-use Rattle.nats_tables.proofs.Numbers.{length-count_from, changed_at, one_more, item_there, item_past}
+use Rattle.nats_tables.specs.Rows.{look, UpdatedAt, ForgotIf, row_in, rows_in, tidied, row_at, kept_row, Stays, KeepsOnly, KeepsAll, Keeps}
+use Rattle.nats_tables.proofs.Numbers.{length-count_from, same_up_to, changed_at, one_more, item_there, item_missing, at_index_past}
 
 -- ---- keys
 
@@ -42,14 +42,37 @@ module _ {A : Type 0} (gone : A) (given k : ℕ) (es fs : List (ℕ × A)) where
       let shown = λ (o : Option A). unwrap_or o gone in
       let updated' : UpdatedAt (suc given) (Some row) es fs = subst (λ n. UpdatedAt n (Some row) es fs) is updated in
       let here : row_in gone fs (suc given) ≡ row = ap shown (updated' (suc given) ∙ ap (λ b. cond b (Some row) (look (suc given) es)) (at_same (suc given) (suc given) refl)) in
-      ap (λ n. rows_in gone n fs) is ∙ one_more (row_in gone es) (row_in gone fs) given row here (λ s apart. ap shown (updated' s ∙ ap (λ b. cond b (Some row) (look s es)) (at_apart (suc given) s (λ e. apart (sym e)))))
+      let others : map (row_in gone fs) (count_from 1 given) ≡ rows_in gone given es = same_up_to (row_in gone fs) (row_in gone es) given (λ s low high. ap shown (updated' s ∙ ap (λ b. cond b (Some row) (look s es)) (at_apart (suc given) s (λ e. omega arith)))) in
+      ap (λ n. rows_in gone n fs) is ∙ (one_more (row_in gone fs) given row here ∙ ap (λ rows. rows ++ row ∷ []) others)
+
+number_cases : (given k : ℕ) → ((0 < k) × (k ≤ given)) ⊎ ((k ≡ 0) ⊎ (given < k))
+number_cases given zero = inr (inl refl)
+number_cases given (suc i) = split (nat_lt given (suc i)) refl
+  where
+    split : (b : Bool) → nat_lt given (suc i) ≡ b → ((0 < suc i) × (suc i ≤ given)) ⊎ ((suc i ≡ 0) ⊎ (given < suc i))
+    split true past = inr (inr (grind (past, arith)))
+    split false low = inl (omega arith, grind (low, arith))
+
+pub length-rows : {A : Type 0} (gone : A) (given : ℕ) (es : List (ℕ × A)) → length (rows_in gone given es) ≡ given
+length-rows gone given es = length-map (count_from 1 given) (row_in gone es) ∙ length-count_from 1 given
+
+at_number_past : {A : Type 0} (k : ℕ) (f : A → A) (xs : List A) → (k ≡ 0) ⊎ (length xs < k) → at_number k f xs ≡ xs
+at_number_past k f xs (inl z) = ap (λ n. at_number n f xs) z
+at_number_past zero f xs (inr past) = refl
+at_number_past (suc i) f xs (inr past) = at_index_past i f xs (omega arith)
 
 -- what is not kept stays so
-pub rows_missing : {A : Type 0} (gone : A) (given k : ℕ) (es : List (ℕ × A)) (f : A → A) → look k es ≡ None → f gone ≡ gone
+pub rows_missing : {A : Type 0} (overs : A → Bool) (gone : A) (given k : ℕ) (es : List (ℕ × A)) (f : A → A) → KeepsAll overs gone given es → look k es ≡ None → (overs gone ≡ true → f gone ≡ gone)
     → rows_in gone given es ≡ at_number k f (rows_in gone given es)
-rows_missing gone given k es f none still =
-    let is : row_in gone es k ≡ gone = ap (λ o. unwrap_or o gone) none in
-    changed_at f (row_in gone es) (row_in gone es) given k (is ∙ (sym still ∙ ap f (sym is))) (λ s apart. refl)
+rows_missing overs gone given k es f all none still = by (number_cases given k)
+  where
+    by : ((0 < k) × (k ≤ given)) ⊎ ((k ≡ 0) ⊎ (given < k)) → rows_in gone given es ≡ at_number k f (rows_in gone given es)
+    by (inl low) =
+        let is : row_in gone es k ≡ gone = ap (λ o. unwrap_or o gone) none in
+        let same : f gone ≡ gone = still (all k low.0 low.1 none) in
+        changed_at f (row_in gone es) (row_in gone es) given k (is ∙ (sym same ∙ ap f (sym is))) (λ s apart. refl)
+    by (inr (inl z)) = sym (at_number_past k f (rows_in gone given es) (inl z))
+    by (inr (inr past)) = sym (at_number_past k f (rows_in gone given es) (inr (subst (λ n. n < k) (sym (length-rows gone given es)) past)))
 
 changed_or_forgotten : {A : Type 0} (over here : Bool) (new : A) (mid old : Option A) → mid ≡ cond here (Some new) old
     → cond (over && here) None mid ≡ cond here (cond over None (Some new)) old
@@ -74,37 +97,29 @@ rows_altered overs gone given k es mid fs row new g over there changed forgot is
 
 -- ---- looking one up
 
+no_row : {A : Type 0} (gone : A) (given : ℕ) (es : List (ℕ × A)) (k : ℕ) → (k ≡ 0) ⊎ (given < k) → item_of k (rows_in gone given es) ≡ None
+no_row gone given es k (inl z) = ap (λ n. item_of n (rows_in gone given es)) z
+no_row gone given es k (inr past) = item_missing (row_in gone es) given k past
+
 module _ {A : Type 0} (overs : A → Bool) (gone : A) (given : ℕ) (es : List (ℕ × A)) where
-  pub length-rows : length (rows_in gone given es) ≡ given
-  length-rows = length-map (count_from 1 given) (row_in gone es) ∙ length-count_from 1 given
-
   -- a number without a row in memory was not given, or its row is shown as forgotten
-  pub item_kept : overs gone ≡ true → KeepsOnly overs given es → (k : ℕ) → look k es ≡ kept_row overs (item_of k (rows_in gone given es))
-  item_kept ends keeps k = by (look k es) refl (keeps k) (number_cases k)
+  pub item_kept : Keeps overs gone given es → (k : ℕ) → look k es ≡ kept_row overs (item_of k (rows_in gone given es))
+  item_kept keeps k = by (look k es) refl (keeps.0 k) (number_cases given k)
     where
-      number_cases : (k : ℕ) → ((0 < k) × (k ≤ given)) ⊎ (item_of k (rows_in gone given es) ≡ None)
-      number_cases zero = inr refl
-      number_cases (suc i) = split (nat_lt given (suc i)) refl
-        where
-          split : (b : Bool) → nat_lt given (suc i) ≡ b → ((0 < suc i) × (suc i ≤ given)) ⊎ (item_of (suc i) (rows_in gone given es) ≡ None)
-          split true past = inr (item_past (row_in gone es) given (suc i) (grind (past, arith)))
-          split false low = inl (omega arith, grind (low, arith))
-
       there : ((0 < k) × (k ≤ given)) → kept_row overs (item_of k (rows_in gone given es)) ≡ kept_row overs (Some (row_in gone es k))
       there low = ap (kept_row overs) (item_there (row_in gone es) given k low.0 low.1)
-
-      by : (o : Option A) → look k es ≡ o → IfSome o (Stays overs given k) → ((0 < k) × (k ≤ given)) ⊎ (item_of k (rows_in gone given es) ≡ None) → look k es ≡ kept_row overs (item_of k (rows_in gone given es))
-      by None is stays (inr none) = is ∙ sym (ap (kept_row overs) none)
-      by None is stays (inl low) = is ∙ (sym (ap (λ b. cond b None (Some gone)) ends) ∙ (ap (λ o. kept_row overs (Some (unwrap_or o gone))) (sym is) ∙ sym (there low)))
+      by : (o : Option A) → look k es ≡ o → IfSome o (Stays overs given k) → ((0 < k) × (k ≤ given)) ⊎ ((k ≡ 0) ⊎ (given < k)) → look k es ≡ kept_row overs (item_of k (rows_in gone given es))
+      by None is stays (inr apart) = is ∙ sym (ap (kept_row overs) (no_row gone given es k apart))
+      by None is stays (inl low) =
+          is ∙ (sym (ap (λ b. cond b None (Some gone)) (keeps.1 k low.0 low.1 is)) ∙ (ap (λ o. kept_row overs (Some (unwrap_or o gone))) (sym is) ∙ sym (there low)))
       by (Some row) is stays low = is ∙ (sym (ap (λ b. cond b None (Some row)) stays.2) ∙ (ap (λ o. kept_row overs (Some (unwrap_or o gone))) (sym is) ∙ sym (there (stays.0, stays.1))))
 
   pub row_missing : (k : ℕ) → look k es ≡ None → row_at gone k (rows_in gone given es) ≡ gone
-  row_missing zero none = refl
-  row_missing (suc i) none = split (nat_lt given (suc i)) refl
+  row_missing k none = by (number_cases given k)
     where
-      split : (b : Bool) → nat_lt given (suc i) ≡ b → row_at gone (suc i) (rows_in gone given es) ≡ gone
-      split true past = ap (λ o. unwrap_or o gone) (item_past (row_in gone es) given (suc i) (grind (past, arith)))
-      split false low = ap (λ o. unwrap_or o gone) (item_there (row_in gone es) given (suc i) (omega arith) (grind (low, arith))) ∙ ap (λ o. unwrap_or o gone) none
+      by : ((0 < k) × (k ≤ given)) ⊎ ((k ≡ 0) ⊎ (given < k)) → row_at gone k (rows_in gone given es) ≡ gone
+      by (inl low) = ap (λ o. unwrap_or o gone) (item_there (row_in gone es) given k low.0 low.1) ∙ ap (λ o. unwrap_or o gone) none
+      by (inr apart) = ap (λ o. unwrap_or o gone) (no_row gone given es k apart)
 
   pub row_kept : KeepsOnly overs given es → (k : ℕ) (row : A) → look k es ≡ Some row → row_at gone k (rows_in gone given es) ≡ row
   row_kept keeps k row is =

@@ -1,5 +1,5 @@
 -- Numbered things in a list, from 1: one of them, one changed, and the numbers themselves.
-use Rattle.std.specs.Prelude.{ℕ, zero, suc, Bool, true, false, ◌==◌, List, [], ◌∷◌, map, Option, None, slice_get}
+use Rattle.std.specs.Prelude.{ℕ, zero, suc, Bool, true, false, ◌==◌, List, [], ◌∷◌, map, Option, Some, None, slice_get}
 
 -- the items of a list, with the one at a place changed
 abbrev pub at_index : {A : Type 0} → ℕ → (A → A) → List A → List A
@@ -31,6 +31,11 @@ abbrev pub is_about : ℕ → About → Bool
 is_about s nobody = false
 is_about s everyone = true
 is_about s (only k) = s == k
+
+-- whom a name is about that may be left out
+abbrev pub named : Option ℕ → About
+named None = nobody
+named (Some s) = only s
 
 -- a table with those changed that something is about
 abbrev pub change : {A : Type 0} → About → (A → A) → List A → List A

@@ -1,5 +1,5 @@
 -- How a table shows the rows that it keeps, and those that it forgot.
-use Rattle.std.specs.Prelude.{◌≡◌, ◌<◌, ◌≤◌, ℕ, cond, Bool, false, ◌&&◌, List, map, Option, Some, None, if◌then◌else◌}
+use Rattle.std.specs.Prelude.{◌≡◌, ◌<◌, ◌≤◌, ℕ, cond, Bool, true, false, ◌&&◌, List, map, Option, Some, None, if◌then◌else◌}
 use Rattle.std.specs.Ordering.{nat_cmp}
 use Rattle.std.specs.Option.{IfSome, unwrap_or}
 use Rattle.std.specs.Map.{lookup}
@@ -36,6 +36,14 @@ Stays over given s row = (0 < s) × (s ≤ given) × (over row ≡ false)
 
 abbrev pub KeepsOnly : {A : Type 0} → (A → Bool) → ℕ → List (ℕ × A) → Type 0
 KeepsOnly over given es = (s : ℕ) → IfSome (look s es) (Stays over given s)
+
+-- a number that was given stays in memory, unless rows that are forgotten are over
+abbrev pub KeepsAll : {A : Type 0} → (A → Bool) → A → ℕ → List (ℕ × A) → Type 0
+KeepsAll over gone given es = (s : ℕ) → 0 < s → s ≤ given → look s es ≡ None → over gone ≡ true
+
+-- what a table keeps: rows of given numbers that are not over, and all of them
+abbrev pub Keeps : {A : Type 0} → (A → Bool) → A → ℕ → List (ℕ × A) → Type 0
+Keeps over gone given es = KeepsOnly over given es × KeepsAll over gone given es
 
 -- the row of a number, where one that was not given looks like one that is forgotten
 abbrev pub row_at : {A : Type 0} → A → ℕ → List A → A

@@ -20,19 +20,29 @@ pub trait Row: Drop {
     fn is_over(&self) -> bool
         ensures { result ≡ over self.now };
 
-    ghost forgotten_is_over: { over forgotten ≡ true };
+    /// Where a row can be over, what stands for a forgotten one is.
+    ghost forgotten_is_over: { (row : Self) → over row ≡ true → over forgotten ≡ true };
 }
 
-/// A change of a row that takes no memory.
+/// A change of a row that takes no memory, and that answers something.
 pub trait Change<T: Row> {
+    type Answer;
+
     ghost changes: { Self → T → T };
 
-    /// Changes the row.
-    fn change(&self, row: &mut T)
-        ensures { row.new ≡ changes self.now row.old };
+    ghost answers: { Self → T → Self.Answer };
+
+    /// Changes the row, and answers what became of it.
+    fn change(&self, row: &mut T) -> Self::Answer
+        ensures row { row.new ≡ changes self.now row.old }
+        ensures answer { result ≡ answers self.now row.old };
+
+    /// The answer where there is no row to change.
+    fn refuse(&self) -> Self::Answer
+        ensures { result ≡ answers self.now T.forgotten };
 
     /// What is forgotten stays so.
-    ghost leaves_forgotten: { (c : Self) → tidied T.over T.forgotten (changes c T.forgotten) ≡ T.forgotten };
+    ghost leaves_forgotten: { (c : Self) → T.over T.forgotten ≡ true → tidied T.over T.forgotten (changes c T.forgotten) ≡ T.forgotten };
 }
 
 /// A change of a row that may want memory, and that answers something.
@@ -54,7 +64,7 @@ pub trait TryChange<T: Row> {
         ensures { result ≡ answers self T.forgotten };
 
     /// What is forgotten stays so.
-    ghost leaves_forgotten: { (c : Self) → tidied T.over T.forgotten (changes c T.forgotten) ≡ T.forgotten };
+    ghost leaves_forgotten: { (c : Self) → T.over T.forgotten ≡ true → tidied T.over T.forgotten (changes c T.forgotten) ≡ T.forgotten };
 }
 
 /// Rows by their numbers, from 1. Contracts see all rows that got a number, in the order of their numbers; in memory are
@@ -67,13 +77,13 @@ pub struct Table<T: Row> {
 
 impl<T: Row> Model for Table<T> {
     ghost use Rattle.std.specs.Prelude.{List};
-    ghost use Rattle.nats_tables.specs.Rows.{rows_in, KeepsOnly};
+    ghost use Rattle.nats_tables.specs.Rows.{rows_in, Keeps};
 
     ghost Value = { List T };
 
     ghost view = { λ t. rows_in T.forgotten t.given t.kept.entries };
 
-    ghost invariant = { λ t. KeepsOnly T.over t.given t.kept.entries };
+    ghost invariant = { λ t. Keeps T.over T.forgotten t.given t.kept.entries };
 }
 
 fn forget<T: Row>(kept: &mut BTreeMap<u64, T>, number: u64)
@@ -135,16 +145,18 @@ impl<T: Row> Table<T> {
         self.kept.get(&number)
     }
 
-    /// Changes the row of a number, if it was given, and forgets it where it is over then.
-    pub fn alter<C: Change<T>>(&mut self, number: u64, change: &C)
-        ensures { self.new ≡ at_number number (λ row. tidied T.over T.forgotten (C.changes change.now row)) self.old }
+    /// Changes the row of a number, if it was given, and forgets it where it is over then. It takes no memory.
+    pub fn alter<C: Change<T>>(&mut self, number: u64, change: &C) -> C::Answer
+        ensures changed { self.new ≡ at_number number (λ row. tidied T.over T.forgotten (C.changes change.now row)) self.old }
+        ensures answer { result ≡ C.answers change.now (row_at T.forgotten number self.old) }
     {
         let Some(row) = self.kept.get_mut(&number) else {
-            return;
+            return change.refuse();
         };
-        change.change(row);
+        let answer = change.change(row);
         let over = row.is_over();
         forget_if(&mut self.kept, number, over);
+        answer
     }
 
     /// Changes the row of a number where memory may be wanting, and forgets it where it is over then.

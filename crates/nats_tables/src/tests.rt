@@ -20,20 +20,30 @@ impl Row for Counter {
         self.is_stopped
     }
 
-    ghost forgotten_is_over = { refl };
+    ghost forgotten_is_over = { λ row over. refl };
 }
 
 #[derive(Clone, Copy, Drop)]
 struct Stop;
 
 impl Change<Counter> for Stop {
+    type Answer = bool;
+
     ghost changes = { λ _ c. record c { is_stopped = true } };
 
-    fn change(&self, row: &mut Counter) {
+    ghost answers = { λ _ c. c.is_stopped };
+
+    fn change(&self, row: &mut Counter) -> bool {
+        let was = row.is_stopped;
         row.is_stopped = true;
+        was
     }
 
-    ghost leaves_forgotten = { λ _. refl };
+    fn refuse(&self) -> bool {
+        true
+    }
+
+    ghost leaves_forgotten = { λ c over. refl };
 }
 
 /// Sets a counter, and answers what it was.
@@ -59,7 +69,7 @@ impl TryChange<Counter> for Set {
         0
     }
 
-    ghost leaves_forgotten = { λ _. refl };
+    ghost leaves_forgotten = { λ c over. refl };
 }
 
 fn started() -> Counter
@@ -79,11 +89,12 @@ fn a_row_that_is_over_is_forgotten(rt: HostRuntime) -> Result<(), Fail> {
     table.give(started())?;
     assert_eq!(rt; table.try_alter(2, Set { count: 9 })?, 7);
     assert_eq!(rt; table.item(2).map(|row| row.count), Some(9));
-    table.alter(2, &Stop);
+    assert!(rt; !table.alter(2, &Stop));
     assert!(rt; table.item(2).is_none());
     assert!(rt; table.item(1).is_some());
     assert!(rt; table.item(3).is_none());
     assert_eq!(rt; table.try_alter(2, Set { count: 1 })?, 0);
+    assert!(rt; table.alter(2, &Stop));
     assert_eq!(rt; table.len(), 2);
     Ok(())
 }

@@ -2,7 +2,7 @@
 ghost use Rattle.std.specs.Prelude.{◌≡◌, length, drop, is_some};
 ghost use Rattle.std.specs.Option.{option_copied};
 ghost use Rattle.nats_history.specs.Queue.{first};
-ghost use Rattle.nats_history.specs.Tables.{item_of};
+ghost use Rattle.nats_tables.specs.Numbers.{item_of};
 ghost use Rattle.nats_history.specs.Schedule.{due, refusal, is_valid_turn};
 ghost use Rattle.nats_session.specs.Delivery.{youngest};
 ghost use Rattle.nats_session.specs.Handler.{can_play, HandsOut};

@@ -5,7 +5,7 @@ ghost use Rattle.nats_wire.specs.Operations.{front, unfinished, got, op_view};
 ghost use Rattle.nats_wire.specs.Commands.{command_text};
 ghost use Rattle.nats_history.specs.declared.transcript.LinkWord.TheVariants.{Fault};
 ghost use Rattle.nats_history.specs.declared.turn.Due.TheVariants as due_names;
-ghost use Rattle.nats_history.specs.Tables.{at_number, item_of};
+ghost use Rattle.nats_tables.specs.Numbers.{at_number, item_of};
 ghost use Rattle.nats_history.specs.History.{link_end, read, handled, commands, drop_events};
 ghost use Rattle.nats_history.specs.Parts.{at_in};
 ghost use Rattle.nats_history.specs.Schedule.{due, due_chain};

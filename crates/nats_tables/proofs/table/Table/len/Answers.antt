@@ -4,4 +4,4 @@ use Rattle.nats_tables.proofs.Tables.{length-rows}
 use Rattle.nats_tables.proofs.table.Table.len.Goals as goal
 
 pub returns : goal.returns
-returns g c = sym (length-rows g.T.Row.over g.T.Row.forgotten c.self.inside.given c.self.inside.kept.entries) ∙ ap length c.self.view_is
+returns g c = sym (length-rows g.T.Row.forgotten c.self.inside.given c.self.inside.kept.entries) ∙ ap length c.self.view_is

@@ -11,7 +11,7 @@ returns-in_default-clause-ok g c =
     let gone = g.T.Row.forgotten in
     let f = λ (row : g.row.T.Denot). tidied g.T.Row.over gone (g.C.TryChange.changes c.args.change row) in
     let none : look c.args.number c.self.inside.kept.entries ≡ None = sym c.get_mut.ensures.value ∙ ap option_copied_mut c.in_default.is in
-    ap (λ m. rows_in gone c.self.inside.given m.entries) c.get_mut.follows.holds-at-none ∙ (rows_missing gone c.self.inside.given c.args.number c.self.inside.kept.entries f none (g.met.C.TryChange.leaves_forgotten c.args.change) ∙ ap (at_number c.args.number f) c.self.view_is)
+    ap (λ m. rows_in gone c.self.inside.given m.entries) c.get_mut.follows.holds-at-none ∙ (rows_missing g.T.Row.over gone c.self.inside.given c.args.number c.self.inside.kept.entries f c.self.invariant.1 none (g.met.C.TryChange.leaves_forgotten c.args.change) ∙ ap (at_number c.args.number f) c.self.view_is)
 
 pub returns-in_default-clause-answer : goal.returns-in_default-clause-answer
 returns-in_default-clause-answer g c =
@@ -29,4 +29,4 @@ returns-clause-ok g c =
 pub returns-clause-answer : goal.returns-clause-answer
 returns-clause-answer g c =
     let there : look c.args.number c.self.inside.kept.entries ≡ Some c.in-Some.row.now = sym c.get_mut.ensures.value ∙ ap option_copied_mut c.in-Some.is in
-    c.in_ok-answer.ensures.answer ∙ ap (g.C.TryChange.answers c.args.change) (sym (row_kept g.T.Row.over g.T.Row.forgotten c.self.inside.given c.self.inside.kept.entries c.self.invariant c.args.number c.in-Some.row.now there) ∙ ap (row_at g.T.Row.forgotten c.args.number) c.self.view_is)
+    c.in_ok-answer.ensures.answer ∙ ap (g.C.TryChange.answers c.args.change) (sym (row_kept g.T.Row.over g.T.Row.forgotten c.self.inside.given c.self.inside.kept.entries c.self.invariant.0 c.args.number c.in-Some.row.now there) ∙ ap (row_at g.T.Row.forgotten c.args.number) c.self.view_is)
