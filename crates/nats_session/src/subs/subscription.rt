@@ -1,5 +1,6 @@
 //! One subscription.
-ghost use Rattle.std.specs.Prelude.{◌≡◌, OnErr, IfOk, OnOk};
+ghost use Rattle.std.specs.Prelude.{◌≡◌, false, OnErr, IfOk, OnOk};
+ghost use Rattle.std.proofs.lemmas.Bool.{false≢true};
 ghost use Rattle.std.specs.Option.{option_copied};
 ghost use Rattle.nats_history.specs.Queue.{first, last};
 ghost use Rattle.nats_history.specs.After.{new_sub};
@@ -7,6 +8,7 @@ ghost use Rattle.nats_session.specs.Delivery.{open_sub, deliver, take_from, deli
 
 use crate::queue::Queue;
 use nats_history::{Config, Message, NoMemory};
+use nats_tables::{Change, Row, TryChange};
 use std::alloc::Global;
 use std::marker::Model;
 
@@ -34,6 +36,84 @@ pub enum Delivery {
     Dropped(Message),
     /// There is no open subscription of that number.
     Ignored,
+}
+
+/// No subscription is over yet: none ends, and none is dropped by its user.
+impl Row for Subscription {
+    ghost forgotten = { new_sub };
+
+    ghost over = { λ _. false };
+
+    fn is_over(&self) -> bool {
+        false
+    }
+
+    ghost forgotten_is_over = { λ row over. over };
+}
+
+/// A subscription opens.
+pub struct Open;
+
+impl Change<Subscription> for Open {
+    type Answer = ();
+
+    ghost changes = { λ _. open_sub };
+
+    ghost answers = { λ _ _. record {} };
+
+    fn change(&self, row: &mut Subscription) {
+        row.open();
+    }
+
+    fn refuse(&self) {}
+
+    ghost leaves_forgotten = { λ c over. absurd (false≢true over) };
+}
+
+/// The oldest waiting message leaves a subscription.
+pub struct Take;
+
+impl Change<Subscription> for Take {
+    type Answer = Option<Message>;
+
+    ghost changes = { λ _. take_from };
+
+    ghost answers = { λ _ sub. first sub.waiting };
+
+    fn change(&self, row: &mut Subscription) -> Option<Message> {
+        row.take()
+    }
+
+    fn refuse(&self) -> Option<Message> {
+        None
+    }
+
+    ghost leaves_forgotten = { λ c over. absurd (false≢true over) };
+}
+
+/// A message that comes for a subscription.
+#[derive(Drop)]
+pub struct Arrival<'a> {
+    pub config: &'a Config,
+    pub message: Message,
+}
+
+impl TryChange<Subscription> for Arrival<'_> {
+    type Answer = Delivery;
+
+    ghost changes = { λ a. deliver a.config.now a.message };
+
+    ghost answers = { λ a. delivery a.config.now a.message };
+
+    fn try_change(self, row: &mut Subscription) -> Result<Delivery, NoMemory> {
+        row.deliver(self.config, self.message)
+    }
+
+    fn refuse(self) -> Delivery {
+        Delivery::Ignored
+    }
+
+    ghost leaves_forgotten = { λ a over. absurd (false≢true over) };
 }
 
 impl Subscription {
