@@ -1,7 +1,7 @@
 //! What is counted of a transcript.
 ghost use Rattle.std.specs.Prelude.{◌≡◌, ◌-◌, ◌^◌, length, min};
 ghost use Rattle.std.specs.List.{sum_by};
-ghost use Rattle.nats_session.specs.declared.transcript.SubRow.{SubRow};
+ghost use Rattle.nats_history.specs.declared.transcript.SubRow.{SubRow};
 
 use nats_session::Transcript;
 use std::fmt;

@@ -1,7 +1,7 @@
 //! The list of turns that is played.
 ghost use Rattle.std.specs.Prelude.{◌≡◌, ◌<◌, ◌++◌, length, codes, decimal, IfOk, None};
-ghost use Rattle.nats_session.specs.declared.call.Call.TheVariants as calls;
-ghost use Rattle.nats_session.specs.declared.turn.Turn.TheVariants as turns;
+ghost use Rattle.nats_history.specs.declared.call.Call.TheVariants as calls;
+ghost use Rattle.nats_history.specs.declared.turn.Turn.TheVariants as turns;
 
 use nats_session::{Bytes, Call, NoMemory, ServerInfo, Subject, Turn};
 use std::alloc::Global;

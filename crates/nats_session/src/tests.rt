@@ -1,6 +1,6 @@
 use crate::{
     Bytes, Call, CallReply, Config, ConnectionHandler, Due, LinkWord, NoMemory, OutboundMessage,
-    ServerInfo, Subject, TakeReply, Token, Turn, run,
+    RunError, ServerInfo, Subject, TakeReply, Token, Turn, run,
 };
 use std::alloc::Global;
 use std::process::Abort;
@@ -56,6 +56,28 @@ fn a_list_of_turns_is_played_to_its_transcript(rt: HostRuntime) -> Result<(), Fa
         assert_eq!(rt; link.end, LinkWord::Up);
         assert_eq!(rt; link.taken.as_slice(), b"SUB FOO.BAR 1\r\n".as_slice());
     }
+    Ok(())
+}
+
+// ---- values
+
+fn print(alloc: Global, error: RunError) -> Result<String, Fail> {
+    Ok(format!(in alloc; "{error}")?)
+}
+
+#[test]
+fn copies_are_equal_and_refusals_print_themselves(rt: HostRuntime) -> Result<(), Fail> {
+    let alloc = rt.alloc();
+    let config = settings(alloc, &rt)?;
+    assert_eq!(rt; config.copy(alloc)?.client_capacity, 2048);
+    let turn = Turn::Do(subscribe(alloc)?);
+    assert_eq!(rt; turn.copy(alloc)?, turn);
+    let reply = CallReply::Numbered(7);
+    assert_eq!(rt; reply.copy(alloc)?, reply);
+    assert_eq!(rt; TakeReply::Empty.copy(alloc)?, TakeReply::Empty);
+    let refused = print(alloc, RunError::OutOfTurn { place: 3 })?;
+    assert_eq!(rt; refused.as_str(), "turn 3 may not come there");
+    assert_eq!(rt; print(alloc, RunError::NoMemory)?.as_str(), "out of memory");
     Ok(())
 }
 

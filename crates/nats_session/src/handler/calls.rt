@@ -1,5 +1,5 @@
 //! The calls that play a session, turn by turn and step by step.
-ghost use Rattle.std.specs.Prelude.{◌≡◌, [], ◌∷◌, ◌++◌, OnOk, OnErr, IfOk, IfErr, IsTrue, min, length, is_some};
+ghost use Rattle.std.specs.Prelude.{◌≡◌, ◌<◌, [], ◌∷◌, ◌++◌, OnOk, OnErr, IfOk, IfErr, IsTrue, min, length, is_some};
 ghost use Rattle.nats_wire.specs.Commands.{one_piece};
 ghost use Rattle.nats_history.specs.declared.turn.Turn.TheVariants as turns;
 ghost use Rattle.nats_history.specs.History.{opened, fed, taken, took, subscribes};
@@ -172,9 +172,10 @@ impl ConnectionHandler {
     ///
     /// # Errors
     ///
-    /// `NoMemory` leaves the session unchanged.
+    /// `NoMemory`, only where something waits, leaves the session unchanged.
     pub fn pending_pieces(&mut self, alloc: Global) -> Result<Vec<Bytes>, NoMemory>
         ensures pieces { IfOk result (λ v. v.items ≡ one_piece self.old.parts.link.wire.waiting) }
+        ensures wants { OnErr result (0 < length self.old.parts.link.wire.waiting) }
         ensures same { self.new ≡ self.old }
     {
         self.connection.pending_pieces(alloc)

@@ -1,6 +1,6 @@
 -- Each row adds its own numbers, and the sums stay cut.
 use Rattle.std.proofs.Common.{length, rules}
-use Rattle.nats_session.specs.declared.transcript.SubRow.{SubRow}
+use Rattle.nats_history.specs.declared.transcript.SubRow.{SubRow}
 use Rattle.nats_bench.proofs.Sums.{cut_more}
 use Rattle.nats_bench.proofs.counts.counts_of.Goals as goal
 

@@ -1,7 +1,7 @@
 -- each sum so far is that of the rows before this one, and the rest stays
 use Rattle.std.proofs.Common.{◌≡◌, ◌-◌, ◌^◌, length, min, take}
 use Rattle.std.specs.List.{sum_by}
-use Rattle.nats_session.specs.declared.transcript.SubRow.{SubRow}
+use Rattle.nats_history.specs.declared.transcript.SubRow.{SubRow}
 use Rattle.nats_bench.proofs.counts.counts_of.Given as goal
 
 abbrev pub invariant-loop-row : goal.invariant-loop-row
