@@ -43,7 +43,7 @@ pub(crate) fn put_alone(
     ensures err { OnErr result (fields.new.entries ≡ fields.old.entries) }
 {
     let mut values = Seq::new(alloc);
-    values.push(value)?;
+    values.push(alloc, value)?;
     fields.insert(name, values)?;
     Ok(())
 }
@@ -59,7 +59,7 @@ pub(crate) fn put_last(
     ensures err { OnErr result (fields.new.entries ≡ fields.old.entries) }
 {
     match fields.get_mut(&name) {
-        Some(values) => values.push(value),
+        Some(values) => values.push(alloc, value),
         None => put_alone(fields, alloc, name, value),
     }
 }

@@ -227,7 +227,7 @@ impl HeaderMap {
     }
 
     /// An equal map, with the names in the same order. Own call of this library, for the Rust's `Clone`.
-    pub fn copy(&self) -> Result<HeaderMap, NoMemory>
+    pub fn copy(&self, _alloc: Global) -> Result<HeaderMap, NoMemory>
         ensures { IfOk result (λ m. m ≡ self.now) }
     {
         let fields = self.fields.clone()?;

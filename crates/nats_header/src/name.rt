@@ -100,7 +100,7 @@ impl HeaderName {
     }
 
     /// An equal name, which shares the bytes. Own call of this library, for the Rust's `Clone`.
-    pub fn copy(&self) -> Result<HeaderName, NoMemory>
+    pub fn copy(&self, _alloc: Global) -> Result<HeaderName, NoMemory>
         ensures { IfOk result (λ n. n ≡ self.now) }
     {
         Ok(HeaderName {

@@ -1,5 +1,7 @@
 use crate::{
-    HeaderError, HeaderMap, HeaderName, HeaderValue, NATS_BATCH_COMMIT_EOB, NATS_MESSAGE_ID,
+    HeaderError, HeaderMap, HeaderName, HeaderValue, IntoHeaderValue, NATS_BATCH_COMMIT_EOB,
+    NATS_BATCH_COMMIT_FINAL, NATS_MESSAGE_ID, NATS_SCHEDULE_DAILY, NATS_SCHEDULE_HOURLY,
+    NATS_SCHEDULE_MONTHLY, NATS_SCHEDULE_ROLLUP_SUB, NATS_SCHEDULE_WEEKLY, NATS_SCHEDULE_YEARLY,
 };
 use nats_names::NoMemory;
 use std::alloc::Global;
@@ -7,7 +9,7 @@ use std::test::Fail;
 
 fn name_keeps_text(alloc: Global, text: &str) -> Result<bool, HeaderError> {
     let name = HeaderName::parse(alloc, text)?;
-    Ok(name.copy()? == name && name.as_str() == text)
+    Ok(name.copy(alloc)? == name && name.as_str() == text)
 }
 
 #[test]
@@ -20,13 +22,59 @@ fn a_name_has_visible_characters_but_no_colon(rt: HostRuntime) -> Result<(), Fai
         assert!(rt; name_keeps_text(alloc, text) == Err(HeaderError::Name));
     }
     assert!(rt; HeaderName::from_static("Key") != HeaderName::from_static("key"));
-    assert!(rt; NATS_MESSAGE_ID().as_str() == "Nats-Msg-Id" && NATS_BATCH_COMMIT_EOB == "eob");
+    assert!(rt; NATS_MESSAGE_ID().as_str() == "Nats-Msg-Id");
     Ok(())
+}
+
+#[test]
+fn known_texts_are_those_of_the_protocol(rt: HostRuntime) {
+    for (known, text) in [
+        (NATS_BATCH_COMMIT_FINAL, "1"),
+        (NATS_BATCH_COMMIT_EOB, "eob"),
+        (NATS_SCHEDULE_ROLLUP_SUB, "sub"),
+        (NATS_SCHEDULE_YEARLY, "@yearly"),
+        (NATS_SCHEDULE_MONTHLY, "@monthly"),
+        (NATS_SCHEDULE_WEEKLY, "@weekly"),
+        (NATS_SCHEDULE_DAILY, "@daily"),
+        (NATS_SCHEDULE_HOURLY, "@hourly"),
+    ] {
+        assert!(rt; known == text);
+    }
 }
 
 fn value_keeps_text(alloc: Global, text: &str) -> Result<bool, HeaderError> {
     let value = HeaderValue::parse(alloc, text)?;
-    Ok(value.copy()? == value && value.as_str() == text)
+    Ok(value.copy(alloc)? == value && value.as_str() == text)
+}
+
+// The value that a conversion answers has the text `text`, and so has what the value itself converts to.
+fn converts<V: IntoHeaderValue>(alloc: Global, source: V, text: &str) -> Result<bool, HeaderError> {
+    let value = source.into_header_value(alloc)?;
+    Ok(value.as_str() == text && value.into_header_value(alloc)?.as_str() == text)
+}
+
+fn owned(alloc: Global, text: &str) -> Result<String, HeaderError> {
+    String::from_str(alloc, text).map_err(|_| HeaderError::NoMemory)
+}
+
+#[test]
+fn a_text_becomes_a_value_where_it_is_one(rt: HostRuntime) -> Result<(), Fail> {
+    let alloc = rt.alloc();
+    for (text, is_value) in [
+        ("two words", true),
+        ("", true),
+        ("Foo\r", false),
+        ("\nFoo", false),
+    ] {
+        let expected = if is_value {
+            Ok(true)
+        } else {
+            Err(HeaderError::Value)
+        };
+        assert!(rt; converts(alloc, text, text) == expected);
+        assert!(rt; converts(alloc, owned(alloc, text)?, text) == expected);
+    }
+    Ok(())
 }
 
 #[test]
@@ -111,11 +159,7 @@ fn are_counted(alloc: Global, map: &HeaderMap, text: &str) -> Result<bool, NoMem
 fn two_values(alloc: Global) -> Result<HeaderMap, HeaderError> {
     let mut map = HeaderMap::new(alloc);
     map.append(alloc, "Key", "value")?;
-    map.append(
-        alloc,
-        String::from_str(alloc, "Key").map_err(|_| HeaderError::NoMemory)?,
-        "other",
-    )?;
+    map.append(alloc, owned(alloc, "Key")?, "other")?;
     Ok(map)
 }
 
@@ -183,7 +227,7 @@ fn from_names(alloc: Global, names: [&'static str; 3]) -> Result<HeaderMap, NoMe
 fn names_keep_the_order_of_their_insertion(rt: HostRuntime) -> Result<(), Fail> {
     let map = from_names(rt.alloc(), ["b", "a", "b"])?;
     assert!(rt; are_counted(rt.alloc(), &map, "b|a|")?);
-    assert!(rt; are_counted(rt.alloc(), &map.copy()?, "b|a|")?);
+    assert!(rt; are_counted(rt.alloc(), &map.copy(rt.alloc())?, "b|a|")?);
     let turned = from_names(rt.alloc(), ["a", "b", "a"])?;
     assert!(rt; turned == map && turned != HeaderMap::new(rt.alloc()));
     Ok(())

@@ -141,7 +141,7 @@ impl HeaderValue {
     }
 
     /// An equal value, which shares the bytes. Own call of this library, for the Rust's `Clone`.
-    pub fn copy(&self) -> Result<HeaderValue, NoMemory>
+    pub fn copy(&self, _alloc: Global) -> Result<HeaderValue, NoMemory>
         ensures { IfOk result (λ t. t ≡ self.now) }
     {
         Ok(HeaderValue {

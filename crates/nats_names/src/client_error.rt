@@ -4,6 +4,7 @@ ghost use Rattle.nats_names.specs.Errors.{client_error_text, callback_error_text
 ghost use Rattle.nats_names.specs.declared.client_error.CallbackError.TheVariants as callback;
 
 use crate::{NoMemory, ServerError, Text};
+use std::alloc::Global;
 use std::error::Error;
 use std::fmt;
 
@@ -20,11 +21,11 @@ pub enum ClientError {
 
 impl ClientError {
     /// An equal error. Own call of this library, for the Rust's `Clone`.
-    pub fn copy(&self) -> Result<ClientError, NoMemory>
+    pub fn copy(&self, alloc: Global) -> Result<ClientError, NoMemory>
         ensures { IfOk result (λ error. error ≡ self.now) }
     {
         Ok(match self {
-            ClientError::Other(text) => ClientError::Other(text.copy()?),
+            ClientError::Other(text) => ClientError::Other(text.copy(alloc)?),
             ClientError::MaxReconnects => ClientError::MaxReconnects,
             ClientError::ServerNotInPool => ClientError::ServerNotInPool,
         })
@@ -58,12 +59,12 @@ pub enum CallbackError {
 
 impl CallbackError {
     /// An equal error. Own call of this library, for the Rust's `Clone`.
-    pub fn copy(&self) -> Result<CallbackError, NoMemory>
+    pub fn copy(&self, alloc: Global) -> Result<CallbackError, NoMemory>
         ensures { IfOk result (λ error. error ≡ self.now) }
     {
         Ok(match self {
-            CallbackError::Client(error) => CallbackError::Client(error.copy()?),
-            CallbackError::Server(error) => CallbackError::Server(error.copy()?),
+            CallbackError::Client(error) => CallbackError::Client(error.copy(alloc)?),
+            CallbackError::Server(error) => CallbackError::Server(error.copy(alloc)?),
         })
     }
 }

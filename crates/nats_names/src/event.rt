@@ -3,6 +3,7 @@ ghost use Rattle.std.specs.Prelude.{◌≡◌, IfOk, Some};
 ghost use Rattle.nats_names.specs.Events.{event_text};
 
 use crate::{ClientError, NoMemory, ServerError};
+use std::alloc::Global;
 use std::fmt;
 
 /// What happened to a session, oldest first. The crate's `Event`.
@@ -28,7 +29,7 @@ pub enum Event {
 
 impl Event {
     /// An equal event. Own call of this library, for the Rust's `Clone`.
-    pub fn copy(&self) -> Result<Event, NoMemory>
+    pub fn copy(&self, alloc: Global) -> Result<Event, NoMemory>
         ensures { IfOk result (λ event. event ≡ self.now) }
     {
         Ok(match self {
@@ -38,8 +39,8 @@ impl Event {
             Event::Draining => Event::Draining,
             Event::Closed => Event::Closed,
             Event::SlowConsumer(sid) => Event::SlowConsumer(*sid),
-            Event::ServerError(error) => Event::ServerError(error.copy()?),
-            Event::ClientError(error) => Event::ClientError(error.copy()?),
+            Event::ServerError(error) => Event::ServerError(error.copy(alloc)?),
+            Event::ClientError(error) => Event::ClientError(error.copy(alloc)?),
         })
     }
 }

@@ -34,3 +34,13 @@ impl<T: Drop> From<AllocFailed<T>> for NoMemory {
 /// An object of the outside (a source, a sink, a link) failed; the object counts how often.
 #[derive(Clone, Copy, Debug, PartialEq, Eq)]
 pub struct Failed;
+
+impl fmt::Display for Failed {
+    ghost output = { λ _. Some (codes "failed outside") };
+
+    fn fmt<W: fmt::Write>(&self, f: &mut fmt::Formatter<W>) -> fmt::Result {
+        write!(f, "failed outside")
+    }
+}
+
+impl Error for Failed {}

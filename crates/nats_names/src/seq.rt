@@ -49,7 +49,7 @@ impl<T> Seq<T> {
 
 impl<T: Drop> Seq<T> {
     /// Puts `item` last.
-    pub fn push(&mut self, item: T) -> Result<(), NoMemory>
+    pub fn push(&mut self, _alloc: Global, item: T) -> Result<(), NoMemory>
         ensures ok { OnOk result (self.new ≡ self.old ++ item ∷ []) }
         ensures err { OnErr result (self.new ≡ self.old) }
     {

@@ -3,6 +3,7 @@ ghost use Rattle.std.specs.Prelude.{◌≡◌, IfOk, Some};
 ghost use Rattle.nats_names.specs.Errors.{server_error_text};
 
 use crate::{NoMemory, Text};
+use std::alloc::Global;
 use std::error::Error;
 use std::fmt;
 
@@ -19,13 +20,13 @@ pub enum ServerError {
 
 impl ServerError {
     /// An equal error. Own call of this library, for the Rust's `Clone`.
-    pub fn copy(&self) -> Result<ServerError, NoMemory>
+    pub fn copy(&self, alloc: Global) -> Result<ServerError, NoMemory>
         ensures { IfOk result (λ error. error ≡ self.now) }
     {
         Ok(match self {
             ServerError::AuthorizationViolation => ServerError::AuthorizationViolation,
             ServerError::SlowConsumer(sid) => ServerError::SlowConsumer(*sid),
-            ServerError::Other(text) => ServerError::Other(text.copy()?),
+            ServerError::Other(text) => ServerError::Other(text.copy(alloc)?),
         })
     }
 }

@@ -145,7 +145,7 @@ impl Subject {
     }
 
     /// An equal subject, which shares the bytes. Own call of this library, for the Rust's `Clone`.
-    pub fn copy(&self) -> Result<Subject, NoMemory>
+    pub fn copy(&self, _alloc: Global) -> Result<Subject, NoMemory>
         ensures { IfOk result (λ t. t ≡ self.now) }
     {
         Ok(Subject {
@@ -213,8 +213,8 @@ pub trait ToSubject {
 impl ToSubject for Subject {
     ghost subject_text = { λ s. s };
 
-    fn to_subject(&self, _alloc: Global) -> Result<Subject, NoMemory> {
-        self.copy()
+    fn to_subject(&self, alloc: Global) -> Result<Subject, NoMemory> {
+        self.copy(alloc)
     }
 }
 

@@ -1,5 +1,5 @@
 use crate::{
-    AddrError, AuthError, Bytes, CallbackError, Cause, ClientError, Error, Event,
+    AddrError, AuthError, Bytes, CallbackError, Cause, ClientError, Error, Event, Failed,
     InvalidStatusCode, NoMemory, OpWord, Seq, ServerError, State, StatusCode, Subject,
     SubjectError, Text, ToSubject, Token,
 };
@@ -36,7 +36,7 @@ fn has_text<S: ToSubject>(alloc: Global, source: &S) -> Result<bool, NoMemory> {
 }
 
 fn keeps_text(alloc: Global, subject: Subject) -> Result<bool, NoMemory> {
-    let is_same = subject.copy()? == subject && subject < Subject::from_static("a.c");
+    let is_same = subject.copy(alloc)? == subject && subject < Subject::from_static("a.c");
     Ok(is_same && has_text(alloc, &subject)? && has_text(alloc, &subject.into_string(alloc)?)?)
 }
 
@@ -111,7 +111,7 @@ fn prints<T: Display>(alloc: Global, value: &T, text: &str) -> Result<bool, NoMe
 }
 
 fn prints_event(alloc: Global, event: Event, text: &str) -> Result<bool, NoMemory> {
-    Ok(event.copy()? == event && prints(alloc, &event, text)?)
+    Ok(event.copy(alloc)? == event && prints(alloc, &event, text)?)
 }
 
 fn prints_error<E: Into<CallbackError>>(
@@ -120,7 +120,7 @@ fn prints_error<E: Into<CallbackError>>(
     text: &str,
 ) -> Result<bool, NoMemory> {
     let error: CallbackError = error.into();
-    Ok(error.copy()? == error && prints(alloc, &error, text)?)
+    Ok(error.copy(alloc)? == error && prints(alloc, &error, text)?)
 }
 
 #[test]
@@ -146,6 +146,10 @@ fn small_values_print_their_texts(rt: HostRuntime) -> Result<(), Fail> {
     assert!(rt; prints(alloc, &StatusCode::TIMEOUT, "408")?);
     assert!(rt; prints(alloc, &InvalidStatusCode, "invalid status code")?);
     assert!(rt;
+        prints(alloc, &NoMemory, "out of memory")? && prints(alloc, &Failed, "failed outside")?
+    );
+    assert!(rt; format!(in alloc; "{:?}", StatusCode::TIMEOUT)?.as_str() == "408");
+    assert!(rt;
         prints(
             alloc,
             &SubjectError::InvalidFormat,
@@ -159,8 +163,8 @@ fn small_values_print_their_texts(rt: HostRuntime) -> Result<(), Fail> {
 #[test]
 fn a_list_keeps_the_order_of_its_items(rt: HostRuntime) -> Result<(), Fail> {
     let mut list = Seq::new(rt.alloc());
-    list.push(1u8)?;
-    list.push(2)?;
+    list.push(rt.alloc(), 1u8)?;
+    list.push(rt.alloc(), 2)?;
     let copy = list.clone()?;
     assert!(rt; list.as_slice() == [1, 2].as_slice() && list == copy);
     Ok(())

@@ -50,7 +50,7 @@ impl Text {
     }
 
     /// An equal text, which shares the bytes.
-    pub fn copy(&self) -> Result<Text, NoMemory>
+    pub fn copy(&self, _alloc: Global) -> Result<Text, NoMemory>
         ensures { IfOk result (λ t. t ≡ self.now) }
     {
         Ok(Text {

@@ -14,10 +14,10 @@ use std::alloc::Global;
 use std::marker::Model;
 
 /// The number of waiting bytes from which on the write buffer counts as full. The crate's limit.
-pub const WRITE_BUF_LIMIT: usize = 65_535;
+pub const SOFT_WRITE_BUF_LIMIT: usize = 65_535;
 
 /// An operation at the front of the unread bytes, and how many bytes it takes there.
-#[derive(Drop)]
+#[derive(Debug, Drop, PartialEq, Eq)]
 pub struct Peeked {
     pub op: ServerOp,
     pub len: usize,
@@ -50,7 +50,7 @@ impl Connection {
     }
 
     /// Appends bytes that the server sent, whole.
-    pub fn feed(&mut self, bytes: &[u8]) -> Result<(), NoMemory>
+    pub fn feed(&mut self, _alloc: Global, bytes: &[u8]) -> Result<(), NoMemory>
         ensures ok { OnOk result (self.new ≡ record self.old { unread = self.old.unread ++ bytes.now }) }
         ensures err { OnErr result (self.new ≡ self.old) }
     {
@@ -85,6 +85,13 @@ impl Connection {
     {
         let front = decode::front_of(self.read_buf.as_slice());
         matches!(front, Front::Unfinished)
+    }
+
+    /// The number of unread bytes. Own call.
+    pub fn unread(&self) -> usize
+        ensures { result ≡ length self.now.unread }
+    {
+        self.read_buf.len()
     }
 
     /// Takes the first `n` unread bytes away. Own call, for use after `peek_op`.
@@ -135,11 +142,11 @@ impl Connection {
         self.write_buf.len()
     }
 
-    /// Whether `WRITE_BUF_LIMIT` bytes or more wait to be written. The crate's call.
+    /// Whether `SOFT_WRITE_BUF_LIMIT` bytes or more wait to be written. The crate's call.
     pub fn is_write_buf_full(&self) -> bool
-        ensures { result ≡ nat_le 65535 (length self.now.waiting) }
+        ensures { result ≡ nat_le SOFT_WRITE_BUF_LIMIT (length self.now.waiting) }
     {
-        self.pending() >= WRITE_BUF_LIMIT
+        self.pending() >= SOFT_WRITE_BUF_LIMIT
     }
 
     /// The bytes that wait to be written. Own call.

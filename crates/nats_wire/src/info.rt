@@ -6,27 +6,45 @@ use nats_names::{NoMemory, Seq, Text};
 use std::alloc::Global;
 
 /// The server's INFO. The crate's `ServerInfo`, its fields by the names of the protocol.
-#[derive(Drop)]
+#[derive(Debug, Drop, PartialEq, Eq)]
 pub struct ServerInfo {
+    /// The server's id, by which it knows itself.
     pub server_id: Text,
+    /// The server's name, as its owner gave it.
     pub server_name: Text,
+    /// The address that the server listens at.
     pub host: Text,
+    /// The port that the server listens at.
     pub port: u16,
+    /// The server's version, as `2.10.18`.
     pub version: Text,
+    /// Whether the server wants to be told who the client is.
     pub auth_required: bool,
+    /// Whether the server wants TLS.
     pub tls_required: bool,
-    /// The greatest size of a message, in bytes.
+    /// The greatest size of a message in bytes that the server takes.
     pub max_payload: u64,
+    /// The version of the protocol: from 1 on the server may send a further INFO at any time.
     pub proto: i8,
+    /// The number that the server gave the client.
     pub client_id: u64,
+    /// The version of Go that the server was built with.
     pub go: Text,
+    /// What a client that proves who it is has to sign.
     pub nonce: Text,
+    /// The addresses of the cluster's servers that a client may connect to.
     pub connect_urls: Seq<Text>,
+    /// The client's own address, as the server sees it.
     pub client_ip: Text,
+    /// Whether the server takes messages with headers.
     pub headers: bool,
+    /// Whether the server is about to stop, and asks its clients to go elsewhere.
     pub lame_duck_mode: bool,
+    /// The name of the server's cluster, where it has one.
     pub cluster: Option<Text>,
+    /// The name of the server's JetStream domain, where it has one.
     pub domain: Option<Text>,
+    /// Whether the server has JetStream.
     pub jetstream: bool,
 }
 
@@ -63,13 +81,14 @@ impl ServerInfo {
         ensures { IfOk result (λ info. info ≡ self.now) }
     {
         let (server_id, server_name, host) = copy_three(
+            alloc,
             &self.server_id,
             &self.server_name,
             &self.host,
         )?;
-        let (version, go, nonce) = copy_three(&self.version, &self.go, &self.nonce)?;
-        let (cluster, domain) = copy_two(&self.cluster, &self.domain)?;
-        let client_ip = self.client_ip.copy()?;
+        let (version, go, nonce) = copy_three(alloc, &self.version, &self.go, &self.nonce)?;
+        let (cluster, domain) = copy_two(alloc, &self.cluster, &self.domain)?;
+        let client_ip = self.client_ip.copy(alloc)?;
         let connect_urls = copy_texts(alloc, self.connect_urls.as_slice())?;
         Ok(ServerInfo {
             server_id,
@@ -95,25 +114,29 @@ impl ServerInfo {
     }
 }
 
-fn copy_text(text: &Option<Text>) -> Result<Option<Text>, NoMemory>
+fn copy_text(alloc: Global, text: &Option<Text>) -> Result<Option<Text>, NoMemory>
     ensures { IfOk result (λ t. t ≡ text.now) }
 {
     match text {
-        Some(text) => Ok(Some(text.copy()?)),
+        Some(text) => Ok(Some(text.copy(alloc)?)),
         None => Ok(None),
     }
 }
 
-fn copy_two(a: &Option<Text>, b: &Option<Text>) -> Result<(Option<Text>, Option<Text>), NoMemory>
+fn copy_two(
+    alloc: Global,
+    a: &Option<Text>,
+    b: &Option<Text>,
+) -> Result<(Option<Text>, Option<Text>), NoMemory>
     ensures { IfOk result (λ copies. copies ≡ (a.now, b.now)) }
 {
-    Ok((copy_text(a)?, copy_text(b)?))
+    Ok((copy_text(alloc, a)?, copy_text(alloc, b)?))
 }
 
-fn copy_three(a: &Text, b: &Text, c: &Text) -> Result<(Text, Text, Text), NoMemory>
+fn copy_three(alloc: Global, a: &Text, b: &Text, c: &Text) -> Result<(Text, Text, Text), NoMemory>
     ensures { IfOk result (λ copies. copies ≡ (a.now, b.now, c.now)) }
 {
-    Ok((a.copy()?, b.copy()?, c.copy()?))
+    Ok((a.copy(alloc)?, b.copy(alloc)?, c.copy(alloc)?))
 }
 
 fn copy_texts(alloc: Global, texts: &[Text]) -> Result<Seq<Text>, NoMemory>
@@ -121,7 +144,7 @@ fn copy_texts(alloc: Global, texts: &[Text]) -> Result<Seq<Text>, NoMemory>
 {
     let mut copies = Seq::new(alloc);
     for text in texts {
-        copies.push(text.copy()?)?;
+        copies.push(alloc, text.copy(alloc)?)?;
     }
     Ok(copies)
 }

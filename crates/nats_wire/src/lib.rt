@@ -10,7 +10,7 @@ pub mod laws;
 mod message;
 mod op;
 
-pub use connection::{Connection, Peeked, WRITE_BUF_LIMIT};
+pub use connection::{Connection, Peeked, SOFT_WRITE_BUF_LIMIT};
 pub use info::ServerInfo;
 pub use message::{Message, OutboundMessage, copy_subject};
 pub use nats_names::{Bytes, Event, NoMemory, Seq, Subject, Text, Token};

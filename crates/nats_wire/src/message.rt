@@ -2,9 +2,10 @@
 ghost use Rattle.std.specs.Prelude.{◌≡◌, IfOk, option_map};
 
 use nats_names::{Bytes, NoMemory, Subject};
+use std::alloc::Global;
 
 /// A message that the server delivered. The crate's `Message`.
-#[derive(Drop)]
+#[derive(Debug, Drop, PartialEq, Eq)]
 pub struct Message {
     /// What it is about.
     pub subject: Subject,
@@ -17,7 +18,7 @@ pub struct Message {
 }
 
 /// A message to be published. The crate's `OutboundMessage`.
-#[derive(Drop)]
+#[derive(Debug, Drop, PartialEq, Eq)]
 pub struct OutboundMessage {
     /// What it is about.
     pub subject: Subject,
@@ -28,23 +29,23 @@ pub struct OutboundMessage {
 }
 
 /// An equal subject where there is one.
-pub fn copy_subject(subject: &Option<Subject>) -> Result<Option<Subject>, NoMemory>
+pub fn copy_subject(alloc: Global, subject: &Option<Subject>) -> Result<Option<Subject>, NoMemory>
     ensures { IfOk result (λ s. s ≡ subject.now) }
 {
     match subject {
-        Some(subject) => Ok(Some(subject.copy()?)),
+        Some(subject) => Ok(Some(subject.copy(alloc)?)),
         None => Ok(None),
     }
 }
 
 impl Message {
     /// An equal message, which shares the bytes.
-    pub fn copy(&self) -> Result<Message, NoMemory>
+    pub fn copy(&self, alloc: Global) -> Result<Message, NoMemory>
         ensures { IfOk result (λ m. m ≡ self.now) }
     {
         Ok(Message {
-            subject: self.subject.copy()?,
-            reply: copy_subject(&self.reply)?,
+            subject: self.subject.copy(alloc)?,
+            reply: copy_subject(alloc, &self.reply)?,
             payload: self.payload.clone()?,
             length: self.length,
         })
@@ -53,12 +54,12 @@ impl Message {
 
 impl OutboundMessage {
     /// An equal message, which shares the bytes.
-    pub fn copy(&self) -> Result<OutboundMessage, NoMemory>
+    pub fn copy(&self, alloc: Global) -> Result<OutboundMessage, NoMemory>
         ensures { IfOk result (λ m. m ≡ self.now) }
     {
         Ok(OutboundMessage {
-            subject: self.subject.copy()?,
-            reply: copy_subject(&self.reply)?,
+            subject: self.subject.copy(alloc)?,
+            reply: copy_subject(alloc, &self.reply)?,
             payload: self.payload.clone()?,
         })
     }

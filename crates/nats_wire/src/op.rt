@@ -1,12 +1,15 @@
 //! Operations: what a server sends, and what a client sends.
-ghost use Rattle.std.specs.Prelude.{◌≡◌};
+ghost use Rattle.std.specs.Prelude.{◌≡◌, Some};
+ghost use Rattle.nats_wire.specs.Wire.{wire_error_text};
 ghost use Rattle.nats_wire.specs.declared.op.WireError.TheVariants as refused;
 
 use crate::message::Message;
 use nats_names::{Bytes, NoMemory, Subject};
+use std::error::Error;
+use std::fmt;
 
 /// An operation read from the server, by the NATS client protocol. The crate's `ServerOp`.
-#[derive(Drop)]
+#[derive(Debug, Drop, PartialEq, Eq)]
 pub enum ServerOp {
     /// The protocol's `+OK`: the server took what the client sent.
     Ok,
@@ -19,7 +22,7 @@ pub enum ServerOp {
 }
 
 /// An operation for the server, by the NATS client protocol. The crate's `ClientOp`.
-#[derive(Drop)]
+#[derive(Debug, Drop, PartialEq, Eq)]
 pub enum ClientOp {
     /// The protocol's `SUB`: asks for the messages of `subject`, under the number `sid`, shared with the others of the queue group.
     Subscribe {
@@ -47,6 +50,19 @@ pub enum WireError {
     /// Want of memory: nothing was read.
     NoMemory,
 }
+
+impl fmt::Display for WireError {
+    ghost output = { λ error. Some (wire_error_text error) };
+
+    fn fmt<W: fmt::Write>(&self, f: &mut fmt::Formatter<W>) -> fmt::Result {
+        match self {
+            WireError::ReadFault => write!(f, "invalid server operation"),
+            WireError::NoMemory => write!(f, "out of memory"),
+        }
+    }
+}
+
+impl Error for WireError {}
 
 impl From<NoMemory> for WireError {
     ghost from_gives = { λ _ e. e ≡ refused.NoMemory };

@@ -6,7 +6,7 @@ use std::test::Fail;
 
 fn fed(alloc: Global, text: &[u8]) -> Result<Connection, NoMemory> {
     let mut connection = Connection::new(alloc);
-    connection.feed(text)?;
+    connection.feed(alloc, text)?;
     Ok(connection)
 }
 
@@ -26,11 +26,11 @@ fn subscribe(alloc: Global, queue_group: Option<&str>, sid: u64) -> Result<Clien
 fn a_message_is_read_at_its_last_byte(rt: HostRuntime) -> Result<(), Fail> {
     let mut connection = Connection::new(rt.alloc());
     for byte in b"MSG a 1 2\r\nhi\r" {
-        connection.feed(&[*byte])?;
+        connection.feed(rt.alloc(), &[*byte])?;
         assert!(rt; connection.is_unfinished());
         assert!(rt; connection.try_read_op(rt.alloc())?.is_none());
     }
-    connection.feed(b"\n")?;
+    connection.feed(rt.alloc(), b"\n")?;
     assert!(rt; !connection.is_unfinished());
     assert!(rt; connection.try_read_op(rt.alloc())?.is_some());
     assert!(rt; connection.is_unfinished());
@@ -217,7 +217,7 @@ fn greeting(alloc: Global) -> Result<OutboundMessage, NoMemory> {
 #[test]
 fn a_message_can_be_copied(rt: HostRuntime) -> Result<(), Fail> {
     let message = greeting(rt.alloc())?;
-    let copy = message.copy()?;
+    let copy = message.copy(rt.alloc())?;
     assert_eq!(rt; copy.payload.as_slice(), b"hi".as_slice());
     Ok(())
 }
