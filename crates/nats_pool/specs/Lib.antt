@@ -1,0 +1,6 @@
+pub mod Auths
+pub mod Delays
+pub mod Errors
+pub mod Pools
+pub mod Rounds
+pub mod Servers
