@@ -39,6 +39,7 @@ pub record IsOrdered (before : List Planned) (numbers : Stream) (after : List Pl
   pub mid : List Planned
   pub drawn : (mid, left) ≡ shuffled before 0 numbers
   pub sorted : IsStablySorted mid after
+  pub permutation : IsPermutation before after
 
 -- the order of a round of all servers: that of the pool where it is retained
 abbrev pub IsDefaultOrder : Bool → List Planned → Stream → List Planned → Stream → Type 0

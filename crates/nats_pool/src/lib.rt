@@ -2,8 +2,10 @@
 #![tactic(auto)]
 
 mod auth;
+mod build;
 mod callbacks;
 mod choose;
+mod connect_options;
 mod delay;
 mod pool;
 mod pool_error;
@@ -18,6 +20,7 @@ pub use auth::Auth;
 pub use callbacks::{
     AuthBox, AuthFn, ChoiceBox, ChoiceFn, DelayBox, DelayFn, EventBox, EventFn, SignerBox, SignerFn,
 };
+pub use connect_options::ConnectOptions;
 pub use delay::reconnect_delay_default;
 pub use nats_addr::{
     AskWord, FakeResolver, ResolveError, Resolver, ServerAddr, SocketAddrs, ToServerAddrs, Url,
