@@ -82,7 +82,7 @@ AnswersAll (Err NoMemory) expected = Unit {0}
 abbrev pub is_tls : Parts → Bool
 is_tls addr = bytes_eq addr.scheme (codes "tls")
 
-abbrev pub is_websocket : Parts → Bool
+unfoldable pub is_websocket : Parts → Bool
 is_websocket addr = bytes_eq addr.scheme (codes "ws") || bytes_eq addr.scheme (codes "wss")
 
 -- a host without the brackets of an IPv6 address

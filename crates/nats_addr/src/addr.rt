@@ -161,6 +161,7 @@ impl ServerAddr {
     }
 
     /// Whether the scheme is `ws` or `wss`. The crate's call.
+    #[tactic(auto, unfolding(crate::specs::Addr::is_websocket))]
     pub fn is_websocket(&self) -> bool
         ensures { result ≡ is_websocket self.now }
     {

@@ -1,0 +1,7 @@
+pub mod Auths
+pub mod Delays
+pub mod Errors
+pub mod Options
+pub mod Pools
+pub mod Rounds
+pub mod Servers
