@@ -61,23 +61,35 @@ fn a_list_of_turns_is_played_to_its_transcript(rt: HostRuntime) -> Result<(), Fa
 
 // ---- values
 
-fn print(alloc: Global, error: RunError) -> Result<String, Fail> {
-    Ok(format!(in alloc; "{error}")?)
+fn turn_is_copied(alloc: Global) -> Result<bool, NoMemory> {
+    let turn = Turn::Do(subscribe(alloc)?);
+    Ok(turn.copy(alloc)? == turn)
+}
+
+fn replies_are_copied(alloc: Global) -> Result<bool, NoMemory> {
+    let reply = CallReply::Numbered(7);
+    let empty = TakeReply::Empty;
+    Ok(reply.copy(alloc)? == reply && empty.copy(alloc)? == empty)
+}
+
+fn capacity_of_copy(alloc: Global, rt: &impl Abort) -> Result<u64, NoMemory> {
+    let config = settings(alloc, rt)?;
+    Ok(config.copy(alloc)?.client_capacity)
 }
 
 #[test]
-fn copies_are_equal_and_refusals_print_themselves(rt: HostRuntime) -> Result<(), Fail> {
-    let alloc = rt.alloc();
-    let config = settings(alloc, &rt)?;
-    assert_eq!(rt; config.copy(alloc)?.client_capacity, 2048);
-    let turn = Turn::Do(subscribe(alloc)?);
-    assert_eq!(rt; turn.copy(alloc)?, turn);
-    let reply = CallReply::Numbered(7);
-    assert_eq!(rt; reply.copy(alloc)?, reply);
-    assert_eq!(rt; TakeReply::Empty.copy(alloc)?, TakeReply::Empty);
-    let refused = print(alloc, RunError::OutOfTurn { place: 3 })?;
-    assert_eq!(rt; refused.as_str(), "turn 3 may not come there");
-    assert_eq!(rt; print(alloc, RunError::NoMemory)?.as_str(), "out of memory");
+fn copies_are_equal(rt: HostRuntime) -> Result<(), Fail> {
+    assert!(rt; turn_is_copied(rt.alloc())?);
+    assert!(rt; replies_are_copied(rt.alloc())?);
+    assert_eq!(rt; capacity_of_copy(rt.alloc(), &rt)?, 2048);
+    Ok(())
+}
+
+#[test]
+fn a_refusal_prints_itself(rt: HostRuntime) -> Result<(), Fail> {
+    let refused = RunError::OutOfTurn { place: 3 };
+    let text = format!(in rt.alloc(); "{refused}")?;
+    assert_eq!(rt; text.as_str(), "turn 3 may not come there");
     Ok(())
 }
 
