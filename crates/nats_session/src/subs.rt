@@ -12,9 +12,8 @@ use nats_history::{Config, Message, NoMemory};
 use nats_tables::Table;
 use std::alloc::Global;
 use std::marker::Model;
-use subscription::{Arrival, Open, Subscription, Take};
-
 pub use subscription::Delivery;
+use subscription::{Arrival, Open, Subscription, Take};
 
 /// The subscriptions by their numbers, from 1.
 #[derive(Drop)]

@@ -108,6 +108,7 @@ module _ {A : Type 0} (overs : A → Bool) (gone : A) (given : ℕ) (es : List (
     where
       there : ((0 < k) × (k ≤ given)) → kept_row overs (item_of k (rows_in gone given es)) ≡ kept_row overs (Some (row_in gone es k))
       there low = ap (kept_row overs) (item_there (row_in gone es) given k low.0 low.1)
+
       by : (o : Option A) → look k es ≡ o → IfSome o (Stays overs given k) → ((0 < k) × (k ≤ given)) ⊎ ((k ≡ 0) ⊎ (given < k)) → look k es ≡ kept_row overs (item_of k (rows_in gone given es))
       by None is stays (inr apart) = is ∙ sym (ap (kept_row overs) (no_row gone given es k apart))
       by None is stays (inl low) =
