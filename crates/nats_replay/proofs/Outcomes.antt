@@ -31,6 +31,12 @@ played held before after bytes (Err NoMemory) read h = tt
 played held before after bytes (Err ReadFault) read h = absurd h
 played held before after bytes (Err TooLong) read h = absurd h
 
+-- a script that can be played ends with its transcript
+plays_out : (ending : Ending) (bytes text : List ℕ) → Prints ending bytes text → IsPlayable bytes → status_of_ending ending ≡ 0
+plays_out Transcript bytes text prints playable = refl
+plays_out Unreadable bytes text prints playable = absurd (bad_or_good (sym prints.2.0 ∙ playable.2.2.2.0))
+plays_out OutOfTurn bytes text prints playable = absurd (cc)
+
 -- ---- words
 
 pub one_word : {A : Type 0} (text : A → List ℕ) (words : List A) (word : A) → 1 ≤ length words → length words < 2 → word ≡ get_or words 0 word → map text words ≡ text word ∷ []

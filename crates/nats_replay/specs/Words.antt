@@ -6,11 +6,11 @@ use Rattle.nats_history.specs.declared.config.Config.{Config}
 use Rattle.nats_history.specs.declared.turn.Turn.{Turn}
 use Rattle.nats_history.specs.Schedule.{out_of_turn}
 use Rattle.nats_history.specs.Transcripts.{transcript}
-use Rattle.nats_replay.specs.declared.script.Script.TheVariants.{Good, Bad}
+use Rattle.nats_script.specs.declared.script.Script.TheVariants.{Good, Bad}
 use Rattle.nats_replay.specs.declared.top.Ending.{Ending}
 use Rattle.nats_replay.specs.declared.top.Ending.TheVariants.{Transcript, Unreadable, OutOfTurn}
-use Rattle.nats_replay.specs.Printed.{lf, printed}
-use Rattle.nats_replay.specs.Script.{script}
+use Rattle.nats_script.specs.Printed.{lf, printed}
+use Rattle.nats_script.specs.Script.{script}
 use Rattle.nats_replay.specs.declared.whole.TheConstants.{SCRIPT_LIMIT}
 
 -- the words that play a script: the one word `run`
