@@ -1,7 +1,7 @@
 -- The lines of a script, one at a time.
 use Rattle.std.proofs.Common.{◌≡◌, ℕ, suc, ◌+◌, List, [], ◌∷◌, ◌++◌, Option, Some, Result, Ok, Err, refl, sym, ap, ◌∙◌, append_assoc, add-one}
 use Rattle.nats_history.specs.declared.turn.Turn.{Turn}
-use Rattle.nats_script.specs.Script.{lines_of, onto_turns, built_turn, turn_of_line, turns_from}
+use Rattle.nats_script.specs.Script.{lines_of, onto_turns, turn_of_line, turns_from}
 use Rattle.nats_script.specs.Cut.{IsFirstLine}
 
 abbrev Read : Type 0
@@ -20,12 +20,12 @@ onto_read_turn front k turn (Ok more) = ap (λ (x : List Turn). let r : Read = O
 onto_read_turn front k turn (Err line) = refl
 
 first_of : (k : ℕ) (text line rest : List ℕ) → IsFirstLine text line rest
-    → turns_from k (lines_of text) ≡ onto_turns k (built_turn (turn_of_line line)) (turns_from (suc k) (lines_of rest))
+    → turns_from k (lines_of text) ≡ onto_turns k (turn_of_line line) (turns_from (suc k) (lines_of rest))
 first_of k text line rest first = ap (turns_from k) first.lines
 
 -- one more line was read
 pub read_more : (total : Result (List Turn) ℕ) (front : List Turn) (k : ℕ) (text line rest : List ℕ) (turn : Turn) → IsFirstLine text line rest
-    → some turn ≡ built_turn (turn_of_line line) → total ≡ onto_read front (turns_from k (lines_of text))
+    → some turn ≡ turn_of_line line → total ≡ onto_read front (turns_from k (lines_of text))
     → total ≡ onto_read (front ++ turn ∷ []) (turns_from (k + 1) (lines_of rest))
 read_more total front k text line rest turn first is so_far =
     so_far ∙ ap (onto_read front) (first_of k text line rest first)

@@ -3,7 +3,7 @@ use Rattle.std.specs.Prelude.{ℕ, ◌+◌, ◌-◌, ◌*◌, ◌/◌, ◌%◌, 
 use Rattle.std.specs.Option.{option_map}
 use Rattle.std.specs.Char.{is_ascii_digit}
 use Rattle.std.specs.List.{flat_map, list_all}
-use Rattle.std.specs.Str.{is_utf8}
+use Rattle.std.specs.Str.{is_utf8, bytes_eq}
 use Rattle.std.specs.Str.Parse.{digits_value}
 use Rattle.nats_names.specs.Names.{is_token}
 
@@ -74,6 +74,10 @@ utf8_text bytes = if is_utf8 bytes then Some bytes else None
 -- the text that a field spells
 abbrev pub field_text : List ℕ → Option (List ℕ)
 field_text field = option_and_then utf8_text (field_bytes field)
+
+-- the text that a field spells, or `~` where it is absent
+abbrev pub field_optional : List ℕ → Option (Option (List ℕ))
+field_optional field = if bytes_eq field (codes "~") then Some None else option_map Some (field_text field)
 
 abbrev pub token_text : List ℕ → Option (List ℕ)
 token_text text = if is_token text then Some text else None

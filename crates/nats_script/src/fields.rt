@@ -3,11 +3,11 @@ ghost use Rattle.std.specs.Prelude.{◌≡◌, ◌<◌, length, IfOk, MatchOptio
 ghost use Rattle.std.specs.Option.{option_map};
 ghost use Rattle.std.specs.List.{list_all};
 ghost use Rattle.std.specs.Char.{is_ascii_digit};
-ghost use Rattle.nats_script.specs.Spelling.{hex_value, escaped, letters, field_bytes, utf8_text, field_text, field_token, has_leading_zero, is_numeral, field_number};
+ghost use Rattle.nats_script.specs.Spelling.{hex_value, escaped, letters, field_bytes, utf8_text, field_text, field_optional, field_token, has_leading_zero, is_numeral, field_number};
 ghost use Rattle.nats_script.specs.Cut.{IsLetter};
 
 use crate::spelling::is_plain;
-use nats_names::{NoMemory, Subject, Token};
+use nats_names::{Bytes, NoMemory, Subject, Token};
 use std::alloc::Global;
 use std::str;
 
@@ -66,6 +66,16 @@ pub fn field_bytes(alloc: Global, field: &[u8]) -> Result<Option<Vec<u8>>, NoMem
     }
 }
 
+/// The same, in a buffer that copies share.
+pub fn bytes_field(alloc: Global, field: &[u8]) -> Result<Option<Bytes>, NoMemory>
+    ensures { IfOk result (λ b. b ≡ field_bytes field.now) }
+{
+    match field_bytes(alloc, field)? {
+        Some(bytes) => Ok(Some(Bytes::from_vec(bytes)?)),
+        None => Ok(None),
+    }
+}
+
 fn utf8_text(alloc: Global, bytes: &[u8]) -> Result<Option<Subject>, NoMemory>
     ensures { IfOk result (λ s. s ≡ utf8_text bytes.now) }
 {
@@ -83,6 +93,16 @@ pub fn field_text(alloc: Global, field: &[u8]) -> Result<Option<Subject>, NoMemo
         Some(bytes) => utf8_text(alloc, bytes.as_slice()),
         None => Ok(None),
     }
+}
+
+/// The text that a field spells, as a subject, or none where the field is `~`; `None` where it spells no UTF-8 text.
+pub fn field_optional(alloc: Global, field: &[u8]) -> Result<Option<Option<Subject>>, NoMemory>
+    ensures { IfOk result (λ s. s ≡ field_optional field.now) }
+{
+    if field == b"~".as_slice() {
+        return Ok(Some(None));
+    }
+    Ok(field_text(alloc, field)?.map(Some))
 }
 
 /// The token that a field spells; `None` where it spells none.

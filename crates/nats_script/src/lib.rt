@@ -5,6 +5,7 @@
 mod cut;
 mod fields;
 mod print;
+mod publish_lines;
 mod read;
 mod script;
 mod spelling;
