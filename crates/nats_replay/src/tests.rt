@@ -57,7 +57,7 @@ fn a_turn_out_of_turn_is_refused(rt: HostRuntime) -> Result<(), Fail> {
     let text = "config 2048 65536 check _INBOX MUX1\nup 1048576\nsub a ~\npiece a%0D%0A\npiece a\n";
     let (status, sink) = played(rt.alloc(), text)?;
     assert_eq!(rt; status, 6);
-    assert!(rt; sink.bytes().is_empty());
+    assert_eq!(rt; sink.bytes(), b"turn 4 out of turn\n".as_slice());
     Ok(())
 }
 
@@ -66,15 +66,15 @@ fn a_second_link_is_out_of_turn(rt: HostRuntime) -> Result<(), Fail> {
     let text = "config 2048 65536 check P X\nup 1048576\nup 1048576\n";
     let (status, sink) = played(rt.alloc(), text)?;
     assert_eq!(rt; status, 6);
-    assert!(rt; sink.bytes().is_empty());
+    assert_eq!(rt; sink.bytes(), b"turn 2 out of turn\n".as_slice());
     Ok(())
 }
 
 #[test]
-fn a_line_in_no_form_prints_nothing(rt: HostRuntime) -> Result<(), Fail> {
+fn the_first_line_in_no_form_is_named(rt: HostRuntime) -> Result<(), Fail> {
     let (status, sink) = played(rt.alloc(), "config 2048 65536 check P X\nbogus\n")?;
     assert_eq!(rt; status, 5);
-    assert!(rt; sink.bytes().is_empty());
+    assert_eq!(rt; sink.bytes(), b"script line 2\n".as_slice());
     Ok(())
 }
 
