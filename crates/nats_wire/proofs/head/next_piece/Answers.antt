@@ -2,7 +2,7 @@
 use Rattle.std.proofs.Common.{Some, None, lit<, sym, ◌∙◌}
 use Rattle.std.proofs.lemmas.Str.Pattern.{split_once_first, split_parts}
 use Rattle.nats_wire.proofs.Pieces.{pieces_at_space, pieces_whole}
-use Rattle.nats_wire.proofs.decode.next_piece.Goals as goal
+use Rattle.nats_wire.proofs.head.next_piece.Goals as goal
 
 pub returns-then-not-is_empty : goal.returns-then-not-is_empty
 returns-then-not-is_empty c =

@@ -4,7 +4,7 @@ use Rattle.std.proofs.lemmas.List.{take_rest}
 use Rattle.nats_wire.specs.Decoder.{head_view}
 use Rattle.nats_wire.specs.Operations.{head_of}
 use Rattle.nats_wire.proofs.Pieces.{head_short}
-use Rattle.nats_wire.proofs.decode.front_of_message.Goals as goal
+use Rattle.nats_wire.proofs.decode.sight_of_message.Goals as goal
 
 pub message_text-message-requires : goal.message_text-message-requires
 message_text-message-requires c =

@@ -2,7 +2,7 @@
 use Rattle.std.proofs.Common.{◌≡◌, ap, sym, ◌∙◌}
 use Rattle.nats_wire.specs.Operations.{head_of_pieces, pieces_of}
 use Rattle.nats_wire.proofs.Pieces.{head_of_text, no_head}
-use Rattle.nats_wire.proofs.decode.read_head.Goals as goal
+use Rattle.nats_wire.proofs.head.read_head.Goals as goal
 
 pub returns-in-Ok : goal.returns-in-Ok
 returns-in-Ok c =
