@@ -22,11 +22,7 @@ pub fn text(alloc: Global, object: &Value, key: &str) -> Result<Text, InfoError>
 }
 
 /// The text under a key, `None` where the key is missing or has null.
-pub fn text_or_null(
-    alloc: Global,
-    object: &Value,
-    key: &str,
-) -> Result<Option<Text>, InfoError>
+pub fn text_or_null(alloc: Global, object: &Value, key: &str) -> Result<Option<Text>, InfoError>
     ensures { Gives (field text_or_null None (get key.now (view object.now))) result }
 {
     match object.get(key) {
@@ -52,7 +48,9 @@ fn texts_of(alloc: Global, values: &[Value]) -> Result<Seq<Text>, InfoError>
 {
     let mut texts = Seq::new(alloc);
     for value in values {
-        let text = value.as_str().ok_or(InfoError::Unreadable)?;
+        let Some(text) = value.as_str() else {
+            return Err(InfoError::Unreadable);
+        };
         texts.push(alloc, Text::from_text(alloc, text)?)?;
     }
     Ok(texts)
