@@ -1,12 +1,12 @@
 -- What happened to a session, and the words that tell of it.
 use Rattle.std.specs.Prelude.{ℕ, zero, suc, ◌+◌, ◌-◌, ◌^◌, Bool, true, false, not, ◌&&◌, ◌||◌, nat_lt, min, List, [], ◌∷◌, ◌++◌, length, drop, map, Option, Some, None, if◌then◌else◌}
 use Rattle.nats_names.specs.declared.event.Event.{Event}
-use Rattle.nats_names.specs.declared.event.Event.TheVariants.{Connected, Disconnected, SlowConsumer}
+use Rattle.nats_names.specs.declared.event.Event.TheVariants.{Connected, Disconnected, LameDuckMode, SlowConsumer, ServerError}
 use Rattle.nats_info.specs.declared.info.ServerInfo.{ServerInfo}
 use Rattle.nats_wire.specs.declared.message.Message.{Message}
 use Rattle.nats_wire.specs.declared.op.ClientOp.{ClientOp}
 use Rattle.nats_wire.specs.declared.op.ClientOp.TheVariants as client
-use Rattle.nats_wire.specs.Operations.{Operation, message, ping_op, Front, got, unfinished, fault, front, behind}
+use Rattle.nats_wire.specs.Operations.{Operation, message, info_op, error_op, ping_op, Front, got, unfinished, fault, front, behind}
 use Rattle.nats_wire.specs.Commands.{command_text}
 use Rattle.nats_history.specs.declared.config.Config.{Config}
 use Rattle.nats_history.specs.declared.call.Call.{Call}
@@ -308,11 +308,18 @@ abbrev pub drop_events : Config → ℕ → Option Sub → List Event
 drop_events c sid None = []
 drop_events c sid (Some sub) = if drops c sub then SlowConsumer sid ∷ [] else []
 
+-- an INFO of a server that is about to stop has an event
+abbrev pub info_events : Bool → List Event
+info_events true = LameDuckMode ∷ []
+info_events false = []
+
 -- the events that a step gives out, where these are the subscriptions before it
 abbrev pub new_events : Config → List Sub → Step → List Event
 new_events c subs (opened info) = Connected ∷ []
 new_events c subs (link_end word) = end_events word
 new_events c subs (read (message sid m)) = drop_events c sid (item_of sid subs)
+new_events c subs (read (error_op error)) = ServerError error ∷ []
+new_events c subs (read (info_op info)) = info_events info.lame_duck_mode
 new_events c subs step = []
 
 -- the events that a step gives out after a history

@@ -5,7 +5,7 @@ use nats_wire::{NoMemory, Subject, Token};
 use std::alloc::Global;
 
 /// The settings of a session, which stay as they are.
-#[derive(Drop)]
+#[derive(Debug, Drop, PartialEq, Eq)]
 pub struct Config {
     /// How many accepted calls may wait to be handled.
     pub client_capacity: u64,

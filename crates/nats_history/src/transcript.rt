@@ -17,7 +17,7 @@ pub enum LinkWord {
 }
 
 /// What happened on one link.
-#[derive(Drop)]
+#[derive(Debug, Drop, PartialEq, Eq)]
 pub struct LinkRow {
     /// How it ended, or that it is up.
     pub end: LinkWord,
@@ -28,7 +28,7 @@ pub struct LinkRow {
 }
 
 /// What happened to one subscription; each entry with its place, the number of its turn from 1.
-#[derive(Drop)]
+#[derive(Debug, Drop, PartialEq, Eq)]
 pub struct SubRow {
     /// The messages that were put into its queue.
     pub puts: Seq<(u64, Message)>,
@@ -39,7 +39,7 @@ pub struct SubRow {
 }
 
 /// All that a played list of turns showed; places are numbers of turns from 1.
-#[derive(Drop)]
+#[derive(Debug, Drop, PartialEq, Eq)]
 pub struct Transcript {
     /// The links in order.
     pub links: Seq<LinkRow>,

@@ -17,18 +17,10 @@ set_changed f (z ∷ zs) (suc i) x y less at e = ap (λ ws. z ∷ ws) (set_chang
 pub set_number : {A : Type 0} (f : A → A) (xs : List A) (k i : ℕ) (x y : A) → k ≡ suc i → i < length xs → x ≡ get_or xs i x → y ≡ f x → set xs i y ≡ at_number k f xs
 set_number f xs k i x y e less at changed = set_changed f xs i x y less at changed ∙ ap (λ n. at_number n f xs) (sym e)
 
-pub item_read : {A : Type 0} (xs : List A) (k i : ℕ) (x : A) → k ≡ suc i → i < length xs → x ≡ get_or xs i x → item_of k xs ≡ Some x
-item_read xs k i x e less at = ap (λ n. item_of n xs) e ∙ slice_get_read xs (length xs) i x refl less at
-
 pub number_missing : {A : Type 0} (f : A → A) (xs : List A) (k : ℕ) → (k ≡ 0) ⊎ (length xs < k) → at_number k f xs ≡ xs
 number_missing f xs k (inl z) = ap (λ n. at_number n f xs) z
 number_missing f xs zero (inr past) = refl
 number_missing f xs (suc i) (inr past) = at_index_past i f xs (omega arith)
-
-pub no_item : {A : Type 0} (xs : List A) (k : ℕ) → (k ≡ 0) ⊎ (length xs < k) → item_of k xs ≡ None
-no_item xs k (inl z) = ap (λ n. item_of n xs) z
-no_item xs zero (inr past) = refl
-no_item xs (suc i) (inr past) = slice_get_past xs i (omega arith)
 
 -- ---- all subscriptions, as a table of rows with a count of those subscribed
 

@@ -45,10 +45,6 @@ goes_on c turns i turn p p' sheet sheet' running less at good a b =
       written = ap (λ q. played_sheet (suc (suc i)) (drop (suc i) turns) q sheet') a ∙ (ap (played_sheet (suc (suc i)) (drop (suc i) turns) (turn_parts turn p)) b ∙ (sym (ap (λ ts. played_sheet (suc i) ts p sheet) next) ∙ running.written));
     }
 
--- a turn that may come may be played
-pub may_play : (p : Parts) (turn : Turn) → is_valid_turn p turn ≡ true → due p ≡ None → IsTrue (can_play p turn)
-may_play p turn valid none = rw (valid, none) refl
-
 pub ends_at : (c : Config) (turns : List Turn) (i : ℕ) (p : Parts) (sheet : Sheet) → Running c turns i p sheet → length turns ≤ i → (out_of_turn c turns ≡ None) × (finished p sheet ≡ transcript c turns)
 ends_at c turns i p sheet running past =
     let over = drop_all i turns past in

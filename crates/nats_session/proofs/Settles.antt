@@ -1,5 +1,4 @@
 -- Laws on due steps as they are played, written and played out.
-use Rattle.std.specs.Prelude.{slice_get}
 use Rattle.std.specs.Option.{option_map}
 use Rattle.std.proofs.Common.{◌≡◌, ℕ, zero, suc, ◌<◌, Bool, true, false, cond, ◌&&◌, List, [], ◌∷◌, ◌++◌, Option, Some, None, is_some, refl, sym, ◌∙◌, ap, subst}
 use Rattle.std.proofs.lemmas.Bool.{false≢true}
@@ -19,43 +18,18 @@ use Rattle.nats_session.specs.declared.handler.due.Look.TheVariants as looks
 use Rattle.nats_session.specs.declared.subs.subscription.Delivery.{Delivery}
 use Rattle.nats_session.specs.declared.subs.subscription.Delivery.TheVariants.{Put, Dropped, Ignored}
 use Rattle.nats_history.specs.declared.transcript.LinkWord.TheVariants as word
-use Rattle.nats_history.specs.Queue.{first, last}
-use Rattle.nats_tables.specs.Numbers.{at_index, at_number, item_of}
+use Rattle.nats_history.specs.Queue.{first}
+use Rattle.nats_tables.specs.Numbers.{at_number, item_of}
 use Rattle.nats_history.specs.History.{Step, opened, fed, read, taken, accepted, handled, took, link_end, Sub, has_room, listens}
 use Rattle.nats_history.specs.Parts.{Parts}
 use Rattle.nats_history.specs.Schedule.{chain, due_call, due_by, due, due_chain, most_due}
-use Rattle.nats_history.specs.After.{sub_after, after, after_all, events_of, due_steps}
+use Rattle.nats_history.specs.After.{after, after_all, events_of, due_steps}
 use Rattle.nats_history.proofs.Dues.{bound_falls, none_due, one_due, after_append}
-use Rattle.nats_session.specs.Delivery.{delivery_at, youngest}
-use Rattle.nats_session.specs.Handler.{Seen, push_all, seen_after, delivery_name, end_in, name_of, Advances, handled_first, Sees, is_nothing}
+use Rattle.nats_session.specs.Delivery.{delivery_at}
+use Rattle.nats_session.specs.Handler.{Seen, push_all, seen_after, delivery_name, end_in, name_of, Advances, Sees, is_nothing, look_message, step_message, message_in}
 use Rattle.nats_session.specs.Sheet.{Sheet, write_drop, write_delivery, write_step, write_events}
-use Rattle.nats_session.specs.Machine.{quiet, sheet_noted, sheet_recorded, settled_parts, settled_sheet, write_end, write_message, write_due, Notes}
+use Rattle.nats_session.specs.Machine.{quiet, sheet_noted, sheet_recorded, settled_parts, settled_sheet, write_end, write_due, Notes}
 use Rattle.nats_session.proofs.Handlers.{pushed}
-
--- ---- a message that was put is the youngest that waits
-
-place_changed : {A : Type 0} (i : ℕ) (f : A → A) (xs : List A) → slice_get (at_index i f xs) i ≡ option_map f (slice_get xs i)
-place_changed i f [] = refl
-place_changed zero f (x ∷ xs) = refl
-place_changed (suc i) f (x ∷ xs) = place_changed i f xs
-
-item_changed : {A : Type 0} (k : ℕ) (f : A → A) (xs : List A) → item_of k (at_number k f xs) ≡ option_map f (item_of k xs)
-item_changed zero f xs = refl
-item_changed (suc i) f xs = place_changed i f xs
-
-last_push : {A : Type 0} (xs : List A) (y : A) → last (xs ++ y ∷ []) ≡ Some y
-last_push [] y = refl
-last_push (x ∷ []) y = refl
-last_push (x ∷ z ∷ zs) y = last_push (z ∷ zs) y
-
-put_youngest : (c : Config) (sid : ℕ) (m : Message) (item : Option Sub) → delivery_at c m item ≡ Put → youngest (option_map (sub_after c (read (message sid m))) item) ≡ Some m
-put_youngest c sid m None e = cc
-put_youngest c sid m (Some sub) e = by_case (listens sub) (has_room c sub) e
-  where
-    by_case : (comes room : Bool) → cond comes (cond room Put (Dropped m)) Ignored ≡ Put → last (cond (comes && room) (sub.waiting ++ m ∷ []) sub.waiting) ≡ Some m
-    by_case true true e = last_push sub.waiting m
-    by_case true false e = cc
-    by_case false room e = cc
 
 dropped_message : (c : Config) (m dropped : Message) (item : Option Sub) → delivery_at c m item ≡ Dropped dropped → dropped ≡ m
 dropped_message c m dropped None e = cc
@@ -93,12 +67,13 @@ can_be_due p step e = by_up p.link.is_up e
 
 -- ---- what is written of a due step
 
-written_due : (place : ℕ) (p : Parts) (step : Step) (sheet : Sheet) → CanBeDue step → write_due place (after p step) (name_of p step) (write_end (end_in (chain p step)) p sheet) ≡ write_step place p step sheet
+written_due : (place : ℕ) (p : Parts) (step : Step) (sheet : Sheet) → CanBeDue step
+    → write_due place (step_message step) (name_of p step) (write_end (end_in (chain p step)) p sheet) ≡ write_step place p step sheet
 written_due place p (read (message sid m)) sheet can = by_delivery (delivery_at p.config m (item_of sid p.subs.rows)) refl
   where
-    by_delivery : (d : Delivery) → delivery_at p.config m (item_of sid p.subs.rows) ≡ d → write_due place (after p (read (message sid m))) (delivery_name sid d) sheet ≡ record sheet { subs = write_delivery place sid m d sheet.subs }
-    by_delivery Put is =
-        ap (λ item. write_message place sid (youngest item) sheet) (item_changed sid (sub_after p.config (read (message sid m))) p.subs.rows) ∙ ap (λ found. write_message place sid found sheet) (put_youngest p.config sid m (item_of sid p.subs.rows) is)
+    by_delivery : (d : Delivery) → delivery_at p.config m (item_of sid p.subs.rows) ≡ d
+        → write_due place (Some m) (delivery_name sid d) sheet ≡ record sheet { subs = write_delivery place sid m d sheet.subs }
+    by_delivery Put is = refl
     by_delivery (Dropped dropped) is =
         ap (λ n. record sheet { subs = at_number sid (write_drop place n) sheet.subs }) (dropped_message p.config m dropped (item_of sid p.subs.rows) is)
     by_delivery Ignored is = refl
@@ -116,31 +91,32 @@ quiet_after old step none =
     ap (λ es. record { parts = after old.parts step; events = es }) (ap (push_all (events_of old.parts step)) none ∙ pushed (events_of old.parts step) [])
 
 -- a due step that was played, written and whose events were handed out
-pub noted : (place : ℕ) (next : Option Step) (old new last : Seen) (name : Due) (s0 s1 s2 s3 : Sheet) → due old.parts ≡ next → old.events ≡ [] → Advances next old name new
-    → s1 ≡ write_end (end_in (due_chain old.parts next)) old.parts s0 → s2 ≡ write_due place new.parts name s1 → s3 ≡ write_events place new.events s2 → last ≡ record new { events = [] }
-    → Notes next place old.parts s0 last s3
-noted place None old new last name s0 s1 s2 s3 is none plays a b d e = (
+pub noted : (place : ℕ) (next : Option Step) (old new last : Seen) (name : Due) (came : Option Message) (s0 s1 s2 s3 : Sheet)
+    → due old.parts ≡ next → old.events ≡ [] → Advances next old name new → came ≡ message_in next
+    → s1 ≡ write_end (end_in (due_chain old.parts next)) old.parts s0 → s2 ≡ write_due place came name s1 → s3 ≡ write_events place new.events s2
+    → last ≡ record new { events = [] } → Notes next place old.parts s0 last s3
+noted place None old new last name came s0 s1 s2 s3 is none plays read_it a b d e = (
   e ∙ ap (λ (s : Seen). record s { events = [] }) plays.1,
-  d ∙ (ap (λ (s : Seen). write_events place s.events s2) plays.1 ∙ (ap (λ es. write_events place es s2) none ∙ (no_events s2 ∙ (b ∙ (ap (λ n. write_due place new.parts n s1) plays.0 ∙ a))))),
+  d ∙ (ap (λ (s : Seen). write_events place s.events s2) plays.1 ∙ (ap (λ es. write_events place es s2) none ∙ (no_events s2 ∙ (b ∙ (ap (λ n. write_due place came n s1) plays.0 ∙ a))))),
 )
   where
     no_events : (s : Sheet) → write_events place [] s ≡ s
     no_events s = ap (λ es. record s { events = es }) (append-nil s.events)
-noted place (Some step) old new last name s0 s1 s2 s3 is none plays a b d e =
+noted place (Some step) old new last name came s0 s1 s2 s3 is none plays read_it a b d e =
     let seen : new ≡ record { parts = after old.parts step; events = events_of old.parts step } =
     plays.1 ∙ quiet_after old step none
+    in
+    let by_name : write_due place came name s1 ≡ write_due place (step_message step) (name_of old.parts step) s1 =
+    ap (λ m. write_due place m name s1) read_it ∙ ap (λ n. write_due place (step_message step) n s1) plays.0
+    in
+    let written : s2 ≡ write_step place old.parts step s0 =
+    b ∙ (by_name ∙ (ap (write_due place (step_message step) (name_of old.parts step)) a ∙ written_due place old.parts step s0 (can_be_due old.parts step is)))
     in (
       e ∙ ap (λ (s : Seen). record s { events = [] }) seen,
-      d ∙ (ap (λ (s : Seen). write_events place s.events s2) seen ∙ ap (write_events place (events_of old.parts step)) (b ∙ (ap (λ (s : Seen). write_due place s.parts name s1) seen ∙ (ap (λ n. write_due place (after old.parts step) n s1) plays.0 ∙ (ap (write_due place (after old.parts step) (name_of old.parts step)) a ∙ written_due place old.parts step s0 (can_be_due old.parts step is)))))),
+      d ∙ (ap (λ (s : Seen). write_events place s.events s2) seen ∙ ap (write_events place (events_of old.parts step)) written),
     )
 
 -- ---- a look
-
-pub none_seen : (p : Parts) (look : Look) → Sees p look → is_nothing look ≡ true → due p ≡ None
-none_seen p looks.Nothing sees is = sees
-none_seen p (looks.Read peeked) sees is = absurd (false≢true is)
-none_seen p looks.Fault sees is = absurd (false≢true is)
-none_seen p looks.Command sees is = absurd (false≢true is)
 
 some_handled : (calls : List Call) → is_some (first calls) ≡ true → is_some (option_map handled (first calls)) ≡ true
 some_handled [] e = absurd (false≢true e)
@@ -152,11 +128,14 @@ some_seen p (looks.Read peeked) sees is = ap is_some sees.0
 some_seen p looks.Fault sees is = ap is_some sees
 some_seen p looks.Command sees is = ap is_some sees.0 ∙ some_handled p.calls sees.1
 
--- no link ends at a call that is handled
-pub end_command : (p : Parts) → due p ≡ handled_first p → end_in (due_chain p (due p)) ≡ None
-end_command p e = ap (λ next. end_in (due_chain p next)) e ∙ by_calls p.calls
+-- the message that a look saw is that of the step that is due
+pub message_seen : (p : Parts) (look : Look) → Sees p look → look_message look ≡ message_in (due p)
+message_seen p looks.Nothing sees = sym (ap message_in sees)
+message_seen p (looks.Read peeked) sees = sym (ap message_in sees.0)
+message_seen p looks.Fault sees = sym (ap message_in sees)
+message_seen p looks.Command sees = sym (ap message_in sees.0 ∙ by_calls p.calls)
   where
-    by_calls : (calls : List Call) → end_in (due_chain p (option_map handled (first calls))) ≡ None
+    by_calls : (calls : List Call) → message_in (option_map handled (first calls)) ≡ None
     by_calls [] = refl
     by_calls (call ∷ more) = refl
 

@@ -2,7 +2,8 @@
 use Rattle.std.specs.Prelude.{◌≡◌, ℕ, suc, ◌≤◌, Bool, true, false, not, ◌&&◌, List, [], ◌∷◌, ◌++◌, length, drop, map, Option, Some, None, is_some, Result, Ok, Err}
 use Rattle.std.specs.Option.{option_map}
 use Rattle.nats_names.specs.declared.event.Event.{Event}
-use Rattle.nats_wire.specs.Operations.{message, op_view, got, front}
+use Rattle.nats_wire.specs.declared.message.Message.{Message}
+use Rattle.nats_wire.specs.Operations.{Operation, message, op_view, got, front}
 use Rattle.nats_wire.specs.Wire.{fresh}
 use Rattle.nats_history.specs.declared.config.Config.{Config}
 use Rattle.nats_history.specs.declared.call.Call.{Call}
@@ -117,6 +118,27 @@ Sees p (looks.Read peeked) = (due p ≡ Some (read (op_view peeked.op))) × (fro
     × (peeked.len ≤ length p.link.wire.unread) × (p.link.is_up ≡ true)
 Sees p looks.Fault = due p ≡ Some (link_end word.Fault)
 Sees p looks.Command = (due p ≡ handled_first p) × (is_some (first p.calls) ≡ true) × (p.link.is_up ≡ true)
+
+-- the message of an operation, if it is one
+abbrev pub op_message : Operation → Option Message
+op_message (message sid m) = Some m
+op_message operation = None
+
+-- the message that a step reads, if it reads one
+abbrev pub step_message : Step → Option Message
+step_message (read operation) = op_message operation
+step_message step = None
+
+abbrev pub message_in : Option Step → Option Message
+message_in None = None
+message_in (Some step) = step_message step
+
+-- the message that a look saw, if it saw one
+abbrev pub look_message : Look → Option Message
+look_message (looks.Read peeked) = op_message (op_view peeked.op)
+look_message looks.Nothing = None
+look_message looks.Fault = None
+look_message looks.Command = None
 
 abbrev pub is_nothing : Look → Bool
 is_nothing looks.Nothing = true

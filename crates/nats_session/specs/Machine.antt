@@ -7,12 +7,11 @@ use Rattle.nats_history.specs.declared.turn.Turn.TheVariants.{Do, Take}
 use Rattle.nats_history.specs.declared.turn.Due.{Due}
 use Rattle.nats_history.specs.declared.turn.Due.TheVariants as due_names
 use Rattle.nats_history.specs.History.{Step}
-use Rattle.nats_tables.specs.Numbers.{at_number, item_of}
+use Rattle.nats_tables.specs.Numbers.{at_number}
 use Rattle.nats_history.specs.Parts.{Parts}
 use Rattle.nats_history.specs.Schedule.{is_valid_turn, own_steps, call_reply, take_reply, chain}
 use Rattle.nats_history.specs.Transcripts.{Answer, nothing, called, asked}
 use Rattle.nats_history.specs.After.{after, after_all, events_of, due_steps}
-use Rattle.nats_session.specs.Delivery.{youngest}
 use Rattle.nats_session.specs.Handler.{Seen}
 use Rattle.nats_session.specs.Sheet.{Sheet, row_with, write_put, write_drop, write_step, write_answer, write_events}
 
@@ -84,11 +83,11 @@ abbrev pub write_message : ℕ → ℕ → Option Message → Sheet → Sheet
 write_message place sid None sheet = sheet
 write_message place sid (Some m) sheet = record sheet { subs = at_number sid (write_put place m) sheet.subs }
 
--- what is written of a step by its name, where these are the parts after it
-abbrev pub write_due : ℕ → Parts → Due → Sheet → Sheet
-write_due place p (due_names.Put sid) sheet = write_message place sid (youngest (item_of sid p.subs.rows)) sheet
-write_due place p (due_names.Dropped sid m) sheet = record sheet { subs = at_number sid (write_drop place m) sheet.subs }
-write_due place p name sheet = sheet
+-- what is written of a step by its name and the message that it read
+abbrev pub write_due : ℕ → Option Message → Due → Sheet → Sheet
+write_due place came (due_names.Put sid) sheet = write_message place sid came sheet
+write_due place came (due_names.Dropped sid m) sheet = record sheet { subs = at_number sid (write_drop place m) sheet.subs }
+write_due place came name sheet = sheet
 
 -- the step that is due was played and written with what follows it at once
 abbrev pub Notes : Option Step → ℕ → Parts → Sheet → Seen → Sheet → Type 0

@@ -91,19 +91,19 @@ impl Draft {
         note_in(&mut self.subs, alloc, place, sid, note)
     }
 
-    /// A due step was played, was named so, and left the handler so.
+    /// A due step was played, read this message, and was named so.
     pub fn note_due(
         &mut self,
         alloc: Global,
         place: u64,
-        handler: &ConnectionHandler,
+        came: Option<Message>,
         due: Due,
     ) -> Result<(), NoMemory>
-        ensures { OnOk result (self.new ≡ write_due place handler.now.parts due self.old) }
+        ensures { OnOk result (self.new ≡ write_due place came due self.old) }
     {
         match due {
-            Due::Put(sid) => match handler.last_put(sid) {
-                Some(message) => self.note(alloc, place, sid, Note::Put(message.copy(alloc)?)),
+            Due::Put(sid) => match came {
+                Some(message) => self.note(alloc, place, sid, Note::Put(message)),
                 None => Ok(()),
             },
             Due::Dropped(sid, message) => self.note(alloc, place, sid, Note::Drop(message)),

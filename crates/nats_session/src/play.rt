@@ -152,9 +152,10 @@ fn play_due(
     ensures { OnOk result (Notes (due handler.old.parts) place handler.old.parts draft.old handler.new draft.new) }
 {
     let end = handler.end_by(&look);
+    let came = look.message(alloc)?;
     note_end(alloc, handler, draft, end)?;
     let name = handler.advance_by(alloc, look)?;
-    draft.note_due(alloc, place, handler, name)?;
+    draft.note_due(alloc, place, came, name)?;
     draft.note_events(place, handler)
 }
 

@@ -192,6 +192,30 @@ fn a_message_is_put_and_taken(rt: HostRuntime) -> Result<(), Fail> {
     Ok(())
 }
 
+fn fills_up(
+    alloc: Global,
+    rt: &impl Abort,
+    handler: &mut ConnectionHandler,
+) -> Result<(), NoMemory> {
+    let first = submit(alloc, rt, handler, publish(alloc)?)?;
+    assert!(rt; matches!(first, CallReply::Accepted));
+    let second = submit(alloc, rt, handler, publish(alloc)?)?;
+    assert!(rt; matches!(second, CallReply::Full));
+    up(alloc, rt, handler)?;
+    assert!(rt; matches!(handler.advance(alloc)?, Due::Handled));
+    assert!(rt; matches!(handler.advance(alloc)?, Due::Nothing));
+    Ok(())
+}
+
+#[test]
+fn a_call_past_the_capacity_is_refused(rt: HostRuntime) -> Result<(), Fail> {
+    let mut config = settings(rt.alloc(), &rt)?;
+    config.client_capacity = 1;
+    let mut handler = ConnectionHandler::new(rt.alloc(), config)?;
+    fills_up(rt.alloc(), &rt, &mut handler)?;
+    Ok(())
+}
+
 fn waits_for_a_link(
     alloc: Global,
     rt: &impl Abort,

@@ -33,46 +33,6 @@ at_index_past i f [] past = refl
 at_index_past zero f (x ∷ xs) past = absurd (omega arith)
 at_index_past (suc i) f (x ∷ xs) past = ap (λ ys. x ∷ ys) (at_index_past i f xs (omega arith))
 
--- ---- the numbers that a change leaves alone
-
-pub above : {A B : Type 0} (view : ℕ → A → B) (new old : ℕ → A) (n first k : ℕ) → k < first
-    → map (λ s. view s (cond (eqb s k) (new s) (old s))) (count_from first n) ≡ map (λ s. view s (old s)) (count_from first n)
-above view new old zero first k less = refl
-above view new old (suc n) first k less =
-    same_cons _ _ _ _ (ap (λ b. view first (cond b (new first) (old first))) (ne_eqb first k (λ e. omega arith))) (above view new old n (suc first) k (omega arith))
-
-pub below : {A B : Type 0} (view : ℕ → A → B) (new old : ℕ → A) (n first k : ℕ) → first + n ≤ k
-    → map (λ s. view s (cond (eqb s k) (new s) (old s))) (count_from first n) ≡ map (λ s. view s (old s)) (count_from first n)
-below view new old zero first k less = refl
-below view new old (suc n) first k less =
-    same_cons _ _ _ _ (ap (λ b. view first (cond b (new first) (old first))) (ne_eqb first k (λ e. omega arith))) (below view new old n (suc first) k (omega arith))
-
--- ---- the table after the thing of one number changed
-
-numbered_from : {A B : Type 0} (view : ℕ → A → B) (f : B → B) (new old : ℕ → A) (n i first k : ℕ) → view k (new k) ≡ f (view k (old k)) → k ≡ first + i
-    → map (λ s. view s (cond (eqb s k) (new s) (old s))) (count_from first n) ≡ at_index i f (map (λ s. view s (old s)) (count_from first n))
-numbered_from view f new old zero i first k changed e = refl
-numbered_from view f new old (suc n) zero first k changed e =
-    let here : k ≡ first = omega arith in
-    same_cons _ _ _ _ (ap (λ b. view first (cond b (new first) (old first))) (eq-eqb first k (sym here)) ∙ subst (λ s. view s (new s) ≡ f (view s (old s))) here changed) (above view new old n (suc first) k (omega arith))
-numbered_from view f new old (suc n) (suc i) first k changed e =
-    same_cons _ _ _ _ (ap (λ b. view first (cond b (new first) (old first))) (ne_eqb first k (λ d. omega arith))) (numbered_from view f new old n i (suc first) k changed (omega arith))
-
-pub numbered : {A B : Type 0} (view : ℕ → A → B) (f : B → B) (new old : ℕ → A) (n k : ℕ) → view k (new k) ≡ f (view k (old k))
-    → map (λ s. view s (cond (eqb s k) (new s) (old s))) (count_from 1 n) ≡ at_number k f (map (λ s. view s (old s)) (count_from 1 n))
-numbered view f new old n zero changed = above view new old n 1 zero (omega arith)
-numbered view f new old n (suc i) changed = numbered_from view f new old n i 1 (suc i) changed (omega arith)
-
-map_map : {A B D : Type 0} (f : B → D) (g : A → B) (xs : List A) → map (λ x. f (g x)) xs ≡ map f (map g xs)
-map_map f g [] = refl
-map_map f g (x ∷ xs) = ap (λ ys. f (g x) ∷ ys) (map_map f g xs)
-
--- the table after what something is about was changed
-pub changed : {B : Type 0} (a : About) (f : B → B) (g : ℕ → B) (n : ℕ) → map (λ s. cond (is_about s a) (f (g s)) (g s)) (count_from 1 n) ≡ change a f (map g (count_from 1 n))
-changed nobody f g n = refl
-changed everyone f g n = map_map f g (count_from 1 n)
-changed (only k) f g n = numbered (λ s x. x) f (λ s. f (g s)) g n k refl
-
 -- tables of numbers up to n whose things look alike are one
 pub same_from : {B : Type 0} (f g : ℕ → B) (n first : ℕ) → ((s : ℕ) → first ≤ s → s < first + n → f s ≡ g s) → map f (count_from first n) ≡ map g (count_from first n)
 same_from f g zero first same = refl
@@ -82,7 +42,8 @@ same_from f g (suc n) first same =
 pub same_up_to : {B : Type 0} (f g : ℕ → B) (n : ℕ) → ((s : ℕ) → 1 ≤ s → s ≤ n → f s ≡ g s) → map f (count_from 1 n) ≡ map g (count_from 1 n)
 same_up_to f g n same = same_from f g n 1 (λ s low high. same s low (omega arith))
 
--- one of them changed, the others are told alike
+-- ---- the table after the thing of one number changed
+
 changed_from : {B : Type 0} (f : B → B) (old new : ℕ → B) (n i first k : ℕ) → k ≡ first + i → new k ≡ f (old k) → ((s : ℕ) → (s ≡ k → ⊥) → new s ≡ old s)
     → map new (count_from first n) ≡ at_index i f (map old (count_from first n))
 changed_from f old new zero i first k e changed others = refl
@@ -96,6 +57,24 @@ pub changed_at : {B : Type 0} (f : B → B) (old new : ℕ → B) (n k : ℕ) �
     → map new (count_from 1 n) ≡ at_number k f (map old (count_from 1 n))
 changed_at f old new n zero changed others = same_from new old n 1 (λ s low high. others s (λ same. omega arith))
 changed_at f old new n (suc i) changed others = changed_from f old new n i 1 (suc i) (omega arith) changed others
+
+-- the same where the change is a test for the number
+pub numbered : {A B : Type 0} (view : ℕ → A → B) (f : B → B) (new old : ℕ → A) (n k : ℕ) → view k (new k) ≡ f (view k (old k))
+    → map (λ s. view s (cond (eqb s k) (new s) (old s))) (count_from 1 n) ≡ at_number k f (map (λ s. view s (old s)) (count_from 1 n))
+numbered view f new old n k changed =
+    changed_at f (λ s. view s (old s)) (λ s. view s (cond (eqb s k) (new s) (old s))) n k
+    (ap (λ b. view k (cond b (new k) (old k))) (eq-eqb k k refl) ∙ changed)
+    (λ s apart. ap (λ b. view s (cond b (new s) (old s))) (ne_eqb s k apart))
+
+map_map : {A B D : Type 0} (f : B → D) (g : A → B) (xs : List A) → map (λ x. f (g x)) xs ≡ map f (map g xs)
+map_map f g [] = refl
+map_map f g (x ∷ xs) = ap (λ ys. f (g x) ∷ ys) (map_map f g xs)
+
+-- the table after what something is about was changed
+pub changed : {B : Type 0} (a : About) (f : B → B) (g : ℕ → B) (n : ℕ) → map (λ s. cond (is_about s a) (f (g s)) (g s)) (count_from 1 n) ≡ change a f (map g (count_from 1 n))
+changed nobody f g n = refl
+changed everyone f g n = map_map f g (count_from 1 n)
+changed (only k) f g n = numbered (λ s x. x) f (λ s. f (g s)) g n k refl
 
 -- ---- the table after one more thing came, of the next number
 

@@ -6,12 +6,12 @@ ghost use Rattle.nats_wire.specs.Commands.{command_text};
 ghost use Rattle.nats_history.specs.declared.transcript.LinkWord.TheVariants.{Fault};
 ghost use Rattle.nats_history.specs.declared.turn.Due.TheVariants as due_names;
 ghost use Rattle.nats_tables.specs.Numbers.{at_number, item_of};
-ghost use Rattle.nats_history.specs.History.{link_end, read, handled, commands, drop_events};
+ghost use Rattle.nats_history.specs.History.{link_end, read, handled, commands, drop_events, info_events};
 ghost use Rattle.nats_history.specs.Parts.{at_in};
 ghost use Rattle.nats_history.specs.Schedule.{due, due_chain};
 ghost use Rattle.nats_history.specs.After.{written, subs_after};
 ghost use Rattle.nats_session.specs.Delivery.{deliver, delivery_at};
-ghost use Rattle.nats_session.specs.Handler.{Advances, Sees, is_nothing, handled_first, seen_after, own_name, end_in, push_all};
+ghost use Rattle.nats_session.specs.Handler.{Advances, Sees, is_nothing, look_message, handled_first, seen_after, own_name, end_in, push_all};
 
 use super::ConnectionHandler;
 use crate::subs::{Delivery, Subscriptions};
@@ -40,6 +40,23 @@ impl Look {
         ensures { result ≡ is_nothing self.now }
     {
         matches!(self, Look::Nothing)
+    }
+
+    /// A copy of the message that is to be read, which shares its bytes.
+    pub fn message(&self, alloc: Global) -> Result<Option<Message>, NoMemory>
+        ensures { IfOk result (λ came. came ≡ look_message self.now) }
+    {
+        let Look::Read(peeked) = self else {
+            return Ok(None);
+        };
+        match &peeked.op {
+            ServerOp::Message { message, .. } => Ok(Some(message.copy(alloc)?)),
+            ServerOp::Ok
+            | ServerOp::Info(_)
+            | ServerOp::Ping
+            | ServerOp::Pong
+            | ServerOp::Error(_) => Ok(None),
+        }
     }
 }
 
@@ -196,11 +213,31 @@ impl ConnectionHandler {
                 self.connection.consume(len);
                 Ok(Due::Read)
             }
-            ServerOp::Ok | ServerOp::Pong | ServerOp::Info(_) | ServerOp::Error(_) => {
+            ServerOp::Error(error) => {
+                self.events.push(Event::ServerError(error))?;
+                self.connection.consume(len);
+                Ok(Due::Read)
+            }
+            ServerOp::Info(info) => {
+                self.note_info(info.lame_duck_mode)?;
+                self.connection.consume(len);
+                Ok(Due::Read)
+            }
+            ServerOp::Ok | ServerOp::Pong => {
                 self.connection.consume(len);
                 Ok(Due::Read)
             }
         }
+    }
+
+    fn note_info(&mut self, is_lame_duck: bool) -> Result<(), NoMemory>
+        ensures ok { OnOk result (self.new ≡ record self.old { events = push_all (info_events is_lame_duck) self.old.events }) }
+        ensures err { OnErr result (self.new ≡ self.old) }
+    {
+        if is_lame_duck {
+            self.events.push(Event::LameDuckMode)?;
+        }
+        Ok(())
     }
 
     fn deliver(&mut self, sid: u64, message: Message) -> Result<Delivery, NoMemory>
