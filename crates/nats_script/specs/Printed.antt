@@ -43,11 +43,17 @@ abbrev pub headers_text : Option Headers → List ℕ
 headers_text None = codes "~"
 headers_text (Some headers) = decimal (value_count headers) ++ flat_map header_fields headers
 
+-- a message's subject, reply and payload
+abbrev pub content_text : Message → List ℕ
+content_text m = spelled m.subject ++ space ++ spelled_or_absent m.reply ++ space ++ spelled m.payload ++ space
+
+-- its status and description, and its length
+abbrev pub answer_text : Message → List ℕ
+answer_text m = number_or_absent m.status ++ space ++ spelled_or_absent m.description ++ space ++ decimal m.length ++ space
+
 -- a message by seven fields: subject, reply, payload, status, description, length, headers
 abbrev pub message_text : Message → List ℕ
-message_text m =
-    spelled m.subject ++ space ++ spelled_or_absent m.reply ++ space ++ spelled m.payload ++ space ++ number_or_absent m.status
-    ++ space ++ spelled_or_absent m.description ++ space ++ decimal m.length ++ space ++ headers_text m.headers
+message_text m = content_text m ++ answer_text m ++ headers_text m.headers
 
 -- a word and a number, as a line begins
 abbrev pub opening : List ℕ → ℕ → List ℕ

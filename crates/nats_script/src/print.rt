@@ -1,7 +1,7 @@
 //! Printing a transcript.
 ghost use Rattle.std.specs.Prelude.{◌≡◌, ◌++◌, IfOk, OnOk};
 ghost use Rattle.std.specs.List.{flat_map};
-ghost use Rattle.nats_script.specs.Printed.{lf, opening, number_or_absent, header_fields, value_count, headers_text, message_text, end_word, link_lines, put_line, drop_line, take_text, take_line, sub_lines, event_line, reply_text, call_line, numbered, printed};
+ghost use Rattle.nats_script.specs.Printed.{lf, opening, number_or_absent, header_fields, value_count, headers_text, content_text, answer_text, message_text, end_word, link_lines, put_line, drop_line, take_text, take_line, sub_lines, event_line, reply_text, call_line, numbered, printed};
 ghost use Rattle.nats_script.specs.Spelling.{spelled, spelled_or_absent};
 ghost use Rattle.nats_names.specs.Events.{event_text};
 
@@ -99,8 +99,8 @@ fn push_description(out: &mut Vec<u8>, text: &Option<Text>) -> Result<(), NoMemo
     }
 }
 
-fn push_message(out: &mut Vec<u8>, m: &Message) -> Result<(), NoMemory>
-    ensures { OnOk result (out.new.items ≡ out.old.items ++ message_text m.now) }
+fn push_content(out: &mut Vec<u8>, m: &Message) -> Result<(), NoMemory>
+    ensures { OnOk result (out.new.items ≡ out.old.items ++ content_text m.now) }
 {
     push_spelled(out, m.subject.as_str().as_bytes())?;
     out.push(b' ')?;
@@ -108,12 +108,26 @@ fn push_message(out: &mut Vec<u8>, m: &Message) -> Result<(), NoMemory>
     out.push(b' ')?;
     push_spelled(out, m.payload.as_slice())?;
     out.push(b' ')?;
+    Ok(())
+}
+
+fn push_answer(out: &mut Vec<u8>, m: &Message) -> Result<(), NoMemory>
+    ensures { OnOk result (out.new.items ≡ out.old.items ++ answer_text m.now) }
+{
     push_status(out, m.status)?;
     out.push(b' ')?;
     push_description(out, &m.description)?;
     out.push(b' ')?;
     push_number(out, m.length as u64)?;
     out.push(b' ')?;
+    Ok(())
+}
+
+fn push_message(out: &mut Vec<u8>, m: &Message) -> Result<(), NoMemory>
+    ensures { OnOk result (out.new.items ≡ out.old.items ++ message_text m.now) }
+{
+    push_content(out, m)?;
+    push_answer(out, m)?;
     push_headers(out, &m.headers)
 }
 

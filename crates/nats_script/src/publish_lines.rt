@@ -1,11 +1,11 @@
 //! The lines of a script that publish.
-ghost use Rattle.std.specs.Prelude.{◌≡◌, ◌∷◌, ◌×◌, ◌<◌, [], None, Some, length, IfOk, IfSome, MatchOption, if◌then◌else◌};
+ghost use Rattle.std.specs.Prelude.{◌≡◌, ◌∷◌, ◌<◌, [], None, Some, length, IfOk, IfSome, MatchOption, if◌then◌else◌};
 ghost use Rattle.std.specs.Option.{option_copied};
 ghost use Rattle.nats_header.specs.Headers.{Headers};
 ghost use Rattle.nats_header.specs.Names.{is_header_name, is_header_value};
 ghost use Rattle.nats_script.specs.Spelling.{field_text};
-ghost use Rattle.nats_script.specs.Script.{text_that, with_value, headers_from, publish_with, pub_of, hpub_of};
-ghost use Rattle.nats_script.specs.Cut.{parts_behind, parts_at};
+ghost use Rattle.nats_script.specs.Script.{parts_at, text_that, with_value, headers_from, publish_with, pub_of, hpub_of};
+ghost use Rattle.nats_script.specs.Cut.{parts_behind};
 
 use crate::cut::{cut, only};
 use crate::fields::{bytes_field, field_optional, field_text};
@@ -111,6 +111,7 @@ fn headers_of(alloc: Global, fields: Option<&[u8]>) -> Result<Option<HeaderMap>,
 }
 
 /// The first three fields that are left, and those behind them.
+#[derive(Clone, Copy)]
 struct FrontFields<'a> {
     subject: &'a [u8],
     reply: &'a [u8],
