@@ -1,7 +1,7 @@
 //! Printing a transcript.
 ghost use Rattle.std.specs.Prelude.{◌≡◌, ◌++◌, IfOk, OnOk};
 ghost use Rattle.std.specs.List.{flat_map};
-ghost use Rattle.nats_script.specs.Printed.{lf, opening, number_or_absent, header_fields, value_count, headers_text, content_text, answer_text, message_text, end_word, link_lines, put_line, drop_line, take_text, take_line, sub_lines, event_line, reply_text, call_line, numbered, printed};
+ghost use Rattle.nats_script.specs.Printed.{lf, opening, number_or_absent, header_fields, value_count, headers_text, content_text, answer_text, message_text, placed, end_word, link_lines, put_line, drop_line, take_text, take_line, sub_lines, event_line, reply_text, call_line, numbered, printed};
 ghost use Rattle.nats_script.specs.Spelling.{spelled, spelled_or_absent};
 ghost use Rattle.nats_names.specs.Events.{event_text};
 
@@ -170,13 +170,19 @@ fn push_links(out: &mut Vec<u8>, links: &[LinkRow]) -> Result<(), NoMemory>
 
 // ---- subscriptions
 
+fn push_placed(out: &mut Vec<u8>, word: &[u8], place: u64, m: &Message) -> Result<(), NoMemory>
+    ensures { OnOk result (out.new.items ≡ out.old.items ++ placed word.now place (message_text m.now)) }
+{
+    open_line(out, word, place)?;
+    push_message(out, m)?;
+    close_line(out)
+}
+
 fn push_puts(out: &mut Vec<u8>, puts: &[(u64, Message)]) -> Result<(), NoMemory>
     ensures { OnOk result (out.new.items ≡ out.old.items ++ flat_map put_line puts.now) }
 {
     for (place, m) in puts {
-        open_line(out, b"put", *place)?;
-        push_message(out, m)?;
-        close_line(out)?;
+        push_placed(out, b"put", *place, m)?;
     }
     Ok(())
 }
@@ -185,9 +191,7 @@ fn push_drops(out: &mut Vec<u8>, drops: &[(u64, Message)]) -> Result<(), NoMemor
     ensures { OnOk result (out.new.items ≡ out.old.items ++ flat_map drop_line drops.now) }
 {
     for (place, m) in drops {
-        open_line(out, b"drop", *place)?;
-        push_message(out, m)?;
-        close_line(out)?;
+        push_placed(out, b"drop", *place, m)?;
     }
     Ok(())
 }
