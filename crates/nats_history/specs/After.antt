@@ -8,7 +8,8 @@ use Rattle.nats_wire.specs.Commands.{command_text}
 use Rattle.nats_wire.specs.Wire.{Wire}
 use Rattle.nats_history.specs.declared.config.Config.{Config}
 use Rattle.nats_history.specs.declared.call.Call.{Call}
-use Rattle.nats_history.specs.History.{Step, opened, fed, read, taken, accepted, handled, took, link_end, links_after, up_after, subscribes, At, given_after, subscribed_after, about, Sub, puts, open_after, commands, new_events}
+use Rattle.nats_history.specs.History.{Step, opened, fed, read, taken, accepted, handled, took, gone, link_end, links_after, up_after, max_payload_after, cut, subscribes, At, given_after, subscribed_after, about, Sub, puts, stage_after, shut_after, gone_after, limit_after, kept, commands, new_events}
+use Rattle.nats_history.specs.declared.stage.Stage.TheVariants.{Asked}
 use Rattle.nats_tables.specs.Numbers.{change}
 use Rattle.nats_history.specs.Parts.{Link, Subs, Parts, at_in}
 use Rattle.nats_history.specs.Schedule.{chain, due, most_due}
@@ -22,13 +23,28 @@ delivered c m sub = if puts c sub then sub.waiting ++ m ∷ [] else sub.waiting
 abbrev pub waiting_after : Config → Step → Sub → List Message
 waiting_after c (read (message sid m)) sub = delivered c m sub
 waiting_after c (took sid) sub = drop 1 sub.waiting
+waiting_after c (gone sid) sub = []
 waiting_after c step sub = sub.waiting
 
+abbrev pub puts_after : Config → Step → Sub → ℕ
+puts_after c (read (message sid m)) sub = if puts c sub then cut (suc sub.puts) else sub.puts
+puts_after c step sub = sub.puts
+
+abbrev pub changed_sub : Config → Step → Sub → Sub
+changed_sub c step sub = record {
+  stage = stage_after c step sub;
+  is_shut = shut_after step sub.is_shut;
+  is_gone = gone_after step sub.is_gone;
+  limit = limit_after step sub.limit;
+  puts = puts_after c step sub;
+  waiting = waiting_after c step sub;
+}
+
 abbrev pub sub_after : Config → Step → Sub → Sub
-sub_after c step sub = record { is_open = open_after c step sub; waiting = waiting_after c step sub }
+sub_after c step sub = kept (changed_sub c step sub)
 
 abbrev pub new_sub : Sub
-new_sub = record { is_open = false; waiting = [] }
+new_sub = record { stage = Asked; is_shut = false; is_gone = false; limit = None; puts = 0; waiting = [] }
 
 -- one more where a number is given
 abbrev pub grown : Step → List Sub → List Sub
@@ -84,6 +100,7 @@ abbrev pub link_after : List ClientOp → Step → Link → Link
 link_after commands step link = record {
   number = links_after step link.number;
   is_up = up_after step link.is_up;
+  max_payload = max_payload_after step link.max_payload;
   wire = wire_after link.is_up commands step link.wire;
 }
 

@@ -1,5 +1,5 @@
 -- What happened to a session, and the words that tell of it.
-use Rattle.std.specs.Prelude.{ℕ, zero, suc, ◌+◌, ◌-◌, ◌^◌, Bool, true, false, not, ◌&&◌, ◌||◌, nat_lt, min, List, [], ◌∷◌, ◌++◌, length, drop, map, Option, Some, None, if◌then◌else◌}
+use Rattle.std.specs.Prelude.{ℕ, zero, suc, ◌+◌, ◌-◌, ◌^◌, Bool, true, false, not, ◌&&◌, ◌||◌, nat_lt, nat_le, min, List, [], ◌∷◌, ◌++◌, length, drop, map, Option, Some, None, is_some, if◌then◌else◌}
 use Rattle.nats_names.specs.declared.event.Event.{Event}
 use Rattle.nats_names.specs.declared.event.Event.TheVariants.{Connected, Disconnected, LameDuckMode, SlowConsumer, ServerError}
 use Rattle.nats_info.specs.declared.info.ServerInfo.{ServerInfo}
@@ -10,10 +10,13 @@ use Rattle.nats_wire.specs.Operations.{Operation, message, info_op, error_op, pi
 use Rattle.nats_wire.specs.Commands.{command_text}
 use Rattle.nats_history.specs.declared.config.Config.{Config}
 use Rattle.nats_history.specs.declared.call.Call.{Call}
-use Rattle.nats_history.specs.declared.call.Call.TheVariants.{Publish, Subscribe}
+use Rattle.nats_history.specs.declared.call.Call.TheVariants.{Publish, Subscribe, Unsubscribe, Limit, DropSub}
+use Rattle.nats_history.specs.declared.stage.Stage.{Stage}
+use Rattle.nats_history.specs.declared.stage.Stage.TheVariants.{Asked, Open, Ended}
 use Rattle.nats_history.specs.declared.transcript.LinkWord.{LinkWord}
 use Rattle.nats_history.specs.declared.transcript.LinkWord.TheVariants.{Up, Fault}
 use Rattle.nats_tables.specs.Numbers.{About, nobody, only, is_about, named, item_of, count_from}
+use Rattle.nats_tables.specs.Rows.{tidied}
 
 -- what can happen
 pub data Step : Type 0 where
@@ -31,6 +34,8 @@ pub data Step : Type 0 where
   handled : Call → Step
   -- the oldest waiting message of the subscription of that number was taken
   took : ℕ → Step
+  -- the subscription of that number was let go by its user
+  gone : ℕ → Step
   -- the link ended
   link_end : LinkWord → Step
 
@@ -42,7 +47,7 @@ came sid m = read (message sid m)
 abbrev pub History : Type 0
 History = List (ℕ × Step)
 
--- counts of links stop here
+-- counts that only grow stop here
 abbrev pub cut : ℕ → ℕ
 cut n = min n (2 ^ 64 - 1)
 
@@ -66,6 +71,16 @@ up_after step up = up
 abbrev pub is_up : History → Bool
 is_up [] = false
 is_up ((place, step) ∷ h) = up_after step (is_up h)
+
+abbrev pub max_payload_after : Step → ℕ → ℕ
+max_payload_after (opened info) n = info.max_payload
+max_payload_after step n = n
+
+-- the limit of a payload's size with its header block, in bytes: that of the newest link's server, a million and more before
+-- any
+abbrev pub max_payload : History → ℕ
+max_payload [] = 1048576
+max_payload ((place, step) ∷ h) = max_payload_after step (max_payload h)
 
 -- the bytes that joined the newest link, as one text
 abbrev pub joined : History → List ℕ
@@ -115,9 +130,22 @@ abbrev pub subscribes : Call → Bool
 subscribes (Subscribe subject group) = true
 subscribes call = false
 
--- the subscription that a call names: none of the calls names one yet
+-- the subscription that a call names
 abbrev pub names : Call → Option ℕ
+names (Unsubscribe s) = Some s
+names (Limit s n) = Some s
+names (DropSub s) = Some s
 names call = None
+
+-- the subscription that a call shuts once it is accepted
+abbrev pub shuts : Call → Option ℕ
+shuts (Unsubscribe s) = Some s
+shuts call = None
+
+-- the subscription that the user of a call lets go, whatever the reply
+abbrev pub lets_go : Call → Option ℕ
+lets_go (DropSub s) = Some s
+lets_go call = None
 
 -- what a step's meaning hangs on
 pub record At : Type 0 where
@@ -153,17 +181,17 @@ given h = (at_of h).given
 abbrev pub numbers : History → List ℕ
 numbers h = count_from 1 (given h)
 
--- whom a step is about: an accepted subscribe gives the next number, a handled one is of the next number that was given,
--- and a message names its own
+-- whom a step is about: a handled subscribe is of the next number that was given; other calls and a message name their own
 abbrev pub about_read : Operation → About
 about_read (message sid m) = only sid
 about_read operation = nobody
 
 abbrev pub about : At → Step → About
-about at (accepted call) = if subscribes call then only (suc at.given) else nobody
+about at (accepted call) = named (shuts call)
 about at (handled call) = if subscribes call then named (next_subscribed at) else named (names call)
 about at (read operation) = about_read operation
 about at (took sid) = only sid
+about at (gone sid) = only sid
 about at step = nobody
 
 -- a number that was given
@@ -179,34 +207,64 @@ concerns s at step = is_about s (about at step) && is_given s (at_after step at)
 
 -- what a history tells of one subscription
 pub record Told : Type 0 where
-  pub is_open : Bool
+  pub stage : Stage
+  -- no message is put any more
+  pub is_shut : Bool
+  -- no call may name it any more
+  pub is_gone : Bool
+  -- at how many puts it ends, where that was asked for
+  pub limit : Option ℕ
   pub puts : List (ℕ × Message)
   pub drops : List (ℕ × Message)
+  -- how many of the first puts wait no more: they were taken, or went with the subscription
   pub takes : ℕ
 
 -- before anything happened to it
 abbrev pub nothing_told : Told
-nothing_told = record { is_open = false; puts = []; drops = []; takes = 0 }
+nothing_told = record { stage = Asked; is_shut = false; is_gone = false; limit = None; puts = []; drops = []; takes = 0 }
 
--- a subscription as it stands: whether it is open, and its waiting messages, oldest first
+-- a subscription as it stands
 pub record Sub : Type 0 where
-  pub is_open : Bool
+  pub stage : Stage
+  pub is_shut : Bool
+  pub is_gone : Bool
+  pub limit : Option ℕ
+  -- how many messages were put, cut
+  pub puts : ℕ
+  -- its waiting messages, oldest first
   pub waiting : List Message
 
 abbrev pub second : {A : Type 0} → ℕ × A → A
 second pair = pair.1
 
--- its waiting messages: the puts without as many of the first as were taken
+-- its waiting messages are the puts without the first ones that wait no more
 abbrev pub sub_of : Told → Sub
-sub_of t = record { is_open = t.is_open; waiting = map second (drop t.takes t.puts) }
+sub_of t = record {
+  stage = t.stage;
+  is_shut = t.is_shut;
+  is_gone = t.is_gone;
+  limit = t.limit;
+  puts = cut (length t.puts);
+  waiting = map second (drop t.takes t.puts);
+}
+
+abbrev pub is_open : Stage → Bool
+is_open Open = true
+is_open Asked = false
+is_open Ended = false
+
+abbrev pub is_ended : Stage → Bool
+is_ended Ended = true
+is_ended Asked = false
+is_ended Open = false
 
 -- there is room: fewer wait than the subscription capacity
 abbrev pub has_room : Config → Sub → Bool
 has_room c sub = nat_lt (length sub.waiting) c.subscription_capacity
 
--- messages come for it
+-- messages are put or dropped: it is open and not shut
 abbrev pub listens : Sub → Bool
-listens sub = sub.is_open
+listens sub = is_open sub.stage && not sub.is_shut
 
 -- a message that comes for it is put where there is room
 abbrev pub puts : Config → Sub → Bool
@@ -216,17 +274,62 @@ puts c sub = listens sub && has_room c sub
 abbrev pub drops : Config → Sub → Bool
 drops c sub = listens sub && not (has_room c sub)
 
+-- so many puts reach a limit
+abbrev pub reached : Option ℕ → ℕ → Bool
+reached None n = false
+reached (Some limit) n = nat_le limit n
+
 -- a subscription opens when its subscribe is handled
 abbrev pub opens : Step → Bool
 opens (handled call) = subscribes call
 opens step = false
 
--- the ways for an open subscription to end: none yet
+-- the calls whose handling ends the subscription that they name
+abbrev pub call_ends : Call → Sub → Bool
+call_ends (Unsubscribe s) sub = true
+call_ends (DropSub s) sub = true
+call_ends (Limit s n) sub = nat_le n sub.puts
+call_ends call sub = false
+
+-- the ways for an open subscription to end: such a call is handled, or a message comes while it is shut, or one is put that
+-- reaches its limit
 abbrev pub ends : Config → Sub → Step → Bool
+ends c sub (handled call) = call_ends call sub
+ends c sub (read (message sid m)) = sub.is_shut || (has_room c sub && reached sub.limit (cut (suc sub.puts)))
 ends c sub step = false
 
-abbrev pub open_after : Config → Step → Sub → Bool
-open_after c step sub = not (ends c sub step) && (opens step || sub.is_open)
+abbrev pub open_if : Bool → Stage → Stage
+open_if false stage = stage
+open_if true Asked = Open
+open_if true Open = Open
+open_if true Ended = Ended
+
+abbrev pub end_if : Bool → Stage → Stage
+end_if false stage = stage
+end_if true Asked = Asked
+end_if true Open = Ended
+end_if true Ended = Ended
+
+abbrev pub stage_after : Config → Step → Sub → Stage
+stage_after c step sub = end_if (ends c sub step) (open_if (opens step) sub.stage)
+
+abbrev pub shut_after : Step → Bool → Bool
+shut_after (accepted call) shut = is_some (shuts call) || shut
+shut_after (gone sid) shut = true
+shut_after step shut = shut
+
+abbrev pub gone_after : Step → Bool → Bool
+gone_after (gone sid) is_gone = true
+gone_after step is_gone = is_gone
+
+abbrev pub limit_by : Call → Option ℕ → Option ℕ
+limit_by (Limit s n) limit = Some n
+limit_by call limit = limit
+
+-- its limit is that of the last Limit that was handled
+abbrev pub limit_after : Step → Option ℕ → Option ℕ
+limit_after (handled call) limit = limit_by call limit
+limit_after step limit = limit
 
 abbrev pub puts_by : Config → ℕ → Sub → Step → List (ℕ × Message)
 puts_by c place sub (read (message sid m)) = if puts c sub then (place, m) ∷ [] else []
@@ -236,14 +339,18 @@ abbrev pub drops_by : Config → ℕ → Sub → Step → List (ℕ × Message)
 drops_by c place sub (read (message sid m)) = if drops c sub then (place, m) ∷ [] else []
 drops_by c place sub step = []
 
--- a take is counted where a message waits
+-- a take is counted where a message waits; with the subscription all that wait go
 abbrev pub takes_after : Told → Step → ℕ
 takes_after t (took sid) = min (suc t.takes) (length t.puts)
+takes_after t (gone sid) = length t.puts
 takes_after t step = t.takes
 
 abbrev pub told_after : Config → ℕ → Step → Told → Told
 told_after c place step t = record {
-  is_open = open_after c step (sub_of t);
+  stage = stage_after c step (sub_of t);
+  is_shut = shut_after step t.is_shut;
+  is_gone = gone_after step t.is_gone;
+  limit = limit_after step t.limit;
   puts = t.puts ++ puts_by c place (sub_of t) step;
   drops = t.drops ++ drops_by c place (sub_of t) step;
   takes = takes_after t step;
@@ -254,9 +361,20 @@ abbrev pub told : Config → ℕ → History → Told
 told c s [] = nothing_told
 told c s ((place, step) ∷ h) = if concerns s (at_of h) step then told_after c place step (told c s h) else told c s h
 
+-- nothing can change a subscription any more that is gone and ended
+abbrev pub is_over : Sub → Bool
+is_over sub = sub.is_gone && is_ended sub.stage
+
+-- so all of these are told alike
+abbrev pub forgotten : Sub
+forgotten = record { stage = Ended; is_shut = true; is_gone = true; limit = None; puts = 0; waiting = [] }
+
+abbrev pub kept : Sub → Sub
+kept sub = tidied is_over forgotten sub
+
 -- the subscriptions by their numbers, as they stand
 abbrev pub rows_of : Config → History → List Sub
-rows_of c h = map (λ s. sub_of (told c s h)) (numbers h)
+rows_of c h = map (λ s. kept (sub_of (told c s h))) (numbers h)
 
 -- ---- the link's text
 
@@ -264,10 +382,34 @@ abbrev pub subscribe_command : Option ℕ → List ℕ → Option (List ℕ) →
 subscribe_command None subject group = []
 subscribe_command (Some s) subject group = client.Subscribe s subject group ∷ []
 
+abbrev pub unsubscribe_command : Bool → ℕ → Option ℕ → List ClientOp
+unsubscribe_command true s max = client.Unsubscribe s max ∷ []
+unsubscribe_command false s max = []
+
+abbrev pub is_open_at : Option Sub → Bool
+is_open_at None = false
+is_open_at (Some sub) = is_open sub.stage
+
+-- it is open and shut, so that a message that comes for it ends it
+abbrev pub is_closing : Sub → Bool
+is_closing sub = is_open sub.stage && sub.is_shut
+
+abbrev pub is_closing_at : Option Sub → Bool
+is_closing_at None = false
+is_closing_at (Some sub) = is_closing sub
+
+-- the commands of a call that is handled
+abbrev pub call_commands : At → List Sub → Call → List ClientOp
+call_commands at subs (Publish m) = client.Publish m.subject m.payload m.reply m.headers ∷ []
+call_commands at subs (Subscribe subject group) = subscribe_command (next_subscribed at) subject group
+call_commands at subs (Unsubscribe s) = unsubscribe_command (is_open_at (item_of s subs)) s None
+call_commands at subs (Limit s n) = unsubscribe_command (is_open_at (item_of s subs)) s (Some n)
+call_commands at subs (DropSub s) = unsubscribe_command (is_open_at (item_of s subs)) s None
+
 -- the commands that a step writes, where these are the subscriptions before it
 abbrev pub commands : Config → At → List Sub → Step → List ClientOp
-commands c at subs (handled (Publish m)) = client.Publish m.subject m.payload m.reply m.headers ∷ []
-commands c at subs (handled (Subscribe subject group)) = subscribe_command (next_subscribed at) subject group
+commands c at subs (handled call) = call_commands at subs call
+commands c at subs (read (message sid m)) = unsubscribe_command (is_closing_at (item_of sid subs)) sid None
 commands c at subs (read ping_op) = client.Pong ∷ []
 commands c at subs step = []
 

@@ -3,13 +3,15 @@ use Rattle.std.specs.Prelude.{ℕ, Bool, List}
 use Rattle.nats_wire.specs.Wire.{Wire}
 use Rattle.nats_history.specs.declared.config.Config.{Config}
 use Rattle.nats_history.specs.declared.call.Call.{Call}
-use Rattle.nats_history.specs.History.{History, links, is_up, unread, waiting_bytes, waiting_calls, At, at_of, Sub, rows_of}
+use Rattle.nats_history.specs.History.{History, links, is_up, max_payload, unread, waiting_bytes, waiting_calls, At, at_of, Sub, rows_of}
 
 -- the newest link
 pub record Link : Type 0 where
   -- its number, 0 before any
   pub number : ℕ
   pub is_up : Bool
+  -- the limit of a payload's size with its header block, in bytes
+  pub max_payload : ℕ
   -- the unread and the waiting bytes while it is up
   pub wire : Wire
 
@@ -37,6 +39,7 @@ abbrev pub link_of : Config → History → Link
 link_of c h = record {
   number = links h;
   is_up = is_up h;
+  max_payload = max_payload h;
   wire = record { unread = unread h; waiting = waiting_bytes c h };
 }
 

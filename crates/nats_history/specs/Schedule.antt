@@ -1,11 +1,14 @@
 -- What each turn of a session makes happen: validity, own steps, due steps, replies.
-use Rattle.std.specs.Prelude.{ℕ, zero, suc, ◌+◌, Bool, true, false, ◌&&◌, ◌==◌, nat_lt, nat_le, min, List, [], ◌∷◌, ◌++◌, length, Option, Some, None, is_some, if◌then◌else◌}
+use Rattle.std.specs.Prelude.{ℕ, zero, suc, ◌+◌, ◌-◌, ◌^◌, Bool, true, false, not, ◌&&◌, ◌||◌, ◌==◌, nat_lt, nat_le, min, List, [], ◌∷◌, ◌++◌, length, Option, Some, None, is_some, if◌then◌else◌}
+use Rattle.nats_names.specs.Names.{is_nonempty, is_publishable, is_valid}
 use Rattle.nats_wire.specs.declared.message.Message.{Message}
-use Rattle.nats_wire.specs.Operations.{Front, unfinished, got, fault, front}
+use Rattle.nats_wire.specs.Operations.{Front, unfinished, got, fault, front, length_or_0}
+use Rattle.nats_wire.specs.Commands.{sent_block}
 use Rattle.nats_history.specs.declared.config.Config.{Config}
 use Rattle.nats_history.specs.declared.call.Call.{Call}
+use Rattle.nats_history.specs.declared.call.Call.TheVariants.{Publish, Subscribe}
 use Rattle.nats_history.specs.declared.call.CallReply.{CallReply}
-use Rattle.nats_history.specs.declared.call.CallReply.TheVariants.{Accepted, Numbered, Full}
+use Rattle.nats_history.specs.declared.call.CallReply.TheVariants.{Accepted, Numbered, InvalidSubject, InvalidQueueName, MaxPayloadExceeded, NoNumber, Full}
 use Rattle.nats_history.specs.declared.call.TakeReply.{TakeReply}
 use Rattle.nats_history.specs.declared.call.TakeReply.TheVariants as takes
 use Rattle.nats_history.specs.declared.turn.Turn.{Turn}
@@ -13,7 +16,7 @@ use Rattle.nats_history.specs.declared.turn.Turn.TheVariants.{Up, Piece, Write, 
 use Rattle.nats_history.specs.declared.transcript.LinkWord.{LinkWord}
 use Rattle.nats_history.specs.declared.transcript.LinkWord.TheVariants as word
 use Rattle.nats_tables.specs.Numbers.{item_of}
-use Rattle.nats_history.specs.History.{Step, opened, fed, read, taken, accepted, handled, took, link_end, History, subscribes, names, Sub}
+use Rattle.nats_history.specs.History.{Step, opened, fed, read, taken, accepted, handled, took, gone, link_end, History, subscribes, names, lets_go, Sub, is_ended}
 use Rattle.nats_history.specs.Parts.{Parts, parts_of}
 
 -- ---- replies
@@ -22,9 +25,43 @@ use Rattle.nats_history.specs.Parts.{Parts, parts_of}
 abbrev pub is_full : Parts → Bool
 is_full p = nat_le p.config.client_capacity (length p.calls)
 
--- the reply by which a call is refused, if it is
+-- a subject that may be published to: nonempty, and publishable unless the settings skip that
+abbrev pub may_publish_to : Config → List ℕ → Bool
+may_publish_to c subject = is_nonempty subject && (c.skip_subject_validation || is_publishable subject)
+
+-- what may be left out passes a test
+abbrev pub passes : (List ℕ → Bool) → Option (List ℕ) → Bool
+passes test None = true
+passes test (Some text) = test text
+
+-- the subjects of a call may stand there
+abbrev pub has_subjects : Config → Call → Bool
+has_subjects c (Publish m) = may_publish_to c m.subject && passes (may_publish_to c) m.reply
+has_subjects c (Subscribe subject group) = is_valid subject
+has_subjects c call = true
+
+-- its queue group may stand there
+abbrev pub has_group : Call → Bool
+has_group (Subscribe subject group) = passes is_publishable group
+has_group call = true
+
+-- its size in bytes: the payload, and the header block where one is sent
+abbrev pub size_of : Call → ℕ
+size_of (Publish m) = length_or_0 (sent_block m.headers) + length m.payload
+size_of call = 0
+
+-- it would be given a number and none is left
+abbrev pub has_no_number : Parts → Call → Bool
+has_no_number p call = subscribes call && nat_le (2 ^ 64 - 1) p.subs.given
+
+-- the reply by which a call is refused, by the first of these that holds, or none
 abbrev pub refusal : Parts → Call → Option CallReply
-refusal p call = if is_full p then Some Full else None
+refusal p call =
+    if not (has_subjects p.config call) then Some InvalidSubject else
+    (if not (has_group call) then Some InvalidQueueName else
+    (if nat_lt p.link.max_payload (size_of call) then Some (MaxPayloadExceeded p.link.max_payload (size_of call)) else
+    (if has_no_number p call then Some NoNumber else
+    (if is_full p then Some Full else None))))
 
 -- the reply of a call that is accepted
 abbrev pub accepted_reply : Parts → Call → CallReply
@@ -37,24 +74,35 @@ reply_by (Some refused) reply = refused
 abbrev pub call_reply : Parts → Call → CallReply
 call_reply p call = reply_by (refusal p call) (accepted_reply p call)
 
-abbrev pub oldest : List Message → TakeReply
-oldest [] = takes.Empty
-oldest (m ∷ more) = takes.Message m
+-- no further message will be put into its queue
+abbrev pub is_closed_sub : Sub → Bool
+is_closed_sub sub = sub.is_shut || is_ended sub.stage
+
+abbrev pub oldest : Bool → List Message → TakeReply
+oldest over [] = if over then takes.Ended else takes.Empty
+oldest over (m ∷ more) = takes.Message m
+
+abbrev pub sub_take : Sub → TakeReply
+sub_take sub = oldest (is_closed_sub sub) sub.waiting
 
 abbrev pub take_reply_of : Option Sub → TakeReply
-take_reply_of None = takes.Empty
-take_reply_of (Some sub) = oldest sub.waiting
+take_reply_of None = takes.Ended
+take_reply_of (Some sub) = sub_take sub
 
--- a take answers the oldest waiting message
+-- a take answers the oldest waiting message, or whether one may still come
 abbrev pub take_reply : Parts → ℕ → TakeReply
 take_reply p sid = take_reply_of (item_of sid p.subs.rows)
 
 -- ---- turns
 
--- what a call names was given
+-- a subscription may be named: its number was given, and its user did not let it go
+abbrev pub is_there : Option Sub → Bool
+is_there None = false
+is_there (Some sub) = not sub.is_gone
+
 abbrev pub may_name : Parts → Option ℕ → Bool
 may_name p None = true
-may_name p (Some s) = is_some (item_of s p.subs.rows)
+may_name p (Some s) = is_there (item_of s p.subs.rows)
 
 -- a turn may come here
 abbrev pub is_valid_turn : Parts → Turn → Bool
@@ -62,7 +110,7 @@ is_valid_turn p (Up info) = p.link.number == 0
 is_valid_turn p (Piece bytes) = p.link.is_up
 is_valid_turn p (Write n) = p.link.is_up
 is_valid_turn p (Do call) = may_name p (names call)
-is_valid_turn p (Take sid) = is_some (item_of sid p.subs.rows)
+is_valid_turn p (Take sid) = is_there (item_of sid p.subs.rows)
 
 -- the word by which the link ends at a step, if it does
 abbrev pub end_after : Parts → Step → Option LinkWord
@@ -87,13 +135,23 @@ accepted_step (Some refused) call = []
 abbrev pub took_step : ℕ → TakeReply → List Step
 took_step sid (takes.Message m) = took sid ∷ []
 took_step sid takes.Empty = []
+took_step sid takes.Ended = []
+
+-- its user lets a subscription go
+abbrev pub gone_step : Option ℕ → List Step
+gone_step None = []
+gone_step (Some s) = gone s ∷ []
+
+-- the steps of a call: it is accepted or not, and whatever the reply its user lets a subscription go
+abbrev pub call_steps : Parts → Call → List Step
+call_steps p call = accepted_step (refusal p call) call ++ gone_step (lets_go call)
 
 -- what a turn itself makes happen
 abbrev pub own_steps : Parts → Turn → List Step
 own_steps p (Up info) = chain p (opened info)
 own_steps p (Piece bytes) = chain p (fed bytes)
 own_steps p (Write n) = chain p (taken (min n (length p.link.wire.waiting)))
-own_steps p (Do call) = accepted_step (refusal p call) call
+own_steps p (Do call) = call_steps p call
 own_steps p (Take sid) = took_step sid (take_reply p sid)
 
 -- ---- due steps

@@ -14,6 +14,15 @@ pub enum Call {
         subject: Subject,
         queue_group: Option<Subject>,
     },
+    /// No further messages for the subscription of this number: it is shut as soon as the call is accepted, and those that
+    /// wait can still be taken.
+    Unsubscribe(u64),
+    /// The subscription of this number ends once so many messages were put into its queue in all, those before the call
+    /// counted.
+    Limit(u64, u64),
+    /// The user lets the subscription of this number go, whatever the reply: its waiting messages go, and no later call may
+    /// name it.
+    DropSub(u64),
 }
 
 /// The answer to a call.
@@ -23,7 +32,15 @@ pub enum CallReply {
     Accepted,
     /// The call was accepted, and this is the number that it gave, from 1.
     Numbered(u64),
-    /// As many accepted calls wait as the client capacity: nothing changed, and the call is dropped.
+    /// A subject or a reply may not be published to, or a subject may not be subscribed to.
+    InvalidSubject,
+    /// A queue group has no letter, or a space, a tab, a CR or an LF.
+    InvalidQueueName,
+    /// The payload with its header block is larger than the server takes; both in bytes.
+    MaxPayloadExceeded { limit: u64, size: u64 },
+    /// The number 2^64 - 1 was given, and none follows it.
+    NoNumber,
+    /// As many accepted calls wait as the client capacity.
     Full,
 }
 
@@ -32,8 +49,10 @@ pub enum CallReply {
 pub enum TakeReply {
     /// The oldest waiting message of the subscription.
     Message(Message),
-    /// None waits.
+    /// None waits, and some may still come.
     Empty,
+    /// None waits, and none will come: the subscription is shut or ended.
+    Ended,
 }
 
 impl Call {
@@ -50,6 +69,9 @@ impl Call {
                 subject: subject.copy(alloc)?,
                 queue_group: copy_subject(alloc, queue_group)?,
             }),
+            Call::Unsubscribe(s) => Ok(Call::Unsubscribe(*s)),
+            Call::Limit(s, n) => Ok(Call::Limit(*s, *n)),
+            Call::DropSub(s) => Ok(Call::DropSub(*s)),
         }
     }
 }
@@ -62,6 +84,13 @@ impl CallReply {
         match self {
             CallReply::Accepted => Ok(CallReply::Accepted),
             CallReply::Numbered(number) => Ok(CallReply::Numbered(*number)),
+            CallReply::InvalidSubject => Ok(CallReply::InvalidSubject),
+            CallReply::InvalidQueueName => Ok(CallReply::InvalidQueueName),
+            CallReply::MaxPayloadExceeded { limit, size } => Ok(CallReply::MaxPayloadExceeded {
+                limit: *limit,
+                size: *size,
+            }),
+            CallReply::NoNumber => Ok(CallReply::NoNumber),
             CallReply::Full => Ok(CallReply::Full),
         }
     }
@@ -75,6 +104,7 @@ impl TakeReply {
         match self {
             TakeReply::Message(message) => Ok(TakeReply::Message(message.copy(alloc)?)),
             TakeReply::Empty => Ok(TakeReply::Empty),
+            TakeReply::Ended => Ok(TakeReply::Ended),
         }
     }
 }

@@ -6,13 +6,15 @@
 mod call;
 mod config;
 pub mod laws;
+mod stage;
 mod transcript;
 mod turn;
 
 pub use call::{Call, CallReply, TakeReply};
 pub use config::Config;
 pub use nats_wire::{
-    Bytes, Event, Message, NoMemory, OutboundMessage, Seq, ServerInfo, Subject, Token,
+    Bytes, Event, HeaderMap, Message, NoMemory, OutboundMessage, Seq, ServerInfo, Subject, Token,
 };
+pub use stage::Stage;
 pub use transcript::{LinkRow, LinkWord, RunError, SubRow, Transcript};
 pub use turn::{Due, Turn};

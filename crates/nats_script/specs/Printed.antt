@@ -7,7 +7,7 @@ use Rattle.nats_names.specs.declared.event.Event.{Event}
 use Rattle.nats_names.specs.Events.{event_text}
 use Rattle.nats_wire.specs.declared.message.Message.{Message}
 use Rattle.nats_history.specs.declared.call.CallReply.{CallReply}
-use Rattle.nats_history.specs.declared.call.CallReply.TheVariants.{Accepted, Numbered, Full}
+use Rattle.nats_history.specs.declared.call.CallReply.TheVariants.{Accepted, Numbered, InvalidSubject, InvalidQueueName, MaxPayloadExceeded, NoNumber, Full}
 use Rattle.nats_history.specs.declared.call.TakeReply.{TakeReply}
 use Rattle.nats_history.specs.declared.call.TakeReply.TheVariants as took
 use Rattle.nats_history.specs.declared.transcript.LinkWord.{LinkWord}
@@ -85,6 +85,7 @@ drop_line (place, m) = placed (codes "drop") place (message_text m)
 abbrev pub take_text : TakeReply → List ℕ
 take_text (took.Message m) = codes "message " ++ message_text m
 take_text took.Empty = codes "empty"
+take_text took.Ended = codes "ended"
 
 abbrev pub take_line : ℕ × TakeReply → List ℕ
 take_line (place, reply) = placed (codes "take") place (take_text reply)
@@ -102,6 +103,10 @@ event_line (place, event) = placed (codes "event") place (spelled (event_text ev
 abbrev pub reply_text : CallReply → List ℕ
 reply_text Accepted = codes "accepted"
 reply_text (Numbered n) = codes "numbered " ++ decimal n
+reply_text InvalidSubject = codes "invalid-subject"
+reply_text InvalidQueueName = codes "invalid-queue-name"
+reply_text (MaxPayloadExceeded limit size) = codes "max-payload " ++ decimal limit ++ space ++ decimal size
+reply_text NoNumber = codes "no-number"
 reply_text Full = codes "full"
 
 abbrev pub call_line : ℕ × CallReply → List ℕ

@@ -205,6 +205,7 @@ fn push_take(out: &mut Vec<u8>, reply: &TakeReply) -> Result<(), NoMemory>
             push_message(out, m)?;
         }
         TakeReply::Empty => out.extend_from_slice(b"empty")?,
+        TakeReply::Ended => out.extend_from_slice(b"ended")?,
     }
     Ok(())
 }
@@ -271,6 +272,15 @@ fn push_reply(out: &mut Vec<u8>, reply: &CallReply) -> Result<(), NoMemory>
             out.extend_from_slice(b"numbered ")?;
             push_number(out, *n)?;
         }
+        CallReply::InvalidSubject => out.extend_from_slice(b"invalid-subject")?,
+        CallReply::InvalidQueueName => out.extend_from_slice(b"invalid-queue-name")?,
+        CallReply::MaxPayloadExceeded { limit, size } => {
+            out.extend_from_slice(b"max-payload ")?;
+            push_number(out, *limit)?;
+            out.push(b' ')?;
+            push_number(out, *size)?;
+        }
+        CallReply::NoNumber => out.extend_from_slice(b"no-number")?,
         CallReply::Full => out.extend_from_slice(b"full")?,
     }
     Ok(())

@@ -1,56 +1,65 @@
 -- Laws on a handler as it is seen.
-use Rattle.std.proofs.Common.{◌≡◌, ℕ, zero, suc, ◌≤◌, List, [], ◌∷◌, ◌++◌, length, drop, map, Option, Some, None, Result, Ok, Err, OnOk, OnErr, IfOk, Bool, true, false, cond, ◌&&◌, refl, sym, ◌∙◌, ap, subst, arith}
-use Rattle.std.specs.Prelude.{slice_get}
+use Rattle.std.proofs.Common.{◌≡◌, ℕ, zero, suc, ◌≤◌, List, [], ◌∷◌, ◌++◌, length, drop, map, Option, Some, None, Result, Ok, Err, OnOk, OnErr, IfOk, Bool, true, false, not, cond, is_some, ◌&&◌, ◌||◌, refl, sym, ◌∙◌, ap, subst, arith}
 use Rattle.std.proofs.lemmas.List.{append-nil, append_assoc, map-append, length-append, length-map, drop-append-le, drop-drop, length-drop}
+use Rattle.std.proofs.lemmas.Bool.{false≢true}
 use Rattle.std.proofs.lemmas.Result.{on_ok_weaker}
 use Rattle.nats_names.specs.declared.event.Event.{Event}
 use Rattle.nats_wire.specs.declared.message.Message.{Message}
 use Rattle.nats_history.specs.declared.config.Config.{Config}
 use Rattle.nats_history.specs.declared.call.Call.{Call}
+use Rattle.nats_history.specs.declared.call.Call.TheVariants.{Unsubscribe}
 use Rattle.nats_history.specs.declared.call.CallReply.{CallReply}
-use Rattle.nats_history.specs.declared.call.CallReply.TheVariants.{Numbered}
+use Rattle.nats_history.specs.declared.call.CallReply.TheVariants.{Accepted, Numbered}
 use Rattle.nats_history.specs.declared.call.TakeReply.{TakeReply}
 use Rattle.nats_history.specs.declared.call.TakeReply.TheVariants as takes
-use Rattle.nats_history.specs.declared.turn.Turn.TheVariants.{Do}
+use Rattle.nats_history.specs.declared.turn.Turn.TheVariants.{Do, Take}
 use Rattle.nats_history.specs.declared.turn.Due.{Due}
 use Rattle.nats_history.specs.Queue.{first}
-use Rattle.nats_tables.specs.Numbers.{at_index, at_number, item_of}
-use Rattle.nats_history.specs.History.{Step, accepted, took, History, subscribes, Sub, has_room, listens, second, events_by, at_place, events}
+use Rattle.nats_tables.specs.Numbers.{at_number, item_of, named, change}
+use Rattle.nats_history.specs.History.{Step, accepted, took, History, subscribes, shuts, lets_go, Sub, is_ended, forgotten, kept, second, events_by, at_place, events}
 use Rattle.nats_history.specs.Parts.{Subs, Parts, parts_of}
-use Rattle.nats_history.specs.Schedule.{refusal, call_reply, accepted_step, oldest, take_reply_of, take_reply, took_step, own_steps, put_steps, chain, due_chain}
-use Rattle.nats_history.specs.After.{new_sub, sub_after, after, after_all, events_of}
+use Rattle.nats_history.specs.Schedule.{refusal, reply_by, accepted_reply, call_reply, accepted_step, gone_step, call_steps, is_closed_sub, oldest, sub_take, take_reply_of, take_reply, is_there, took_step, own_steps, due, put_steps, chain, due_chain}
+use Rattle.nats_history.specs.After.{new_sub, sub_after, subs_after, after, after_all, events_of}
 use Rattle.nats_history.proofs.Refines.{parts_after}
-use Rattle.nats_tables.proofs.Numbers.{at_number_same}
-use Rattle.nats_session.specs.declared.subs.subscription.Delivery.{Delivery}
-use Rattle.nats_session.specs.declared.subs.subscription.Delivery.TheVariants.{Put, Dropped, Ignored}
-use Rattle.nats_session.specs.Delivery.{delivery, delivery_at, deliver, take_from, given_one}
+use Rattle.nats_tables.proofs.Numbers.{at_number_same, agree_at}
+use Rattle.nats_session.specs.declared.subs.subscription.Alteration.TheVariants as alterations
+use Rattle.nats_session.specs.Delivery.{take_from, given_one, rows_named, with_rows}
 use Rattle.nats_session.specs.Machine.{quiet}
-use Rattle.nats_session.specs.Handler.{Seen, HandedOut, StandsFor, push_all, seen_after, seen_all, LeadTo, Advances, Submits, next_of, handed, HandsOut}
+use Rattle.nats_session.specs.Handler.{Seen, HandedOut, StandsFor, push_all, seen_after, seen_all, LeadTo, can_play, Advances, Answers, Submits, next_of, handed, HandsOut}
 
 -- ---- a take where nothing waits changes nothing
 
-same_at : {A : Type 0} (i : ℕ) (f : A → A) (xs : List A) → ((x : A) → slice_get xs i ≡ Some x → f x ≡ x) → at_index i f xs ≡ xs
-same_at i f [] same = refl
-same_at zero f (x ∷ xs) same = ap (λ y. y ∷ xs) (same x refl)
-same_at (suc i) f (x ∷ xs) same = ap (λ ys. x ∷ ys) (same_at i f xs same)
+abbrev is_message : TakeReply → Bool
+is_message (takes.Message m) = true
+is_message takes.Empty = false
+is_message takes.Ended = false
 
-empty_sub : (sub : Sub) → oldest sub.waiting ≡ takes.Empty → take_from sub ≡ sub
-empty_sub sub none = ap (λ ms. record sub { waiting = ms }) (by_waiting sub.waiting none)
+not_true : (b : Bool) → not b ≡ true → b ≡ false
+not_true true e = absurd (false≢true e)
+not_true false e = refl
+
+empty_sub : (sub : Sub) → not sub.is_gone ≡ true → is_message (sub_take sub) ≡ false → kept (take_from sub) ≡ sub
+empty_sub sub there none =
+    ap (λ ms. kept (record sub { waiting = ms })) (by_waiting sub.waiting none) ∙ ap (λ g. cond (g && is_ended sub.stage) forgotten sub) (not_true sub.is_gone there)
   where
-    by_waiting : (ms : List Message) → oldest ms ≡ takes.Empty → drop 1 ms ≡ ms
+    by_waiting : (ms : List Message) → is_message (oldest (is_closed_sub sub) ms) ≡ false → drop 1 ms ≡ ms
     by_waiting [] none = refl
-    by_waiting (m ∷ ms) none = cc
+    by_waiting (m ∷ ms) none = absurd (false≢true (sym none))
 
-took_nothing : (subs : List Sub) (sid : ℕ) → take_reply_of (item_of sid subs) ≡ takes.Empty → at_number sid take_from subs ≡ subs
-took_nothing subs zero none = refl
-took_nothing subs (suc i) none =
-    same_at i take_from subs (λ sub there. empty_sub sub (sym (ap take_reply_of there) ∙ none))
+took_nothing : (subs : List Sub) (sid : ℕ) → is_there (item_of sid subs) ≡ true → is_message (take_reply_of (item_of sid subs)) ≡ false
+    → at_number sid (λ sub. kept (take_from sub)) subs ≡ subs
+took_nothing subs sid there none =
+    agree_at sid (λ sub. kept (take_from sub)) (λ sub. sub) subs (λ sub is. empty_sub sub (sym (ap is_there is) ∙ there) (sym (ap (λ row. is_message (take_reply_of row)) is) ∙ none)) ∙ at_number_same sid subs
+
+abbrev with_taken : Seen → List Sub → Seen
+with_taken seen rows = record seen { parts = record seen.parts { subs = record seen.parts.subs { rows = rows } } }
 
 -- a take is a step, or where nothing waits none
-pub own_take : (seen : Seen) (sid : ℕ) (r : TakeReply) → take_reply seen.parts sid ≡ r → seen_after seen (took sid) ≡ seen_all seen (took_step sid r)
-own_take seen sid (takes.Message m) e = refl
-own_take seen sid takes.Empty e =
-    ap (λ rows. record seen { parts = record seen.parts { subs = record seen.parts.subs { rows = rows } } }) (took_nothing seen.parts.subs.rows sid e)
+pub own_take : (seen : Seen) (sid : ℕ) (r : TakeReply) → is_there (item_of sid seen.parts.subs.rows) ≡ true → take_reply seen.parts sid ≡ r
+    → seen_after seen (took sid) ≡ seen_all seen (took_step sid r)
+own_take seen sid (takes.Message m) there e = refl
+own_take seen sid takes.Empty there e = ap (with_taken seen) (took_nothing seen.parts.subs.rows sid there (ap is_message e))
+own_take seen sid takes.Ended there e = ap (with_taken seen) (took_nothing seen.parts.subs.rows sid there (ap is_message e))
 
 -- ---- standing for a history
 
@@ -90,9 +99,18 @@ leads old steps new e c out h place stands =
 pub leads_one : {T E : Type 0} (r : Result T E) (old new : Seen) (step : Step) → OnOk r (new ≡ seen_after old step) → OnOk r (LeadTo old (step ∷ []) new)
 leads_one r old new step e = on_ok_weaker r (λ is. leads old (step ∷ []) new is) e
 
-pub leads_take : (old new : Seen) (sid : ℕ) → new ≡ seen_after old (took sid) → LeadTo old (took_step sid (take_reply old.parts sid)) new
-leads_take old new sid e =
-    leads old (took_step sid (take_reply old.parts sid)) new (e ∙ own_take old sid (take_reply old.parts sid) refl)
+both_true : (a b : Bool) → (a && b) ≡ true → a ≡ true
+both_true true b e = refl
+both_true false b e = absurd (false≢true e)
+
+-- a take that may be played is of a subscription that may be named
+pub may_take : (p : Parts) (sid : ℕ) → can_play p (Take sid) ≡ true → is_there (item_of sid p.subs.rows) ≡ true
+may_take p sid may = both_true (is_there (item_of sid p.subs.rows)) (not (is_some (due p))) may
+
+pub leads_take : (old new : Seen) (sid : ℕ) → can_play old.parts (Take sid) ≡ true → new ≡ seen_after old (took sid)
+    → LeadTo old (took_step sid (take_reply old.parts sid)) new
+leads_take old new sid may e =
+    leads old (took_step sid (take_reply old.parts sid)) new (e ∙ own_take old sid (take_reply old.parts sid) (may_take old.parts sid may) refl)
 
 pub leads_call : (old new : Seen) (call : Call) (r : Result CallReply Call) → Submits old call r new → OnOk r (LeadTo old (own_steps old.parts (Do call)) new)
 leads_call old new call (Err back) submits = tt
@@ -149,55 +167,111 @@ pub on_ok_of : {T E P : Type 0} (r : Result T E) → P → OnOk r P
 on_ok_of (Ok x) p = p
 on_ok_of (Err e) p = tt
 
--- a message that is dropped changes no subscription
-dropped_sub : (c : Config) (m n : Message) (sub : Sub) → delivery c m sub ≡ Dropped n → deliver c m sub ≡ sub
-dropped_sub c m n sub e = ap (λ ms. record sub { waiting = ms }) (by_case (listens sub) (has_room c sub) e)
-  where
-    by_case : (comes room : Bool) → cond comes (cond room Put (Dropped m)) Ignored ≡ Dropped n → cond (comes && room) (sub.waiting ++ m ∷ []) sub.waiting ≡ sub.waiting
-    by_case true true e = cc
-    by_case true false e = refl
-    by_case false room e = cc
-
-pub dropped_nothing : (c : Config) (m n : Message) (subs : List Sub) (sid : ℕ) → delivery_at c m (item_of sid subs) ≡ Dropped n → at_number sid (deliver c m) subs ≡ subs
-dropped_nothing c m n subs zero e = refl
-dropped_nothing c m n subs (suc i) e =
-    same_at i (deliver c m) subs (λ sub there. dropped_sub c m n sub (sym (ap (delivery_at c m) there) ∙ e))
-
+-- what an alteration of subscriptions or the events leave alone
 pub unchanged : (seen : Seen) (subs : Subs) (events : List Event) → subs ≡ seen.parts.subs → events ≡ seen.events → record { parts = record seen.parts { subs = subs }; events = events } ≡ seen
 unchanged seen subs events a b = rw (a, b) refl
 
--- a subscribe that was taken in: one more call waits, and one more number was given
-pub numbered : (old new : Seen) (call : Call) → refusal old.parts call ≡ None → subscribes call ≡ true → new ≡ record old { parts = record old.parts { calls = old.parts.calls ++ call ∷ []; subs = given_one old.parts.subs } }
-    → (Numbered (suc old.parts.subs.given) ≡ call_reply old.parts call) × (new ≡ seen_all old (accepted_step (refusal old.parts call) call))
-numbered old new call free is e =
-    let c = old.parts.config in
-    let kept : at_number (suc old.parts.subs.given) (sub_after c (accepted call)) (old.parts.subs.rows ++ new_sub ∷ []) ≡ old.parts.subs.rows ++ new_sub ∷ [] =
-    at_number_same (suc old.parts.subs.given) (old.parts.subs.rows ++ new_sub ∷ [])
-    in
-    (rw (free, is) refl, rw (free, is, kept) e)
+-- ---- a call that is accepted
 
-abbrev TakenIn : Seen → Call → ℕ → Seen → Type 0
-TakenIn old call number new = (Numbered number ≡ call_reply old.parts call) × (new ≡ seen_all old (accepted_step (refusal old.parts call) call))
+no_shut : (call : Call) → subscribes call ≡ true → shuts call ≡ None
+no_shut (Unsubscribe s) e = absurd (false≢true e)
+no_shut call e = refl
+
+abbrev subs_with : Config → Call → Subs → Bool → Option ℕ → Subs
+subs_with c call subs numbered name = record subs {
+  given = cond numbered (suc subs.given) subs.given;
+  rows = change (named name) (sub_after c (accepted call)) (cond numbered (subs.rows ++ new_sub ∷ []) subs.rows);
+}
+
+-- a subscribe is given the next number
+pub subs_given : (c : Config) (call : Call) (subs : Subs) → subscribes call ≡ true → subs_after c (accepted call) subs ≡ given_one subs
+subs_given c call subs is =
+    ap (λ b. subs_with c call subs b (shuts call)) is ∙ ap (subs_with c call subs true) (no_shut call is)
+
+shut_rows : (c : Config) (call : Call) (rows : List Sub) (name : Option ℕ) → shuts call ≡ name → change (named name) (sub_after c (accepted call)) rows ≡ rows_named name alterations.Shut rows
+shut_rows c call rows None is = refl
+shut_rows c call rows (Some s) is =
+    ap (λ o. at_number s (λ (sub : Sub). kept (record sub { is_shut = is_some o || sub.is_shut })) rows) is
+
+-- any other call shuts the subscription that it names for that
+pub subs_shut : (c : Config) (call : Call) (subs : Subs) → subscribes call ≡ false → subs_after c (accepted call) subs ≡ with_rows (rows_named (shuts call) alterations.Shut subs.rows) subs
+subs_shut c call subs is =
+    ap (λ b. subs_with c call subs b (shuts call)) is ∙ ap (λ rows. with_rows rows subs) (shut_rows c call subs.rows (shuts call) refl)
 
 abbrev with_call : Seen → List Call → Subs → Seen
 with_call seen calls subs = record seen { parts = record seen.parts { calls = calls; subs = subs } }
 
--- the same by what the fields of the handler became
-pub numbered_by : (seen old : Seen) (call : Call) (calls : List Call) (subs : Subs) (number : ℕ) → seen ≡ old → refusal old.parts call ≡ None → subscribes call ≡ true
-    → calls ≡ seen.parts.calls ++ call ∷ [] → subs ≡ given_one seen.parts.subs → number ≡ subs.given → TakenIn old call number (with_call seen calls subs)
-numbered_by seen old call calls subs number same free is a b d =
-    let free_there : refusal seen.parts call ≡ None =
-    subst (λ (s : Seen). refusal s.parts call ≡ None) (sym same) free
-    in
-    let taken = numbered seen (with_call seen calls subs) call free_there is (rw (a, b) refl) in
-    subst (λ s. TakenIn s call number (with_call seen calls subs)) same (ap Numbered (d ∙ ap (λ (x : Subs). x.given) b) ∙ taken.0, taken.1)
+abbrev TakenIn : Seen → Call → CallReply → Seen → Type 0
+TakenIn old call reply new = (reply ≡ call_reply old.parts call) × (new ≡ seen_all old (accepted_step (refusal old.parts call) call))
 
--- a take leaves no event
-pub take_quiet : (old : Seen) (sid : ℕ) → old.events ≡ [] → seen_after old (took sid) ≡ quiet (after_all old.parts (took_step sid (take_reply old.parts sid)))
-take_quiet old sid none =
+-- a call that is not refused: one more waits, and the subscriptions are those after its acceptance
+taken : (old : Seen) (call : Call) (reply : CallReply) (calls : List Call) (subs : Subs) → refusal old.parts call ≡ None → reply ≡ accepted_reply old.parts call
+    → calls ≡ old.parts.calls ++ call ∷ [] → subs ≡ subs_after old.parts.config (accepted call) old.parts.subs → TakenIn old call reply (with_call old calls subs)
+taken old call reply calls subs free is a b = (
+  is ∙ sym (ap (λ r. reply_by r (accepted_reply old.parts call)) free),
+  ap (λ cs. with_call old cs subs) a ∙ (ap (with_call old (old.parts.calls ++ call ∷ [])) b ∙ sym (ap (λ r. seen_all old (accepted_step r call)) free)),
+)
+
+-- the same by what the fields of the handler became
+taken_by : (seen old : Seen) (call : Call) (reply : CallReply) (calls : List Call) (subs : Subs) → seen ≡ old → refusal old.parts call ≡ None → reply ≡ accepted_reply seen.parts call
+    → calls ≡ seen.parts.calls ++ call ∷ [] → subs ≡ subs_after seen.parts.config (accepted call) seen.parts.subs → TakenIn old call reply (with_call seen calls subs)
+taken_by seen old call reply calls subs same free is a b =
+    let free_there : refusal seen.parts call ≡ None = subst (λ (s : Seen). refusal s.parts call ≡ None) (sym same) free in
+    subst (λ s. TakenIn s call reply (with_call seen calls subs)) same (taken seen call reply calls subs free_there is a b)
+
+pub numbered_by : (seen old : Seen) (call : Call) (calls : List Call) (subs : Subs) (number : ℕ) → seen ≡ old → refusal old.parts call ≡ None → subscribes call ≡ true
+    → calls ≡ seen.parts.calls ++ call ∷ [] → subs ≡ given_one seen.parts.subs → number ≡ subs.given → TakenIn old call (Numbered number) (with_call seen calls subs)
+numbered_by seen old call calls subs number same free is a b d =
+    taken_by seen old call (Numbered number) calls subs same free
+    (ap Numbered (d ∙ ap (λ (x : Subs). x.given) b) ∙ sym (ap (λ n. cond n (Numbered (suc seen.parts.subs.given)) Accepted) is))
+    a (b ∙ sym (subs_given seen.parts.config call seen.parts.subs is))
+
+pub shut_by : (seen old : Seen) (call : Call) (calls : List Call) (subs : Subs) → seen ≡ old → refusal old.parts call ≡ None → subscribes call ≡ false
+    → calls ≡ seen.parts.calls ++ call ∷ [] → subs ≡ with_rows (rows_named (shuts call) alterations.Shut seen.parts.subs.rows) seen.parts.subs
+    → TakenIn old call Accepted (with_call seen calls subs)
+shut_by seen old call calls subs same free is a b =
+    taken_by seen old call Accepted calls subs same free (sym (ap (λ n. cond n (Numbered (suc seen.parts.subs.given)) Accepted) is))
+    a (b ∙ sym (subs_shut seen.parts.config call seen.parts.subs is))
+
+-- ---- a subscription that is let go, whatever the reply
+
+pub seen_append : (old : Seen) (xs ys : List Step) → seen_all old (xs ++ ys) ≡ seen_all (seen_all old xs) ys
+seen_append old [] ys = refl
+seen_append old (x ∷ xs) ys = seen_append (seen_after old x) xs ys
+
+pub go_seen : (seen : Seen) (name : Option ℕ) → record seen { parts = record seen.parts { subs = with_rows (rows_named name alterations.LetGo seen.parts.subs.rows) seen.parts.subs } } ≡ seen_all seen (gone_step name)
+go_seen seen None = refl
+go_seen seen (Some s) = refl
+
+pub submitted : (old mid seen : Seen) (call : Call) (reply : CallReply) (subs : Subs) → Answers (accepted_step (refusal old.parts call) call) old call (Ok reply) mid
+    → seen ≡ mid → subs ≡ with_rows (rows_named (lets_go call) alterations.LetGo seen.parts.subs.rows) seen.parts.subs → Submits old call (Ok reply) (record seen { parts = record seen.parts { subs = subs } })
+submitted old mid seen call reply subs taken_in same is = (
+  taken_in.0,
+  ap (λ x. record seen { parts = record seen.parts { subs = x } }) is
+  ∙ (go_seen seen (lets_go call) ∙ (ap (λ s. seen_all s (gone_step (lets_go call))) (same ∙ taken_in.1) ∙ sym (seen_append old (accepted_step (refusal old.parts call) call) (gone_step (lets_go call))))),
+)
+
+-- ---- turns that leave no event
+
+pub take_quiet : (old : Seen) (sid : ℕ) → old.events ≡ [] → can_play old.parts (Take sid) ≡ true
+    → seen_after old (took sid) ≡ quiet (after_all old.parts (took_step sid (take_reply old.parts sid)))
+take_quiet old sid none may =
     let reply = take_reply old.parts sid in
-    ap (λ es. record { parts = after old.parts (took sid); events = es }) none ∙ ap quiet (ap (λ (s : Seen). s.parts) (own_take old sid reply refl) ∙ by_reply reply)
+    ap (λ es. record { parts = after old.parts (took sid); events = es }) none
+    ∙ ap quiet (ap (λ (s : Seen). s.parts) (own_take old sid reply (may_take old.parts sid may) refl) ∙ by_reply reply)
   where
     by_reply : (r : TakeReply) → (seen_all old (took_step sid r)).parts ≡ after_all old.parts (took_step sid r)
     by_reply (takes.Message m) = refl
     by_reply takes.Empty = refl
+    by_reply takes.Ended = refl
+
+pub call_quiet : (old : Seen) (call : Call) → old.events ≡ [] → seen_all old (call_steps old.parts call) ≡ quiet (after_all old.parts (call_steps old.parts call))
+call_quiet old call none =
+    by_steps (refusal old.parts call) (lets_go call) ∙ ap (λ es. record { parts = after_all old.parts (call_steps old.parts call); events = es }) none
+  where
+    by_steps : (refused : Option CallReply) (name : Option ℕ)
+        → seen_all old (accepted_step refused call ++ gone_step name) ≡ record { parts = after_all old.parts (accepted_step refused call ++ gone_step name); events = old.events }
+    by_steps None None = refl
+    by_steps None (Some s) = refl
+    by_steps (Some reply) None = refl
+    by_steps (Some reply) (Some s) = refl

@@ -1,6 +1,8 @@
+pub mod Calls
 pub mod Ends
 pub mod Handlers
 pub mod Items
+pub mod Messages
 pub mod Plays
 pub mod Runs
 pub mod Settles

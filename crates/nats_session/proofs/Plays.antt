@@ -12,9 +12,9 @@ use Rattle.nats_history.specs.declared.call.TakeReply.TheVariants as takes
 use Rattle.nats_history.specs.declared.turn.Turn.{Turn}
 use Rattle.nats_history.specs.declared.turn.Turn.TheVariants.{Up, Piece, Write, Do, Take}
 use Rattle.nats_tables.specs.Numbers.{item_of}
-use Rattle.nats_history.specs.History.{Step, link_end, accepted, History, at_of, given}
+use Rattle.nats_history.specs.History.{Step, link_end, accepted, History, lets_go, Sub, at_of, given}
 use Rattle.nats_history.specs.Parts.{Parts, parts_of}
-use Rattle.nats_history.specs.Schedule.{refusal, take_reply, is_valid_turn, chain, accepted_step, took_step, own_steps, due_by, due, most_due, put_steps, after_turn, steps_from, steps, out_of_turn_from, out_of_turn}
+use Rattle.nats_history.specs.Schedule.{refusal, take_reply, is_there, is_valid_turn, chain, accepted_step, gone_step, took_step, own_steps, due_by, due, most_due, put_steps, after_turn, steps_from, steps, out_of_turn_from, out_of_turn}
 use Rattle.nats_history.specs.Transcripts.{Answer, answer_of, answers_from, answers, transcript}
 use Rattle.nats_history.specs.After.{after, after_all, due_steps_within, due_steps}
 use Rattle.nats_history.proofs.Rows.{given_grows}
@@ -67,16 +67,19 @@ all_end_up p = within_end_up (most_due p) (due p) p refl
 took_ends_up : (sid : ℕ) (reply : TakeReply) (p : Parts) → AllEndUp (took_step sid reply) p
 took_ends_up sid (takes.Message m) p = (tt, tt)
 took_ends_up sid takes.Empty p = tt
+took_ends_up sid takes.Ended p = tt
 
-accepted_ends_up : (refused : Option CallReply) (call : Call) (p : Parts) → AllEndUp (accepted_step refused call) p
-accepted_ends_up None call p = (tt, tt)
-accepted_ends_up (Some reply) call p = tt
+call_ends_up : (refused : Option CallReply) (call : Call) (name : Option ℕ) (p : Parts) → AllEndUp (accepted_step refused call ++ gone_step name) p
+call_ends_up None call None p = (tt, tt)
+call_ends_up None call (Some s) p = (tt, (tt, tt))
+call_ends_up (Some reply) call None p = tt
+call_ends_up (Some reply) call (Some s) p = (tt, tt)
 
 own_end_up : (turn : Turn) (p : Parts) → AllEndUp (own_steps p turn) p
 own_end_up (Up info) p = (tt, tt)
 own_end_up (Piece bytes) p = (tt, tt)
 own_end_up (Write n) p = (tt, tt)
-own_end_up (Do call) p = accepted_ends_up (refusal p call) call p
+own_end_up (Do call) p = call_ends_up (refusal p call) call (lets_go call) p
 own_end_up (Take sid) p = took_ends_up sid (take_reply p sid) p
 
 -- ---- a whole turn
@@ -94,6 +97,10 @@ item_within [] (suc i) e = absurd (false≢true e)
 item_within (x ∷ xs) (suc zero) e = omega arith
 item_within (x ∷ xs) (suc (suc i)) e = let rest = item_within xs (suc i) e in omega arith
 
+some_there : (row : Option Sub) → is_there row ≡ true → is_some row ≡ true
+some_there None e = absurd (false≢true e)
+some_there (Some sub) e = refl
+
 given_put : (place : ℕ) (steps : List Step) (h : History) → given h ≤ given (put_steps place steps h)
 given_put place [] h = omega arith
 given_put place (step ∷ steps) h =
@@ -101,7 +108,7 @@ given_put place (step ∷ steps) h =
 
 answer_given : (c : Config) (h : History) (place : ℕ) (turn : Turn) (steps : List Step) → is_valid_turn (parts_of c h) turn ≡ true → IsGiven (put_steps place steps h) (answer_of c h turn)
 answer_given c h place (Take sid) steps valid =
-    omega (arith, item_within (parts_of c h).subs.rows sid valid, length-rows c h, given_put place steps h)
+    omega (arith, item_within (parts_of c h).subs.rows sid (some_there (item_of sid (parts_of c h).subs.rows) valid), length-rows c h, given_put place steps h)
 answer_given c h place (Up info) steps valid = tt
 answer_given c h place (Piece bytes) steps valid = tt
 answer_given c h place (Write n) steps valid = tt

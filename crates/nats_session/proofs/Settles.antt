@@ -16,11 +16,13 @@ use Rattle.nats_history.specs.declared.turn.Due.TheVariants as due_names
 use Rattle.nats_session.specs.declared.handler.due.Look.{Look}
 use Rattle.nats_session.specs.declared.handler.due.Look.TheVariants as looks
 use Rattle.nats_session.specs.declared.subs.subscription.Delivery.{Delivery}
-use Rattle.nats_session.specs.declared.subs.subscription.Delivery.TheVariants.{Put, Dropped, Ignored}
+use Rattle.nats_session.specs.declared.subs.subscription.Delivery.TheVariants.{Put, Dropped, Unwanted, Ignored}
 use Rattle.nats_history.specs.declared.transcript.LinkWord.TheVariants as word
 use Rattle.nats_history.specs.Queue.{first}
 use Rattle.nats_tables.specs.Numbers.{at_number, item_of}
-use Rattle.nats_history.specs.History.{Step, opened, fed, read, taken, accepted, handled, took, link_end, Sub, has_room, listens}
+use Rattle.nats_history.specs.History.{Step, opened, fed, read, taken, accepted, handled, took, gone, link_end, Sub, is_open, has_room}
+use Rattle.nats_history.specs.declared.stage.Stage.{Stage}
+use Rattle.nats_history.specs.declared.stage.Stage.TheVariants.{Asked, Open, Ended}
 use Rattle.nats_history.specs.Parts.{Parts}
 use Rattle.nats_history.specs.Schedule.{chain, due_call, due_by, due, due_chain, most_due}
 use Rattle.nats_history.specs.After.{after, after_all, events_of, due_steps}
@@ -33,12 +35,14 @@ use Rattle.nats_session.proofs.Handlers.{pushed}
 
 dropped_message : (c : Config) (m dropped : Message) (item : Option Sub) → delivery_at c m item ≡ Dropped dropped → dropped ≡ m
 dropped_message c m dropped None e = cc
-dropped_message c m dropped (Some sub) e = by_case (listens sub) (has_room c sub) e
+dropped_message c m dropped (Some sub) e = by_case sub.stage sub.is_shut (has_room c sub) e
   where
-    by_case : (comes room : Bool) → cond comes (cond room Put (Dropped m)) Ignored ≡ Dropped dropped → dropped ≡ m
-    by_case true true e = cc
-    by_case true false e = cc
-    by_case false room e = cc
+    by_case : (stage : Stage) (shut room : Bool) → cond (is_open stage) (cond shut Unwanted (cond room Put (Dropped m))) Ignored ≡ Dropped dropped → dropped ≡ m
+    by_case Asked shut room e = cc
+    by_case Ended shut room e = cc
+    by_case Open true room e = cc
+    by_case Open false true e = cc
+    by_case Open false false e = cc
 
 -- ---- what can be due
 
@@ -76,6 +80,7 @@ written_due place p (read (message sid m)) sheet can = by_delivery (delivery_at 
     by_delivery Put is = refl
     by_delivery (Dropped dropped) is =
         ap (λ n. record sheet { subs = at_number sid (write_drop place n) sheet.subs }) (dropped_message p.config m dropped (item_of sid p.subs.rows) is)
+    by_delivery Unwanted is = refl
     by_delivery Ignored is = refl
 written_due place p (read operation) sheet can = refl
 written_due place p (handled call) sheet can = refl
@@ -85,6 +90,7 @@ written_due place p (fed bytes) sheet can = absurd can
 written_due place p (taken n) sheet can = absurd can
 written_due place p (accepted call) sheet can = absurd can
 written_due place p (took sid) sheet can = absurd can
+written_due place p (gone sid) sheet can = absurd can
 
 quiet_after : (old : Seen) (step : Step) → old.events ≡ [] → seen_after old step ≡ record { parts = after old.parts step; events = events_of old.parts step }
 quiet_after old step none =

@@ -8,6 +8,8 @@ use Rattle.nats_wire.specs.declared.message.Message.{Message}
 use Rattle.nats_wire.specs.Operations.{message}
 use Rattle.nats_history.specs.declared.config.Config.{Config}
 use Rattle.nats_history.specs.declared.call.Call.{Call}
+use Rattle.nats_history.specs.declared.stage.Stage.{Stage}
+use Rattle.nats_history.specs.declared.stage.Stage.TheVariants.{Asked, Open, Ended}
 use Rattle.nats_history.specs.declared.call.TakeReply.{TakeReply}
 use Rattle.nats_history.specs.declared.call.CallReply.{CallReply}
 use Rattle.nats_history.specs.declared.transcript.LinkWord.{LinkWord}
@@ -15,9 +17,9 @@ use Rattle.nats_history.specs.declared.transcript.LinkWord.TheVariants as word
 use Rattle.nats_history.specs.declared.transcript.LinkRow.{LinkRow}
 use Rattle.nats_history.specs.declared.transcript.SubRow.{SubRow}
 use Rattle.nats_session.specs.declared.subs.subscription.Delivery.{Delivery}
-use Rattle.nats_session.specs.declared.subs.subscription.Delivery.TheVariants.{Put, Dropped, Ignored}
+use Rattle.nats_session.specs.declared.subs.subscription.Delivery.TheVariants.{Put, Dropped, Unwanted, Ignored}
 use Rattle.nats_tables.specs.Numbers.{About, is_about, at_number, item_of, count_from}
-use Rattle.nats_history.specs.History.{Step, opened, fed, read, taken, accepted, handled, took, link_end, History, is_up, subscribes, given_after, at_after, at_of, given, numbers, about, is_given, concerns, Told, nothing_told, sub_of, has_room, listens, told_after, told, rows_of, link_text, taken_count, waiting_bytes, text_by, events}
+use Rattle.nats_history.specs.History.{Step, opened, fed, read, taken, accepted, handled, took, gone, link_end, History, is_up, subscribes, given_after, at_after, at_of, given, numbers, about, is_given, concerns, Told, nothing_told, Sub, sub_of, is_open, is_ended, has_room, is_over, forgotten, kept, told_after, told, rows_of, link_text, taken_count, waiting_bytes, text_by, events}
 use Rattle.nats_history.specs.Parts.{Parts, parts_of}
 use Rattle.nats_history.specs.After.{after, events_of}
 use Rattle.nats_session.specs.Delivery.{delivery, delivery_at}
@@ -27,7 +29,7 @@ use Rattle.nats_session.specs.Machine.{sheet_noted}
 use Rattle.nats_session.specs.Handler.{idle}
 use Rattle.nats_history.proofs.Words.{taken_fits}
 use Rattle.nats_tables.proofs.Numbers.{numbered, one_more, same_table, same_up_to, at_number_same, item_there, item_missing}
-use Rattle.nats_history.proofs.Rows.{given_grows, is_given_to, told_nothing}
+use Rattle.nats_history.proofs.Rows.{given_grows, is_given_to, told_nothing, both_true, ended_is}
 use Rattle.nats_history.proofs.Refines.{parts_after}
 
 -- ---- rows
@@ -53,41 +55,59 @@ rows_kept c h answers place step e puts drops =
 abbrev write_one : ℕ → Message → Delivery → SubRow → SubRow
 write_one place m Put row = write_put place m row
 write_one place m (Dropped dropped) row = write_drop place m row
+write_one place m Unwanted row = row
 write_one place m Ignored row = row
 
 row_read : (c : Config) (place sid : ℕ) (m : Message) (t : Told) (takes : Takes) → sub_row (told_after c place (read (message sid m)) t) takes ≡ write_one place m (delivery c m (sub_of t)) (sub_row t takes)
-row_read c place sid m t takes = by_case (listens (sub_of t)) (has_room c (sub_of t))
+row_read c place sid m t takes = by_case t.stage t.is_shut (has_room c (sub_of t))
   where
-    by_case : (comes room : Bool) → row_of (t.puts ++ cond (comes && room) ((place, m) ∷ []) []) (t.drops ++ cond (comes && not room) ((place, m) ∷ []) []) takes
-        ≡ write_one place m (cond comes (cond room Put (Dropped m)) Ignored) (row_of t.puts t.drops takes)
-    by_case true true = ap (λ xs. row_of (t.puts ++ (place, m) ∷ []) xs takes) (append-nil t.drops)
-    by_case true false = ap (λ xs. row_of xs (t.drops ++ (place, m) ∷ []) takes) (append-nil t.puts)
-    by_case false room = rw (append-nil t.puts, append-nil t.drops) refl
+    listening : Stage → Bool → Bool
+    listening stage shut = is_open stage && not shut
+
+    by_case : (stage : Stage) (shut room : Bool)
+        → row_of (t.puts ++ cond (listening stage shut && room) ((place, m) ∷ []) []) (t.drops ++ cond (listening stage shut && not room) ((place, m) ∷ []) []) takes
+        ≡ write_one place m (cond (is_open stage) (cond shut Unwanted (cond room Put (Dropped m))) Ignored) (row_of t.puts t.drops takes)
+    by_case Asked shut room = rw (append-nil t.puts, append-nil t.drops) refl
+    by_case Ended shut room = rw (append-nil t.puts, append-nil t.drops) refl
+    by_case Open true room = rw (append-nil t.puts, append-nil t.drops) refl
+    by_case Open false true = ap (λ xs. row_of (t.puts ++ (place, m) ∷ []) xs takes) (append-nil t.drops)
+    by_case Open false false = ap (λ xs. row_of xs (t.drops ++ (place, m) ∷ []) takes) (append-nil t.puts)
+
+-- what is forgotten takes in no message, and what is over takes in none
+delivery_kept : (c : Config) (m : Message) (sub : Sub) → delivery c m (kept sub) ≡ delivery c m sub
+delivery_kept c m sub = by_over (is_over sub) refl
+  where
+    by_over : (b : Bool) → is_over sub ≡ b → delivery c m (cond b forgotten sub) ≡ delivery c m sub
+    by_over true over =
+        let both = both_true sub.is_gone (is_ended sub.stage) over in
+        sym (ap (λ s. cond (is_open s) (cond sub.is_shut Unwanted (cond (has_room c sub) Put (Dropped m))) Ignored) (ended_is sub.stage both.1))
+    by_over false over = refl
 
 -- what becomes of a message hangs on what is told of its number, also of one that was not given
 delivery_is : (c : Config) (h : History) (sid : ℕ) (m : Message) → delivery_at c m (item_of sid (rows_of c h)) ≡ delivery c m (sub_of (told c sid h))
 delivery_is c h sid m = by_given (is_given sid (at_of h)) refl
   where
-    there : (s : ℕ) → is_given s (at_of h) ≡ true → item_of s (rows_of c h) ≡ Some (sub_of (told c s h))
+    there : (s : ℕ) → is_given s (at_of h) ≡ true → item_of s (rows_of c h) ≡ Some (kept (sub_of (told c s h)))
     there zero e = absurd (false≢true e)
     there (suc k) e =
         let less = ltb-true k (given h) e in
-        item_there (λ s. sub_of (told c s h)) (given h) (suc k) (omega arith) (omega (arith, less))
+        item_there (λ s. kept (sub_of (told c s h))) (given h) (suc k) (omega arith) (omega (arith, less))
 
     missing : (s : ℕ) → is_given s (at_of h) ≡ false → item_of s (rows_of c h) ≡ None
     missing zero e = refl
     missing (suc k) e =
         let past = ltb-false k (given h) e in
-        item_missing (λ s. sub_of (told c s h)) (given h) (suc k) (omega (arith, past))
+        item_missing (λ s. kept (sub_of (told c s h))) (given h) (suc k) (omega (arith, past))
 
     by_given : (b : Bool) → is_given sid (at_of h) ≡ b → delivery_at c m (item_of sid (rows_of c h)) ≡ delivery c m (sub_of (told c sid h))
-    by_given true e = ap (delivery_at c m) (there sid e)
+    by_given true e = ap (delivery_at c m) (there sid e) ∙ delivery_kept c m (sub_of (told c sid h))
     by_given false e =
         ap (delivery_at c m) (missing sid e) ∙ sym (ap (λ t. delivery c m (sub_of t)) (told_nothing c sid h e))
 
 delivery_rows : (place sid : ℕ) (m : Message) (d : Delivery) (rows : List SubRow) → at_number sid (write_one place m d) rows ≡ write_delivery place sid m d rows
 delivery_rows place sid m Put rows = refl
 delivery_rows place sid m (Dropped dropped) rows = refl
+delivery_rows place sid m Unwanted rows = at_number_same sid rows
 delivery_rows place sid m Ignored rows = at_number_same sid rows
 
 -- what is told of one number after a step, where it was given

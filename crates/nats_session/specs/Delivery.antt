@@ -1,41 +1,73 @@
--- What becomes of a message that comes for a subscription.
-use Rattle.std.specs.Prelude.{◌≡◌, ℕ, suc, ◌<◌, ◌⊎◌, true, nat_lt, List, [], ◌∷◌, ◌++◌, drop, Option, Some, None, if◌then◌else◌}
+-- What becomes of a subscription: what is asked of it, and the messages that come for it.
+use Rattle.std.specs.Prelude.{◌≡◌, ℕ, suc, ◌<◌, ◌⊎◌, Bool, true, false, nat_lt, nat_le, List, [], ◌∷◌, ◌++◌, drop, Option, Some, None, if◌then◌else◌}
+use Rattle.nats_names.specs.declared.event.Event.{Event}
+use Rattle.nats_names.specs.declared.event.Event.TheVariants.{SlowConsumer}
 use Rattle.nats_wire.specs.declared.message.Message.{Message}
 use Rattle.nats_history.specs.declared.config.Config.{Config}
 use Rattle.nats_session.specs.declared.subs.subscription.Delivery.{Delivery}
-use Rattle.nats_session.specs.declared.subs.subscription.Delivery.TheVariants.{Put, Dropped, Ignored}
-use Rattle.nats_history.specs.Queue.{first, last}
-use Rattle.nats_tables.specs.Numbers.{named, change}
-use Rattle.nats_history.specs.History.{Sub, has_room, listens, next_subscribed}
+use Rattle.nats_session.specs.declared.subs.subscription.Delivery.TheVariants.{Put, Dropped, Unwanted, Ignored}
+use Rattle.nats_session.specs.declared.subs.subscription.Alteration.{Alteration}
+use Rattle.nats_session.specs.declared.subs.subscription.Alteration.TheVariants as alterations
+use Rattle.nats_history.specs.Queue.{last}
+use Rattle.nats_tables.specs.Numbers.{named, at_number, change}
+use Rattle.nats_history.specs.History.{cut, Sub, is_open, has_room, puts, reached, open_if, end_if, kept, next_subscribed}
 use Rattle.nats_history.specs.Parts.{Subs, at_in}
-use Rattle.nats_history.specs.After.{delivered, new_sub}
+use Rattle.nats_history.specs.After.{new_sub}
 
--- put where there is room, dropped where there is none, ignored where no message comes for it
+-- ---- one subscription
+
+-- put where there is room, dropped where there is none, unwanted where it is shut, ignored where it is not open
 abbrev pub delivery : Config → Message → Sub → Delivery
-delivery c m sub = if listens sub then (if has_room c sub then Put else Dropped m) else Ignored
+delivery c m sub =
+    if is_open sub.stage then (if sub.is_shut then Unwanted else (if has_room c sub then Put else Dropped m)) else Ignored
 
 -- the same of a table's item, where there is one
 abbrev pub delivery_at : Config → Message → Option Sub → Delivery
 delivery_at c m None = Ignored
 delivery_at c m (Some sub) = delivery c m sub
 
--- a subscription after a message
-abbrev pub deliver : Config → Message → Sub → Sub
-deliver c m sub = record sub { waiting = delivered c m sub }
+abbrev pub is_unwanted : Delivery → Bool
+is_unwanted Unwanted = true
+is_unwanted Put = false
+is_unwanted (Dropped m) = false
+is_unwanted Ignored = false
 
-abbrev pub open_sub : Sub → Sub
-open_sub sub = record sub { is_open = true }
+-- the events of a delivery
+abbrev pub delivery_events : ℕ → Delivery → List Event
+delivery_events sid (Dropped m) = SlowConsumer sid ∷ []
+delivery_events sid Put = []
+delivery_events sid Unwanted = []
+delivery_events sid Ignored = []
+
+abbrev pub put_into : Message → Sub → Sub
+put_into m sub = record sub {
+  stage = end_if (reached sub.limit (cut (suc sub.puts))) sub.stage;
+  puts = cut (suc sub.puts);
+  waiting = sub.waiting ++ m ∷ [];
+}
+
+-- a subscription after a message, which does not end it where it is unwanted
+abbrev pub deliver : Config → Message → Sub → Sub
+deliver c m sub = if puts c sub then put_into m sub else sub
+
+-- a subscription after what happens to it
+abbrev pub altered : Alteration → Sub → Sub
+altered alterations.Open sub = record sub { stage = open_if true sub.stage }
+altered alterations.Shut sub = record sub { is_shut = true }
+altered alterations.End sub = record sub { stage = end_if true sub.stage }
+altered (alterations.Limit n) sub = record sub { stage = end_if (nat_le n sub.puts) sub.stage; limit = Some n }
+altered alterations.LetGo sub = record sub { is_shut = true; is_gone = true; waiting = [] }
 
 abbrev pub take_from : Sub → Sub
 take_from sub = record sub { waiting = drop 1 sub.waiting }
 
-abbrev pub oldest_of : Option Sub → Option Message
-oldest_of None = None
-oldest_of (Some sub) = first sub.waiting
+-- its youngest waiting message; none waits for one that its user let go
+abbrev pub youngest_of : Sub → Option Message
+youngest_of sub = if sub.is_gone then None else last sub.waiting
 
 abbrev pub youngest : Option Sub → Option Message
 youngest None = None
-youngest (Some sub) = last sub.waiting
+youngest (Some sub) = youngest_of sub
 
 -- where the thing of a number stands in a table of that many things, if it does
 abbrev pub IsPlaceOf : ℕ → ℕ → Option ℕ → Type 0
@@ -43,6 +75,17 @@ IsPlaceOf sid count None = (sid ≡ 0) ⊎ (count < sid)
 IsPlaceOf sid count (Some index) = (sid ≡ suc index) × (index < count)
 
 -- ---- all subscriptions
+
+-- the subscription of a number after something happened to it
+abbrev pub rows_with : ℕ → Alteration → List Sub → List Sub
+rows_with sid a rows = at_number sid (λ sub. kept (altered a sub)) rows
+
+-- the same of a number that may be left out
+abbrev pub rows_named : Option ℕ → Alteration → List Sub → List Sub
+rows_named name a rows = change (named name) (λ sub. kept (altered a sub)) rows
+
+abbrev pub with_rows : List Sub → Subs → Subs
+with_rows rows subs = record subs { rows = rows }
 
 -- one more number is given
 abbrev pub given_one : Subs → Subs
@@ -52,8 +95,5 @@ given_one subs = record subs { given = suc subs.given; rows = subs.rows ++ new_s
 abbrev pub subscribed_one : Subs → Subs
 subscribed_one subs = record subs {
   subscribed = if nat_lt subs.subscribed subs.given then suc subs.subscribed else subs.subscribed;
-  rows = change (named (next_subscribed (at_in subs))) open_sub subs.rows;
+  rows = rows_named (next_subscribed (at_in subs)) alterations.Open subs.rows;
 }
-
-abbrev pub with_rows : List Sub → Subs → Subs
-with_rows rows subs = record subs { rows = rows }

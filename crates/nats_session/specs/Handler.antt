@@ -2,6 +2,9 @@
 use Rattle.std.specs.Prelude.{◌≡◌, ℕ, suc, ◌≤◌, Bool, true, false, not, ◌&&◌, List, [], ◌∷◌, ◌++◌, length, drop, map, Option, Some, None, is_some, Result, Ok, Err}
 use Rattle.std.specs.Option.{option_map}
 use Rattle.nats_names.specs.declared.event.Event.{Event}
+use Rattle.nats_names.specs.declared.event.Event.TheVariants.{SlowConsumer}
+use Rattle.nats_wire.specs.declared.op.ClientOp.TheVariants as client
+use Rattle.nats_wire.specs.Commands.{command_text}
 use Rattle.nats_wire.specs.declared.message.Message.{Message}
 use Rattle.nats_wire.specs.Operations.{Operation, message, op_view, got, front}
 use Rattle.nats_wire.specs.Wire.{fresh}
@@ -16,14 +19,15 @@ use Rattle.nats_history.specs.declared.turn.Due.TheVariants as due_names
 use Rattle.nats_session.specs.declared.handler.due.Look.{Look}
 use Rattle.nats_session.specs.declared.handler.due.Look.TheVariants as looks
 use Rattle.nats_session.specs.declared.subs.subscription.Delivery.{Delivery}
-use Rattle.nats_session.specs.declared.subs.subscription.Delivery.TheVariants.{Put, Dropped, Ignored}
+use Rattle.nats_session.specs.declared.subs.subscription.Delivery.TheVariants.{Put, Dropped, Unwanted, Ignored}
 use Rattle.nats_history.specs.Queue.{first}
-use Rattle.nats_tables.specs.Numbers.{item_of}
-use Rattle.nats_history.specs.History.{Step, read, accepted, handled, link_end, History, second, events}
+use Rattle.nats_tables.specs.Numbers.{at_number, item_of}
+use Rattle.nats_history.specs.History.{Step, read, accepted, handled, link_end, History, second, kept, events}
 use Rattle.nats_history.specs.Parts.{Subs, Parts, parts_of}
-use Rattle.nats_history.specs.Schedule.{is_valid_turn, refusal, call_reply, accepted_step, due, chain, due_chain, put_steps}
+use Rattle.nats_history.specs.Schedule.{is_valid_turn, refusal, call_reply, accepted_step, call_steps, due, chain, due_chain, put_steps}
 use Rattle.nats_history.specs.After.{after, events_of}
-use Rattle.nats_session.specs.Delivery.{delivery_at}
+use Rattle.nats_session.specs.Delivery.{delivery_at, deliver, with_rows, rows_with}
+use Rattle.nats_session.specs.declared.subs.subscription.Alteration.TheVariants as alterations
 
 -- ---- a handler as it is seen
 
@@ -49,7 +53,7 @@ pub record StandsFor (c : Config) (out : HandedOut) (h : History) (seen : Seen) 
 abbrev pub idle : Config → Parts
 idle c = record {
   config = c;
-  link = record { number = 0; is_up = false; wire = fresh };
+  link = record { number = 0; is_up = false; max_payload = 1048576; wire = fresh };
   calls = [];
   subs = record { given = 0; subscribed = 0; rows = [] };
 }
@@ -80,7 +84,31 @@ LeadTo old steps new =
 abbrev pub delivery_name : ℕ → Delivery → Due
 delivery_name sid Put = due_names.Put sid
 delivery_name sid (Dropped m) = due_names.Dropped sid m
+delivery_name sid Unwanted = due_names.Read
 delivery_name sid Ignored = due_names.Read
+
+-- what is seen after a message that comes for a subscription, by what became of it
+abbrev pub delivered_seen : ℕ → Message → Seen → Seen
+delivered_seen sid m old = record old {
+  parts = record old.parts {
+    subs = with_rows (at_number sid (λ sub. kept (deliver old.parts.config m sub)) old.parts.subs.rows) old.parts.subs;
+  };
+}
+
+abbrev pub after_message : ℕ → Message → Delivery → Seen → Seen
+after_message sid m Unwanted old = record old {
+  parts = record old.parts {
+    link = record old.parts.link {
+      wire = record old.parts.link.wire {
+        waiting = old.parts.link.wire.waiting ++ command_text (client.Unsubscribe sid None);
+      };
+    };
+    subs = with_rows (rows_with sid alterations.End old.parts.subs.rows) old.parts.subs;
+  };
+}
+after_message sid m (Dropped dropped) old = record old { events = old.events ++ SlowConsumer sid ∷ [] }
+after_message sid m Put old = delivered_seen sid m old
+after_message sid m Ignored old = delivered_seen sid m old
 
 -- the word by which a link ends among the steps
 abbrev pub end_in : List Step → Option LinkWord
@@ -150,9 +178,16 @@ is_nothing looks.Command = false
 
 -- a call was accepted or refused by its reply; or memory was wanting for one that isn't refused: then it comes back and
 -- nothing changed
+abbrev pub Answers : List Step → Seen → Call → Result CallReply Call → Seen → Type 0
+Answers steps old call (Ok reply) new = (reply ≡ call_reply old.parts call) × (new ≡ seen_all old steps)
+Answers steps old call (Err back) new = (back ≡ call) × (new ≡ old) × (refusal old.parts call ≡ None)
+
 abbrev pub Submits : Seen → Call → Result CallReply Call → Seen → Type 0
-Submits old call (Ok reply) new = (reply ≡ call_reply old.parts call) × (new ≡ seen_all old (accepted_step (refusal old.parts call) call))
-Submits old call (Err back) new = (back ≡ call) × (new ≡ old) × (refusal old.parts call ≡ None)
+Submits old call result new = Answers (call_steps old.parts call) old call result new
+
+-- the same but for the subscription that is let go
+abbrev pub TakesIn : Seen → Call → Result CallReply Call → Seen → Type 0
+TakesIn old call result new = Answers (accepted_step (refusal old.parts call) call) old call result new
 
 -- ---- events
 

@@ -5,6 +5,7 @@ use Rattle.nats_wire.specs.declared.message.Message.{Message}
 use Rattle.nats_wire.specs.Operations.{message}
 use Rattle.nats_history.specs.declared.config.Config.{Config}
 use Rattle.nats_history.specs.declared.call.CallReply.{CallReply}
+use Rattle.nats_history.specs.declared.call.CallReply.TheVariants.{Numbered}
 use Rattle.nats_history.specs.declared.call.TakeReply.{TakeReply}
 use Rattle.nats_history.specs.declared.transcript.LinkWord.{LinkWord}
 use Rattle.nats_history.specs.declared.transcript.LinkWord.TheVariants as word
@@ -14,7 +15,7 @@ use Rattle.nats_history.specs.declared.transcript.Transcript.{Transcript}
 use Rattle.nats_session.specs.declared.draft.Note.{Note}
 use Rattle.nats_session.specs.declared.draft.Note.TheVariants as notes
 use Rattle.nats_session.specs.declared.subs.subscription.Delivery.{Delivery}
-use Rattle.nats_session.specs.declared.subs.subscription.Delivery.TheVariants.{Put, Dropped, Ignored}
+use Rattle.nats_session.specs.declared.subs.subscription.Delivery.TheVariants.{Put, Dropped, Unwanted, Ignored}
 use Rattle.nats_history.specs.History.{Step, opened, read, taken, accepted, link_end, History, is_up, subscribes, link_text, taken_count, at_place, given, events}
 use Rattle.nats_tables.specs.Numbers.{at_number, item_of}
 use Rattle.nats_history.specs.Parts.{Parts, parts_of}
@@ -62,6 +63,11 @@ taken_written p step before = before
 abbrev pub new_row : SubRow
 new_row = record { puts = []; drops = []; takes = [] }
 
+-- one more row where a reply has a number
+abbrev pub added : CallReply → List SubRow → List SubRow
+added (Numbered n) rows = rows ++ new_row ∷ []
+added reply rows = rows
+
 abbrev pub write_put : ℕ → Message → SubRow → SubRow
 write_put place m row = record row { puts = row.puts ++ (place, m) ∷ [] }
 
@@ -75,6 +81,7 @@ write_take place reply row = record row { takes = row.takes ++ (place, reply) �
 abbrev pub write_delivery : ℕ → ℕ → Message → Delivery → List SubRow → List SubRow
 write_delivery place sid m Put rows = at_number sid (write_put place m) rows
 write_delivery place sid m (Dropped dropped) rows = at_number sid (write_drop place m) rows
+write_delivery place sid m Unwanted rows = rows
 write_delivery place sid m Ignored rows = rows
 
 abbrev pub rows_written : ℕ → Parts → Step → List SubRow → List SubRow

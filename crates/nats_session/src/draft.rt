@@ -4,7 +4,7 @@ ghost use Rattle.nats_history.specs.declared.transcript.LinkWord.TheVariants.{Up
 ghost use Rattle.nats_history.specs.History.{at_place};
 ghost use Rattle.nats_tables.specs.Numbers.{at_number};
 ghost use Rattle.nats_session.specs.Machine.{write_due};
-ghost use Rattle.nats_session.specs.Sheet.{Sheet, empty_sheet, new_row, write_note, write_events, finished, row_with};
+ghost use Rattle.nats_session.specs.Sheet.{Sheet, empty_sheet, new_row, added, write_note, write_events, finished, row_with};
 
 use crate::handler::ConnectionHandler;
 use crate::places::place_of;
@@ -73,7 +73,7 @@ impl Draft {
     }
 
     /// A subscription was given its number.
-    pub fn add_sub(&mut self, alloc: Global) -> Result<(), NoMemory>
+    fn add_sub(&mut self, alloc: Global) -> Result<(), NoMemory>
         ensures { OnOk result (self.new ≡ record self.old { subs = self.old.subs ++ new_row ∷ [] }) }
     {
         self.subs.push(SubRow {
@@ -111,10 +111,31 @@ impl Draft {
         }
     }
 
-    /// A call was answered.
-    pub fn note_call(&mut self, place: u64, reply: CallReply) -> Result<(), NoMemory>
-        ensures { OnOk result (self.new ≡ record self.old { calls = self.old.calls ++ (place, reply) ∷ [] }) }
+    fn add_numbered(&mut self, alloc: Global, reply: &CallReply) -> Result<(), NoMemory>
+        ensures { OnOk result (self.new ≡ record self.old { subs = added reply.now self.old.subs }) }
     {
+        match reply {
+            CallReply::Numbered(_) => self.add_sub(alloc),
+            CallReply::Accepted
+            | CallReply::InvalidSubject
+            | CallReply::InvalidQueueName
+            | CallReply::MaxPayloadExceeded { .. }
+            | CallReply::NoNumber
+            | CallReply::Full => Ok(()),
+        }
+    }
+
+    /// A call was answered; where the reply has a number, a subscription was given it.
+    pub fn note_call(
+        &mut self,
+        alloc: Global,
+        place: u64,
+        reply: CallReply,
+    ) -> Result<(), NoMemory>
+        ensures { OnOk result (self.new
+            ≡ record self.old { subs = added reply self.old.subs; calls = self.old.calls ++ (place, reply) ∷ [] }) }
+    {
+        self.add_numbered(alloc, &reply)?;
         self.calls.push((place, reply))?;
         Ok(())
     }

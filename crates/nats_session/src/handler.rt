@@ -14,6 +14,9 @@ use nats_wire::Connection;
 use std::alloc::Global;
 use std::marker::Model;
 
+/// The limit of a payload's size in bytes, with its header block, before any link came up. The crate's default.
+const DEFAULT_MAX_PAYLOAD: u64 = 1_048_576;
+
 /// A session over one link at a time. The crate's private handler, with its turns as calls. Contracts see its parts, and the
 /// events that wait to be handed out.
 #[derive(Drop)]
@@ -21,6 +24,7 @@ pub struct ConnectionHandler {
     config: Config,
     link: u64,
     is_up: bool,
+    max_payload: u64,
     connection: Connection,
     calls: Queue<Call>,
     subs: Subscriptions,
@@ -32,7 +36,15 @@ impl Model for ConnectionHandler {
 
     ghost Value = { Seen };
 
-    ghost view = { λ h. record { parts = record { config = h.config; link = record { number = h.link; is_up = h.is_up; wire = h.connection }; calls = h.calls; subs = h.subs }; events = h.events } };
+    ghost view = { λ h. record {
+      parts = record {
+        config = h.config;
+        link = record { number = h.link; is_up = h.is_up; max_payload = h.max_payload; wire = h.connection };
+        calls = h.calls;
+        subs = h.subs;
+      };
+      events = h.events;
+    } };
 }
 
 impl ConnectionHandler {
@@ -45,6 +57,7 @@ impl ConnectionHandler {
             config,
             link: 0,
             is_up: false,
+            max_payload: DEFAULT_MAX_PAYLOAD,
             connection: Connection::new(alloc),
             calls: Queue::new(alloc),
             subs: Subscriptions::new(alloc),

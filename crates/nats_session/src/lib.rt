@@ -7,13 +7,14 @@ mod handler;
 mod places;
 mod play;
 mod queue;
+mod refusals;
 mod subs;
 #[cfg(test)]
 mod tests;
 
 pub use handler::ConnectionHandler;
 pub use nats_history::{
-    Bytes, Call, CallReply, Config, Due, Event, LinkRow, LinkWord, Message, NoMemory,
+    Bytes, Call, CallReply, Config, Due, Event, HeaderMap, LinkRow, LinkWord, Message, NoMemory,
     OutboundMessage, RunError, Seq, ServerInfo, SubRow, Subject, TakeReply, Token, Transcript,
     Turn,
 };

@@ -10,7 +10,7 @@ ghost use Rattle.nats_history.specs.declared.transcript.RunError.TheVariants as 
 use crate::draft::{Draft, Note};
 use crate::handler::{ConnectionHandler, Look};
 use nats_history::{
-    Call, CallReply, Config, LinkWord, NoMemory, RunError, ServerInfo, Transcript, Turn,
+    Call, Config, LinkWord, NoMemory, RunError, ServerInfo, Transcript, Turn,
 };
 use std::alloc::Global;
 
@@ -80,11 +80,7 @@ fn play_call(
     let Ok(reply) = handler.submit(alloc, call.copy(alloc)?) else {
         return Err(NoMemory);
     };
-    if let CallReply::Numbered(_) = reply {
-        draft.add_sub(alloc)?;
-    }
-    draft.note_events(place, handler)?;
-    draft.note_call(place, reply)
+    draft.note_call(alloc, place, reply)
 }
 
 fn play_take(

@@ -84,6 +84,13 @@ impl<T> Queue<T> {
 }
 
 impl<T: Drop> Queue<T> {
+    /// Lets all items go. It takes no memory.
+    pub fn clear(&mut self)
+        ensures { self.new ≡ [] }
+    {
+        self.items.clear();
+    }
+
     /// Lets the oldest item go.
     pub fn discard(&mut self)
         ensures { self.new ≡ drop 1 self.old }

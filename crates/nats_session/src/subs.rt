@@ -1,19 +1,21 @@
 //! How subscriptions are kept: this file alone knows.
-ghost use Rattle.std.specs.Prelude.{◌≡◌, [], OnOk, OnErr, IfOk, is_some};
+ghost use Rattle.std.specs.Prelude.{◌≡◌, [], OnOk, OnErr, IfOk};
 ghost use Rattle.std.specs.Option.{option_copied};
+ghost use Rattle.nats_session.specs.declared.subs.subscription.Alteration.TheVariants as alterations;
 ghost use Rattle.nats_tables.specs.Numbers.{at_number, item_of};
-ghost use Rattle.nats_history.specs.History.{next_subscribed};
+ghost use Rattle.nats_history.specs.History.{next_subscribed, is_open_at, kept};
 ghost use Rattle.nats_history.specs.Parts.{at_in};
-ghost use Rattle.nats_session.specs.Delivery.{deliver, take_from, delivery_at, oldest_of, youngest, given_one, subscribed_one};
+ghost use Rattle.nats_history.specs.Schedule.{take_reply_of, is_there};
+ghost use Rattle.nats_session.specs.Delivery.{deliver, take_from, delivery_at, youngest, given_one, subscribed_one, with_rows, rows_with, rows_named};
 
 mod subscription;
 
-use nats_history::{Config, Message, NoMemory};
+use nats_history::{Config, Message, NoMemory, TakeReply};
 use nats_tables::Table;
 use std::alloc::Global;
 use std::marker::Model;
-pub use subscription::Delivery;
-use subscription::{Arrival, Open, Subscription, Take};
+pub use subscription::{Alteration, Delivery};
+use subscription::{Arrival, Subscription, Take};
 
 /// The subscriptions by their numbers, from 1.
 #[derive(Drop)]
@@ -73,7 +75,23 @@ impl Subscriptions {
     {
         if self.subscribed < self.table.len() {
             self.subscribed += 1;
-            self.table.alter(self.subscribed, &Open);
+            self.table.alter(self.subscribed, &Alteration::Open);
+        }
+    }
+
+    /// Something happens to a subscription.
+    pub fn alter(&mut self, sid: u64, alteration: Alteration)
+        ensures { self.new ≡ with_rows (rows_with sid alteration self.old.rows) self.old }
+    {
+        self.table.alter(sid, &alteration);
+    }
+
+    /// Something happens to a subscription, where one is named.
+    pub fn alter_named(&mut self, name: Option<u64>, alteration: Alteration)
+        ensures { self.new ≡ with_rows (rows_named name alteration self.old.rows) self.old }
+    {
+        if let Some(sid) = name {
+            self.alter(sid, alteration);
         }
     }
 
@@ -84,7 +102,8 @@ impl Subscriptions {
         sid: u64,
         message: Message,
     ) -> Result<Delivery, NoMemory>
-        ensures ok { OnOk result (self.new ≡ record self.old { rows = at_number sid (deliver config.now message) self.old.rows }) }
+        ensures ok { OnOk result
+            (self.new ≡ with_rows (at_number sid (λ sub. kept (deliver config.now message sub)) self.old.rows) self.old) }
         ensures answer { IfOk result (λ d. d ≡ delivery_at config.now message (item_of sid self.old.rows)) }
         ensures err { OnErr result (self.new ≡ self.old) }
     {
@@ -92,9 +111,9 @@ impl Subscriptions {
     }
 
     /// The oldest waiting message of a subscription leaves, where one waits.
-    pub fn take(&mut self, sid: u64) -> Option<Message>
-        ensures message { result ≡ oldest_of (item_of sid self.old.rows) }
-        ensures rest { self.new ≡ record self.old { rows = at_number sid take_from self.old.rows } }
+    pub fn take(&mut self, sid: u64) -> TakeReply
+        ensures reply { result ≡ take_reply_of (item_of sid self.old.rows) }
+        ensures rest { self.new ≡ with_rows (at_number sid (λ sub. kept (take_from sub)) self.old.rows) self.old }
     {
         self.table.alter(sid, &Take)
     }
@@ -106,10 +125,23 @@ impl Subscriptions {
         self.table.item(sid)?.last()
     }
 
-    /// Whether this number was given.
-    pub fn has(&self, sid: u64) -> bool
-        ensures { result ≡ is_some (item_of sid self.now.rows) }
+    /// Whether a subscription is open.
+    pub fn is_open(&self, sid: u64) -> bool
+        ensures { result ≡ is_open_at (item_of sid self.now.rows) }
     {
-        self.table.item(sid).is_some()
+        match self.table.item(sid) {
+            Some(row) => row.is_open(),
+            None => false,
+        }
+    }
+
+    /// Whether this number was given, and its user did not let it go.
+    pub fn has(&self, sid: u64) -> bool
+        ensures { result ≡ is_there (item_of sid self.now.rows) }
+    {
+        match self.table.item(sid) {
+            Some(row) => !row.is_gone(),
+            None => false,
+        }
     }
 }

@@ -88,6 +88,17 @@ pub same_table : {B : Type 0} (f g : ℕ → B) (numbers : List ℕ) → ((s : �
 same_table f g [] same = refl
 same_table f g (s ∷ numbers) same = same_cons _ _ _ _ (same s) (same_table f g numbers same)
 
+-- changes that make the same of the row of a number
+pub agree_at : {A : Type 0} (k : ℕ) (f g : A → A) (xs : List A) → ((x : A) → item_of k xs ≡ Some x → f x ≡ g x)
+    → at_number k f xs ≡ at_number k g xs
+agree_at zero f g xs same = refl
+agree_at (suc i) f g xs same = by_place i xs same
+  where
+    by_place : {A : Type 0} {f g : A → A} (i : ℕ) (xs : List A) → ((x : A) → slice_get xs i ≡ Some x → f x ≡ g x) → at_index i f xs ≡ at_index i g xs
+    by_place i [] same = refl
+    by_place zero (x ∷ xs) same = ap (λ y. y ∷ xs) (same x refl)
+    by_place (suc i) (x ∷ xs) same = ap (λ ys. x ∷ ys) (by_place i xs same)
+
 -- a change that changes nothing
 pub at_number_same : {A : Type 0} (k : ℕ) (xs : List A) → at_number k (λ x. x) xs ≡ xs
 at_number_same zero xs = refl

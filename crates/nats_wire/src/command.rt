@@ -57,30 +57,20 @@ fn word_and_space(word: &Option<Subject>) -> (&[u8], &[u8])
     }
 }
 
-fn append_subscription(
+fn append_subscription<'a>(
     sid: u64,
-    subject: &Subject,
-    queue_group: &Option<Subject>,
+    subject: &'a Subject,
+    queue_group: &'a Option<Subject>,
     out: &mut BytesMut,
 ) -> Result<(), NoMemory>
     ensures ok { OnOk result (out.new.items ≡ out.old.items ++ subscription_text sid subject.now queue_group.now) }
     ensures err { OnErr result (out.new.items ≡ out.old.items) }
 {
+    let subject = subject.as_str().as_bytes();
     let (group, space) = word_and_space(queue_group);
     let mut number = Buffer::new();
     let sid = number.format(sid).as_bytes();
-    append_all(
-        &[
-            b"SUB ",
-            subject.as_str().as_bytes(),
-            b" ",
-            group,
-            space,
-            sid,
-            b"\r\n",
-        ],
-        out,
-    )
+    append_all(&[b"SUB ", subject, b" ", group, space, sid, b"\r\n"], out)
 }
 
 fn append_unsubscription(sid: u64, max: Option<u64>, out: &mut BytesMut) -> Result<(), NoMemory>

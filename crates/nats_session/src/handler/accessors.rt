@@ -3,11 +3,13 @@ ghost use Rattle.std.specs.Prelude.{◌≡◌, length, drop, is_some};
 ghost use Rattle.std.specs.Option.{option_copied};
 ghost use Rattle.nats_history.specs.Queue.{first};
 ghost use Rattle.nats_tables.specs.Numbers.{item_of};
-ghost use Rattle.nats_history.specs.Schedule.{due, refusal, is_valid_turn};
+ghost use Rattle.nats_history.specs.History.{names};
+ghost use Rattle.nats_history.specs.Schedule.{due, refusal, may_name, is_valid_turn};
 ghost use Rattle.nats_session.specs.Delivery.{youngest};
 ghost use Rattle.nats_session.specs.Handler.{can_play, HandsOut};
 
 use super::ConnectionHandler;
+use crate::refusals::{has_group, has_subjects, size_of, subscribes};
 use nats_history::{Call, CallReply, Event, Message, Turn};
 
 impl ConnectionHandler {
@@ -34,7 +36,7 @@ impl ConnectionHandler {
     }
 
     /// Whether a turn may be played: it may come here, and no step is due. It is the condition of the call of that turn; a
-    /// `Do` may always come, so for it `!is_due()` says the same. It takes no memory.
+    /// `Do` may come where the subscription that it names, if it does, was given and not let go. It takes no memory.
     pub fn check(&self, turn: &Turn) -> bool
         ensures { result ≡ can_play self.now.parts turn.now }
     {
@@ -48,8 +50,19 @@ impl ConnectionHandler {
         match turn {
             Turn::Up(_) => self.link == 0,
             Turn::Piece(_) | Turn::Write(_) => self.is_up,
-            Turn::Do(_) => true,
+            Turn::Do(call) => self.may_name(call),
             Turn::Take(sid) => self.subs.has(*sid),
+        }
+    }
+
+    fn may_name(&self, call: &Call) -> bool
+        ensures { result ≡ may_name self.now.parts (names call.now) }
+    {
+        match call {
+            Call::Publish(_) | Call::Subscribe { .. } => true,
+            Call::Unsubscribe(sid) | Call::Limit(sid, _) | Call::DropSub(sid) => {
+                self.subs.has(*sid)
+            }
         }
     }
 
@@ -57,6 +70,20 @@ impl ConnectionHandler {
     pub(crate) fn refusal(&self, call: &Call) -> Option<CallReply>
         ensures { result ≡ refusal self.now.parts call.now }
     {
+        if !has_subjects(&self.config, call) {
+            return Some(CallReply::InvalidSubject);
+        }
+        if !has_group(call) {
+            return Some(CallReply::InvalidQueueName);
+        }
+        let limit = self.max_payload;
+        let size = size_of(call);
+        if size > limit {
+            return Some(CallReply::MaxPayloadExceeded { limit, size });
+        }
+        if subscribes(call) && self.subs.given() == u64::MAX {
+            return Some(CallReply::NoNumber);
+        }
         let is_full = self.calls.len() as u64 >= self.config.client_capacity;
         is_full.then_some(CallReply::Full)
     }
@@ -82,8 +109,8 @@ impl ConnectionHandler {
         self.connection.waiting()
     }
 
-    /// The youngest waiting message of the subscription of number `s`, from 1; `None` where none waits or the number was not
-    /// given. After `Due::Put(s)` it is the message that was put.
+    /// The youngest waiting message of the subscription of number `s`, from 1; `None` where none waits, or the number was not
+    /// given or was let go. After `Due::Put(s)` it is the message that was put.
     pub fn last_put(&self, s: u64) -> Option<&Message>
         ensures { option_copied result ≡ youngest (item_of s self.now.parts.subs.rows) }
     {

@@ -2,32 +2,26 @@
 ghost use Rattle.std.specs.Prelude.{◌≡◌, ◌<◌, [], ◌∷◌, ◌++◌, OnOk, OnErr, IfOk, IfErr, IsTrue, min, length, is_some};
 ghost use Rattle.nats_wire.specs.Commands.{one_piece};
 ghost use Rattle.nats_history.specs.declared.turn.Turn.TheVariants as turns;
-ghost use Rattle.nats_history.specs.History.{opened, fed, taken, took, subscribes};
+ghost use Rattle.nats_history.specs.History.{opened, fed, taken, took};
 ghost use Rattle.nats_history.specs.Schedule.{own_steps, due, due_chain, take_reply};
-ghost use Rattle.nats_session.specs.Handler.{LeadTo, Submits, Advances, can_play, seen_after};
+ghost use Rattle.nats_session.specs.Handler.{LeadTo, TakesIn, Submits, Advances, can_play, seen_after};
 
 use super::ConnectionHandler;
+use crate::refusals::{lets_go, shuts, subscribes};
+use crate::subs::Alteration;
 use nats_history::{Bytes, Call, CallReply, Due, Event, NoMemory, ServerInfo, TakeReply};
 use nats_wire::Connection;
 use std::alloc::Global;
 
-fn subscribes(call: &Call) -> bool
-    ensures { result ≡ subscribes call.now }
-{
-    match call {
-        Call::Publish(_) => false,
-        Call::Subscribe { .. } => true,
-    }
-}
-
 impl ConnectionHandler {
-    fn open_link(&mut self, alloc: Global, _info: &ServerInfo) -> Result<(), NoMemory>
-        ensures ok { OnOk result (self.new ≡ seen_after self.old (opened _info.now)) }
+    fn open_link(&mut self, alloc: Global, info: &ServerInfo) -> Result<(), NoMemory>
+        ensures ok { OnOk result (self.new ≡ seen_after self.old (opened info.now)) }
         ensures err { OnErr result (self.new ≡ self.old) }
     {
         self.events.push(Event::Connected)?;
         self.link = self.link.saturating_add(1);
         self.is_up = true;
+        self.max_payload = info.max_payload;
         self.connection = Connection::new(alloc);
         Ok(())
     }
@@ -86,17 +80,20 @@ impl ConnectionHandler {
         self.let_go(n);
     }
 
-    fn accept(&mut self, alloc: Global, call: Call) -> Result<CallReply, Call>
-        ensures { Submits self.old call result self.new }
+    /// Takes in a call or refuses it, and lets no subscription go.
+    fn take_in(&mut self, alloc: Global, call: Call) -> Result<CallReply, Call>
+        ensures { TakesIn self.old call result self.new }
     {
         if let Some(refused) = self.refusal(&call) {
             return Ok(refused);
         }
         let subscribes = subscribes(&call);
+        let shut = shuts(&call);
         if let Err(refused) = self.calls.push(call) {
             return Err(refused.value);
         }
         if !subscribes {
+            self.subs.alter_named(shut, Alteration::Shut);
             return Ok(CallReply::Accepted);
         }
         match self.subs.give(alloc) {
@@ -108,9 +105,27 @@ impl ConnectionHandler {
         }
     }
 
-    /// Takes in a call, or refuses it: `Full` exactly where as many accepted calls wait as the client capacity; then nothing
-    /// changed, and the call is dropped. Its condition is `check` of that turn, of which a `Do` asks `!is_due()` alone. An
-    /// accepted call is handled by `advance`, in the order of acceptance. The crate's bounded channel of commands.
+    fn accept(&mut self, alloc: Global, call: Call) -> Result<CallReply, Call>
+        ensures { Submits self.old call result self.new }
+    {
+        let gone = lets_go(&call);
+        match self.take_in(alloc, call) {
+            Ok(reply) => {
+                self.subs.alter_named(gone, Alteration::LetGo);
+                Ok(reply)
+            }
+            Err(call) => Err(call),
+        }
+    }
+
+    /// Takes in a call, or refuses it by the first of these that holds. `InvalidSubject`: a publish whose subject, or a reply
+    /// that is there, is empty, or is not publishable and the settings don't skip that; a subscribe whose subject is not valid.
+    /// `InvalidQueueName`: a group that is not publishable. `MaxPayloadExceeded`: the payload with its header block is larger
+    /// than the server of the newest link takes, 1,048,576 bytes before any. `NoNumber`: a subscribe, and number 2^64 - 1 was
+    /// given. `Full`: as many accepted calls wait as the client capacity. A refused call is dropped and changes nothing, but
+    /// that a `DropSub` lets its subscription go whatever the reply. An accepted call is handled by `advance`, in the order of
+    /// acceptance; an accepted `Unsubscribe` shuts its subscription at once. Its condition is `check` of that turn. The crate's
+    /// tests of what is published and subscribed to, and its bounded channel of commands.
     ///
     /// # Errors
     ///
@@ -127,14 +142,12 @@ impl ConnectionHandler {
         ensures reply { result ≡ take_reply self.old.parts sid }
         ensures rest { self.new ≡ seen_after self.old (took sid) }
     {
-        match self.subs.take(sid) {
-            Some(message) => TakeReply::Message(message),
-            None => TakeReply::Empty,
-        }
+        self.subs.take(sid)
     }
 
-    /// Takes the oldest waiting message of the subscription of number `s` out of its queue, or answers `Empty`, and then
-    /// nothing changed. Its condition is `check` of that turn. It takes no memory.
+    /// Takes the oldest waiting message of the subscription of number `s` out of its queue. Where none waits it answers `Ended`
+    /// if the subscription is shut or ended, else `Empty`, and nothing changed. Its condition is `check` of that turn: the
+    /// number was given and not let go. It takes no memory.
     pub fn take(&mut self, s: u64) -> TakeReply
         requires { IsTrue (can_play self.old.parts (turns.Take s)) }
         ensures reply { result ≡ take_reply self.old.parts s }

@@ -5,16 +5,16 @@ ghost use Rattle.nats_wire.specs.Operations.{front, unfinished, got, op_view};
 ghost use Rattle.nats_wire.specs.Commands.{command_text};
 ghost use Rattle.nats_history.specs.declared.transcript.LinkWord.TheVariants.{Fault};
 ghost use Rattle.nats_history.specs.declared.turn.Due.TheVariants as due_names;
-ghost use Rattle.nats_tables.specs.Numbers.{at_number, item_of};
-ghost use Rattle.nats_history.specs.History.{link_end, read, handled, commands, drop_events, info_events};
+ghost use Rattle.nats_tables.specs.Numbers.{item_of};
+ghost use Rattle.nats_history.specs.History.{link_end, read, handled, unsubscribe_command, is_open_at, commands, info_events};
 ghost use Rattle.nats_history.specs.Parts.{at_in};
 ghost use Rattle.nats_history.specs.Schedule.{due, due_chain};
 ghost use Rattle.nats_history.specs.After.{written, subs_after};
-ghost use Rattle.nats_session.specs.Delivery.{deliver, delivery_at};
-ghost use Rattle.nats_session.specs.Handler.{Advances, Sees, is_nothing, look_message, handled_first, seen_after, own_name, end_in, push_all};
+ghost use Rattle.nats_session.specs.Delivery.{delivery_at, with_rows, rows_with};
+ghost use Rattle.nats_session.specs.Handler.{Advances, Sees, is_nothing, look_message, handled_first, seen_after, own_name, delivery_name, after_message, end_in, push_all};
 
 use super::ConnectionHandler;
-use crate::subs::{Delivery, Subscriptions};
+use crate::subs::{Alteration, Delivery, Subscriptions};
 use nats_history::{
     Call, Config, Due, Event, LinkWord, Message, NoMemory, OutboundMessage, Subject,
 };
@@ -95,6 +95,45 @@ fn write_subscribe(
     connection.enqueue_write_op(alloc, &op)
 }
 
+/// Asks the server for no further messages of a subscription that is open, or for so many in all.
+fn write_unsubscribe(
+    connection: &mut Connection,
+    alloc: Global,
+    is_open: bool,
+    sid: u64,
+    max: Option<u64>,
+) -> Result<(), NoMemory>
+    ensures ok { OnOk result (connection.new
+        ≡ record connection.old { waiting = written true (unsubscribe_command is_open sid max) connection.old.waiting }) }
+    ensures err { OnErr result (connection.new ≡ connection.old) }
+{
+    if !is_open {
+        return Ok(());
+    }
+    connection.enqueue_write_op(alloc, &ClientOp::Unsubscribe { sid, max })
+}
+
+/// Unsubscribes a subscription where it is open, and then something happens to it.
+fn unsubscribe(
+    connection: &mut Connection,
+    subs: &mut Subscriptions,
+    alloc: Global,
+    sid: u64,
+    max: Option<u64>,
+    alteration: Alteration,
+) -> Result<(), NoMemory>
+    ensures text { OnOk result (connection.new
+        ≡ record connection.old {
+          waiting = written true (unsubscribe_command (is_open_at (item_of sid subs.old.rows)) sid max) connection.old.waiting }) }
+    ensures subs { OnOk result (subs.new ≡ with_rows (rows_with sid alteration subs.old.rows) subs.old) }
+    ensures err { OnErr result ((connection.new ≡ connection.old) × (subs.new ≡ subs.old)) }
+{
+    let is_open = subs.is_open(sid);
+    write_unsubscribe(connection, alloc, is_open, sid, max)?;
+    subs.alter(sid, alteration);
+    Ok(())
+}
+
 /// Writes the commands of a call that is handled, and changes the subscription that it is about.
 fn handle_call(
     connection: &mut Connection,
@@ -103,7 +142,9 @@ fn handle_call(
     _config: &Config,
     call: &Call,
 ) -> Result<(), NoMemory>
-    ensures text { OnOk result (connection.new ≡ record connection.old { waiting = written true (commands _config.now (at_in subs.old) subs.old.rows (handled call.now)) connection.old.waiting }) }
+    ensures text { OnOk result (connection.new
+        ≡ record connection.old {
+          waiting = written true (commands _config.now (at_in subs.old) subs.old.rows (handled call.now)) connection.old.waiting }) }
     ensures subs { OnOk result (subs.new ≡ subs_after _config.now (handled call.now) subs.old) }
     ensures err { OnErr result ((connection.new ≡ connection.old) × (subs.new ≡ subs.old)) }
 {
@@ -119,6 +160,13 @@ fn handle_call(
             write_subscribe(connection, alloc, sid, subject, queue_group)?;
             subs.subscribe();
             Ok(())
+        }
+        Call::Unsubscribe(sid) | Call::DropSub(sid) => {
+            unsubscribe(connection, subs, alloc, *sid, None, Alteration::End)
+        }
+        Call::Limit(sid, limit) => {
+            let alteration = Alteration::Limit(*limit);
+            unsubscribe(connection, subs, alloc, *sid, Some(*limit), alteration)
         }
     }
 }
@@ -200,13 +248,9 @@ impl ConnectionHandler {
         let Peeked { op, len } = peeked;
         match op {
             ServerOp::Message { sid, message } => {
-                let delivery = self.deliver(sid, message)?;
+                let name = self.read_message(alloc, sid, message)?;
                 self.connection.consume(len);
-                match delivery {
-                    Delivery::Put => Ok(Due::Put(sid)),
-                    Delivery::Dropped(message) => Ok(Due::Dropped(sid, message)),
-                    Delivery::Ignored => Ok(Due::Read),
-                }
+                Ok(name)
             }
             ServerOp::Ping => {
                 self.connection.enqueue_write_op(alloc, &ClientOp::Pong)?;
@@ -240,16 +284,27 @@ impl ConnectionHandler {
         Ok(())
     }
 
-    fn deliver(&mut self, sid: u64, message: Message) -> Result<Delivery, NoMemory>
-        ensures ok { OnOk result (self.new ≡ record { parts = record self.old.parts { subs = record self.old.parts.subs { rows = at_number sid (deliver self.old.parts.config message) self.old.parts.subs.rows } }; events = push_all (drop_events self.old.parts.config sid (item_of sid self.old.parts.subs.rows)) self.old.events }) }
-        ensures answer { IfOk result (λ d. d ≡ delivery_at self.old.parts.config message (item_of sid self.old.parts.subs.rows)) }
+    /// Brings a message to its subscription.
+    fn read_message(&mut self, alloc: Global, sid: u64, message: Message) -> Result<Due, NoMemory>
+        ensures ok { OnOk result (self.new
+            ≡ after_message sid message (delivery_at self.old.parts.config message (item_of sid self.old.parts.subs.rows)) self.old) }
+        ensures name { IfOk result
+            (λ name. name ≡ delivery_name sid (delivery_at self.old.parts.config message (item_of sid self.old.parts.subs.rows))) }
         ensures err { OnErr result (self.new ≡ self.old) }
     {
-        let delivery = self.subs.deliver(&self.config, sid, message)?;
-        if let Delivery::Dropped(_) = delivery {
-            self.events.push(Event::SlowConsumer(sid))?;
+        match self.subs.deliver(&self.config, sid, message)? {
+            Delivery::Put => Ok(Due::Put(sid)),
+            Delivery::Dropped(dropped) => {
+                self.events.push(Event::SlowConsumer(sid))?;
+                Ok(Due::Dropped(sid, dropped))
+            }
+            Delivery::Unwanted => {
+                write_unsubscribe(&mut self.connection, alloc, true, sid, None)?;
+                self.subs.alter(sid, Alteration::End);
+                Ok(Due::Read)
+            }
+            Delivery::Ignored => Ok(Due::Read),
         }
-        Ok(delivery)
     }
 
     fn handle_command(&mut self, alloc: Global) -> Result<Due, NoMemory>

@@ -1,21 +1,27 @@
 //! One subscription.
-ghost use Rattle.std.specs.Prelude.{◌≡◌, false, OnErr, IfOk, OnOk};
-ghost use Rattle.std.proofs.lemmas.Bool.{false≢true};
+ghost use Rattle.std.specs.Prelude.{◌≡◌, true, OnErr, IfOk, OnOk};
+ghost use Rattle.std.proofs.Common.{refl};
 ghost use Rattle.std.specs.Option.{option_copied};
-ghost use Rattle.nats_history.specs.Queue.{first, last};
+ghost use Rattle.nats_history.specs.History.{is_open, is_over, forgotten, open_if, end_if, reached};
 ghost use Rattle.nats_history.specs.After.{new_sub};
-ghost use Rattle.nats_session.specs.Delivery.{open_sub, deliver, take_from, delivery};
+ghost use Rattle.nats_history.specs.Schedule.{sub_take};
+ghost use Rattle.nats_session.specs.Delivery.{altered, deliver, take_from, delivery, youngest_of};
+ghost use Rattle.nats_session.specs.Forgetting.{still};
 
 use crate::queue::Queue;
-use nats_history::{Config, Message, NoMemory};
+use nats_history::{Config, Message, NoMemory, Stage, TakeReply};
 use nats_tables::{Change, Row, TryChange};
 use std::alloc::Global;
 use std::marker::Model;
 
-/// A subscription: whether it is open, and the messages that wait to be taken.
+/// A subscription: how far it came, what was asked of it, and the messages that wait to be taken.
 #[derive(Drop)]
 pub struct Subscription {
-    is_open: bool,
+    stage: Stage,
+    is_shut: bool,
+    is_gone: bool,
+    limit: Option<u64>,
+    puts: u64,
     waiting: Queue<Message>,
 }
 
@@ -24,7 +30,9 @@ impl Model for Subscription {
 
     ghost Value = { Sub };
 
-    ghost view = { λ s. record { is_open = s.is_open; waiting = s.waiting } };
+    ghost view = { λ s. record {
+      stage = s.stage; is_shut = s.is_shut; is_gone = s.is_gone; limit = s.limit; puts = s.puts; waiting = s.waiting;
+    } };
 }
 
 /// What became of a message that came for a subscription.
@@ -34,61 +42,75 @@ pub enum Delivery {
     Put,
     /// The queue was full.
     Dropped(Message),
+    /// The subscription is open and shut: it is to end.
+    Unwanted,
     /// There is no open subscription of that number.
     Ignored,
 }
 
-/// No subscription is over yet: none ends, and none is dropped by its user.
+/// A subscription that its user let go and that ended is over.
 impl Row for Subscription {
-    ghost forgotten = { new_sub };
+    ghost forgotten = { forgotten };
 
-    ghost over = { λ _. false };
+    ghost over = { is_over };
 
     fn is_over(&self) -> bool {
-        false
+        self.is_gone && matches!(self.stage, Stage::Ended)
     }
 
-    ghost forgotten_is_over = { λ row over. over };
+    ghost forgotten_is_over = { λ row over. refl };
 }
 
-/// A subscription opens.
-pub struct Open;
+/// What can happen to a subscription but for its messages.
+#[derive(Clone, Copy)]
+pub enum Alteration {
+    /// Its subscribe is handled.
+    Open,
+    /// It takes in no further message.
+    Shut,
+    /// It ends.
+    End,
+    /// It ends at so many puts.
+    Limit(u64),
+    /// Its user lets it go.
+    LetGo,
+}
 
-impl Change<Subscription> for Open {
+impl Change<Subscription> for Alteration {
     type Answer = ();
 
-    ghost changes = { λ _. open_sub };
+    ghost changes = { altered };
 
     ghost answers = { λ _ _. record {} };
 
     fn change(&self, row: &mut Subscription) {
-        row.open();
+        row.alter(*self);
     }
 
     fn refuse(&self) {}
 
-    ghost leaves_forgotten = { λ c over. absurd (false≢true over) };
+    ghost leaves_forgotten = { λ a over. still a };
 }
 
 /// The oldest waiting message leaves a subscription.
 pub struct Take;
 
 impl Change<Subscription> for Take {
-    type Answer = Option<Message>;
+    type Answer = TakeReply;
 
     ghost changes = { λ _. take_from };
 
-    ghost answers = { λ _ sub. first sub.waiting };
+    ghost answers = { λ _. sub_take };
 
-    fn change(&self, row: &mut Subscription) -> Option<Message> {
+    fn change(&self, row: &mut Subscription) -> TakeReply {
         row.take()
     }
 
-    fn refuse(&self) -> Option<Message> {
-        None
+    fn refuse(&self) -> TakeReply {
+        TakeReply::Ended
     }
 
-    ghost leaves_forgotten = { λ c over. absurd (false≢true over) };
+    ghost leaves_forgotten = { λ c over. refl };
 }
 
 /// A message that comes for a subscription.
@@ -113,7 +135,34 @@ impl TryChange<Subscription> for Arrival<'_> {
         Delivery::Ignored
     }
 
-    ghost leaves_forgotten = { λ a over. absurd (false≢true over) };
+    ghost leaves_forgotten = { λ a over. refl };
+}
+
+fn opened(stage: Stage) -> Stage
+    ensures { result ≡ open_if true stage }
+{
+    match stage {
+        Stage::Asked | Stage::Open => Stage::Open,
+        Stage::Ended => Stage::Ended,
+    }
+}
+
+fn ended_if(is_end: bool, stage: Stage) -> Stage
+    ensures { result ≡ end_if is_end stage }
+{
+    match stage {
+        Stage::Open if is_end => Stage::Ended,
+        _ => stage,
+    }
+}
+
+fn is_reached(limit: Option<u64>, count: u64) -> bool
+    ensures { result ≡ reached limit count }
+{
+    match limit {
+        Some(limit) => limit <= count,
+        None => false,
+    }
 }
 
 impl Subscription {
@@ -122,45 +171,86 @@ impl Subscription {
         ensures { result ≡ new_sub }
     {
         Subscription {
-            is_open: false,
+            stage: Stage::Asked,
+            is_shut: false,
+            is_gone: false,
+            limit: None,
+            puts: 0,
             waiting: Queue::new(alloc),
         }
     }
 
-    pub fn open(&mut self)
-        ensures { self.new ≡ open_sub self.old }
+    pub fn alter(&mut self, alteration: Alteration)
+        ensures { self.new ≡ altered alteration self.old }
     {
-        self.is_open = true;
+        match alteration {
+            Alteration::Open => self.stage = opened(self.stage),
+            Alteration::Shut => self.is_shut = true,
+            Alteration::End => self.stage = ended_if(true, self.stage),
+            Alteration::Limit(limit) => {
+                self.limit = Some(limit);
+                self.stage = ended_if(limit <= self.puts, self.stage);
+            }
+            Alteration::LetGo => {
+                self.is_shut = true;
+                self.is_gone = true;
+                self.waiting.clear();
+            }
+        }
     }
 
-    /// Takes in a message where it is open and has room.
+    /// Takes in a message where it is open, not shut, and has room.
     pub fn deliver(&mut self, config: &Config, message: Message) -> Result<Delivery, NoMemory>
         ensures ok { OnOk result (self.new ≡ deliver config.now message self.old) }
         ensures answer { IfOk result (λ d. d ≡ delivery config.now message self.old) }
         ensures err { OnErr result (self.new ≡ self.old) }
     {
-        if !self.is_open {
+        if !self.is_open() {
             return Ok(Delivery::Ignored);
+        }
+        if self.is_shut {
+            return Ok(Delivery::Unwanted);
         }
         if self.waiting.len() as u64 >= config.subscription_capacity {
             return Ok(Delivery::Dropped(message));
         }
         self.waiting.push(message)?;
+        self.puts = self.puts.saturating_add(1);
+        self.stage = ended_if(is_reached(self.limit, self.puts), self.stage);
         Ok(Delivery::Put)
     }
 
     /// The oldest waiting message leaves, where one waits.
-    pub fn take(&mut self) -> Option<Message>
-        ensures message { result ≡ first self.old.waiting }
+    pub fn take(&mut self) -> TakeReply
+        ensures reply { result ≡ sub_take self.old }
         ensures rest { self.new ≡ take_from self.old }
     {
-        self.waiting.pop()
+        match self.waiting.pop() {
+            Some(message) => TakeReply::Message(message),
+            None if self.is_shut || matches!(self.stage, Stage::Ended) => TakeReply::Ended,
+            None => TakeReply::Empty,
+        }
+    }
+
+    pub fn is_open(&self) -> bool
+        ensures { result ≡ is_open self.now.stage }
+    {
+        matches!(self.stage, Stage::Open)
+    }
+
+    pub fn is_gone(&self) -> bool
+        ensures { result ≡ self.now.is_gone }
+    {
+        self.is_gone
     }
 
     /// The youngest waiting message.
     pub fn last(&self) -> Option<&Message>
-        ensures { option_copied result ≡ last self.now.waiting }
+        ensures { option_copied result ≡ youngest_of self.now }
     {
+        if self.is_gone {
+            return None;
+        }
         self.waiting.back()
     }
 }

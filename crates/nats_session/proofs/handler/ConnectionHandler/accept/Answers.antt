@@ -1,8 +1,12 @@
--- One more call waits, and where it is a subscribe one more number was given.
-use Rattle.std.proofs.Common.{sym}
-use Rattle.nats_session.proofs.Handlers.{numbered_by}
+-- The call was taken in or refused, and its user let a subscription go.
+use Rattle.std.proofs.Common.{◌∙◌, ap}
+use Rattle.nats_session.specs.declared.subs.subscription.Alteration.TheVariants as alterations
+use Rattle.nats_session.specs.Delivery.{rows_named, with_rows}
+use Rattle.nats_session.proofs.Handlers.{submitted}
 use Rattle.nats_session.proofs.handler.ConnectionHandler.accept.Goals as goal
 
 pub returns-in-Ok : goal.returns-in-Ok
 returns-in-Ok c =
-    numbered_by _ c.args.self.now c.args.call c.push.new.self c.give.new.self c.given.result c.self.view_is (sym c.in_default.ensures) (sym c.if-not-subscribes.ensures) c.in_default-push.ensures.ok c.in-Ok.ensures.ok c.given.ensures
+    let subs = c.self.inside.subs in
+    submitted c.args.self.now c.take_in.new.self _ c.args.call c.in-Ok.reply c.alter_named.new.self c.in-Ok.ensures c.self.view_is
+    (c.alter_named.ensures ∙ ap (λ name. with_rows (rows_named name alterations.LetGo subs.rows) subs) c.lets_go-gone.ensures)

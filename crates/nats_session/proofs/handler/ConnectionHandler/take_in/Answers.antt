@@ -1,0 +1,18 @@
+-- One more call waits; where it is a subscribe one more number was given, and else a subscription may be shut.
+use Rattle.std.proofs.Common.{sym, ◌∙◌, ap}
+use Rattle.nats_session.specs.declared.subs.subscription.Alteration.TheVariants as alterations
+use Rattle.nats_session.specs.Delivery.{rows_named, with_rows}
+use Rattle.nats_session.proofs.Handlers.{numbered_by, shut_by}
+use Rattle.nats_session.proofs.handler.ConnectionHandler.take_in.Goals as goal
+
+pub returns-in-Ok : goal.returns-in-Ok
+returns-in-Ok c =
+    numbered_by _ c.args.self.now c.args.call c.push.new.self c.give.new.self c.given.result c.self.view_is (sym c.in_default.ensures)
+    (sym c.if-not-subscribes.ensures) c.in_default-push.ensures.ok c.in-Ok.ensures.ok c.given.ensures
+
+pub returns-then-not-subscribes : goal.returns-then-not-subscribes
+returns-then-not-subscribes c =
+    let subs = c.self.inside.subs in
+    shut_by _ c.args.self.now c.args.call c.push.new.self c.alter_named.new.self c.self.view_is (sym c.in_default.ensures)
+    (sym c.if-not-subscribes.ensures) c.in_default-push.ensures.ok
+    (c.alter_named.ensures ∙ ap (λ name. with_rows (rows_named name alterations.Shut subs.rows) subs) c.shuts-shut.ensures)

@@ -1,0 +1,109 @@
+//! What a call asks for, and which calls may not be accepted.
+ghost use Rattle.std.specs.Prelude.{◌≡◌, ◌<◌, ◌^◌};
+ghost use Rattle.nats_wire.specs.Commands.{sent_block};
+ghost use Rattle.nats_wire.specs.Operations.{length_or_0};
+ghost use Rattle.nats_history.specs.History.{subscribes, shuts, lets_go};
+ghost use Rattle.nats_history.specs.Schedule.{may_publish_to, passes, has_subjects, has_group, size_of};
+
+use nats_history::{Call, Config, HeaderMap, Subject};
+
+/// Whether a call is given a subscription number.
+pub fn subscribes(call: &Call) -> bool
+    ensures { result ≡ subscribes call.now }
+{
+    match call {
+        Call::Subscribe { .. } => true,
+        Call::Publish(_) | Call::Unsubscribe(_) | Call::Limit(..) | Call::DropSub(_) => false,
+    }
+}
+
+/// The subscription that a call shuts once it is accepted.
+pub fn shuts(call: &Call) -> Option<u64>
+    ensures { result ≡ shuts call.now }
+{
+    match call {
+        Call::Unsubscribe(s) => Some(*s),
+        Call::Publish(_) | Call::Subscribe { .. } | Call::Limit(..) | Call::DropSub(_) => None,
+    }
+}
+
+/// The subscription that the user of a call lets go, whatever the reply.
+pub fn lets_go(call: &Call) -> Option<u64>
+    ensures { result ≡ lets_go call.now }
+{
+    match call {
+        Call::DropSub(s) => Some(*s),
+        Call::Publish(_) | Call::Subscribe { .. } | Call::Limit(..) | Call::Unsubscribe(_) => None,
+    }
+}
+
+fn may_publish_to(config: &Config, subject: &Subject) -> bool
+    ensures { result ≡ may_publish_to config.now subject.now }
+{
+    !subject.as_str().is_empty() && (config.skip_subject_validation || subject.is_publishable())
+}
+
+fn may_reply_to(config: &Config, reply: &Option<Subject>) -> bool
+    ensures { result ≡ passes (may_publish_to config.now) reply.now }
+{
+    match reply {
+        Some(reply) => may_publish_to(config, reply),
+        None => true,
+    }
+}
+
+/// Whether the subjects of a call may stand there.
+pub fn has_subjects(config: &Config, call: &Call) -> bool
+    ensures { result ≡ has_subjects config.now call.now }
+{
+    match call {
+        Call::Publish(message) => {
+            may_publish_to(config, &message.subject) && may_reply_to(config, &message.reply)
+        }
+        Call::Subscribe { subject, .. } => subject.is_valid(),
+        Call::Unsubscribe(_) | Call::Limit(..) | Call::DropSub(_) => true,
+    }
+}
+
+/// Whether its queue group may stand there.
+pub fn has_group(call: &Call) -> bool
+    ensures { result ≡ has_group call.now }
+{
+    match call {
+        Call::Subscribe {
+            queue_group: Some(group),
+            ..
+        } => group.is_publishable(),
+        Call::Subscribe {
+            queue_group: None, ..
+        }
+        | Call::Publish(_)
+        | Call::Unsubscribe(_)
+        | Call::Limit(..)
+        | Call::DropSub(_) => true,
+    }
+}
+
+/// The length in bytes of the header block that is sent for some headers, if one is.
+fn block_len(headers: &Option<HeaderMap>) -> usize
+    ensures len { result ≡ length_or_0 (sent_block headers.now) }
+    ensures bound { result < 2 ^ 63 }
+{
+    match headers {
+        Some(headers) if !headers.is_empty() => headers.wire_len(),
+        _ => 0,
+    }
+}
+
+/// Its size in bytes: the payload, and the header block where one is sent.
+pub fn size_of(call: &Call) -> u64
+    ensures { result ≡ size_of call.now }
+{
+    match call {
+        Call::Publish(message) => {
+            let block = block_len(&message.headers);
+            (block + message.payload.as_slice().len()) as u64
+        }
+        Call::Subscribe { .. } | Call::Unsubscribe(_) | Call::Limit(..) | Call::DropSub(_) => 0,
+    }
+}
