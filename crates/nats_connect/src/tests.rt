@@ -32,17 +32,29 @@ fn says(alloc: Global, info: &ConnectInfo, text: &str) -> Result<bool, NoMemory>
 fn absent_texts_are_null_and_others_are_escaped(rt: HostRuntime) -> Result<(), Fail> {
     let alloc = rt.alloc();
     let mut info = plain(alloc)?;
-    assert!(rt; says(alloc, &info, "CONNECT {\"verbose\":false,\"pedantic\":false,\"jwt\":null,\"nkey\":null,\
+    assert!(rt;
+        says(
+            alloc,
+            &info,
+            "CONNECT {\"verbose\":false,\"pedantic\":false,\"jwt\":null,\"nkey\":null,\
         \"sig\":null,\"name\":null,\"echo\":false,\"lang\":\"Rust\",\"version\":\"1.0.0\",\"protocol\":1,\
         \"tls_required\":false,\"user\":null,\"pass\":null,\"auth_token\":null,\"headers\":false,\
-        \"no_responders\":false}\r\n")?);
+        \"no_responders\":false}\r\n"
+        )?
+    );
     info.name = Some(Text::from_text(alloc, "a\"b\\\n\u{1}ü")?);
     info.protocol = Protocol::Original;
     info.echo = true;
-    assert!(rt; says(alloc, &info, "CONNECT {\"verbose\":false,\"pedantic\":false,\"jwt\":null,\"nkey\":null,\
+    assert!(rt;
+        says(
+            alloc,
+            &info,
+            "CONNECT {\"verbose\":false,\"pedantic\":false,\"jwt\":null,\"nkey\":null,\
         \"sig\":null,\"name\":\"a\\\"b\\\\\\n\\u0001ü\",\"echo\":true,\"lang\":\"Rust\",\"version\":\"1.0.0\",\
         \"protocol\":0,\"tls_required\":false,\"user\":null,\"pass\":null,\"auth_token\":null,\"headers\":false,\
-        \"no_responders\":false}\r\n")?);
+        \"no_responders\":false}\r\n"
+        )?
+    );
     Ok(())
 }
 

@@ -8,17 +8,6 @@ use json::Writer;
 use nats_names::{NoMemory, Text};
 use std::alloc::Global;
 
-impl Protocol {
-    fn number(self) -> u64
-        ensures { result ≡ protocol_number self }
-    {
-        match self {
-            Protocol::Original => 0,
-            Protocol::Dynamic => 1,
-        }
-    }
-}
-
 fn put_switch(json: &mut Writer, name: &str, is_on: bool) -> Result<(), NoMemory>
     ensures { Adds result json.old json.new (field name.now (boolean is_on)) }
 {
@@ -27,9 +16,13 @@ fn put_switch(json: &mut Writer, name: &str, is_on: bool) -> Result<(), NoMemory
     Ok(())
 }
 
-fn put_number(json: &mut Writer, name: &str, n: u64) -> Result<(), NoMemory>
-    ensures { Adds result json.old json.new (field name.now (number (decimal n))) }
+fn put_protocol(json: &mut Writer, name: &str, protocol: Protocol) -> Result<(), NoMemory>
+    ensures { Adds result json.old json.new (field name.now (number (decimal (protocol_number protocol)))) }
 {
+    let n = match protocol {
+        Protocol::Original => 0,
+        Protocol::Dynamic => 1,
+    };
     json.key(name)?;
     json.u64(n)?;
     Ok(())
@@ -65,20 +58,22 @@ fn put_first(json: &mut Writer, info: &ConnectInfo) -> Result<(), NoMemory>
     put_optional(json, "sig", &info.signature)?;
     put_optional(json, "name", &info.name)?;
     put_switch(json, "echo", info.echo)?;
-    put_text(json, "lang", &info.lang)
+    put_text(json, "lang", &info.lang)?;
+    Ok(())
 }
 
 fn put_last(json: &mut Writer, info: &ConnectInfo) -> Result<(), NoMemory>
     ensures { Adds result json.old json.new (last_fields info.now) }
 {
     put_text(json, "version", &info.version)?;
-    put_number(json, "protocol", info.protocol.number())?;
+    put_protocol(json, "protocol", info.protocol)?;
     put_switch(json, "tls_required", info.tls_required)?;
     put_optional(json, "user", &info.user)?;
     put_optional(json, "pass", &info.pass)?;
     put_optional(json, "auth_token", &info.auth_token)?;
     put_switch(json, "headers", info.headers)?;
-    put_switch(json, "no_responders", info.no_responders)
+    put_switch(json, "no_responders", info.no_responders)?;
+    Ok(())
 }
 
 /// The text of CONNECT: `CONNECT `, a JSON object without spaces whose fields stand in the protocol's order, and the end of
