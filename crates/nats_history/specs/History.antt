@@ -266,7 +266,7 @@ subscribe_command (Some s) subject group = client.Subscribe s subject group ∷ 
 
 -- the commands that a step writes, where these are the subscriptions before it
 abbrev pub commands : Config → At → List Sub → Step → List ClientOp
-commands c at subs (handled (Publish m)) = client.Publish m.subject m.payload m.reply ∷ []
+commands c at subs (handled (Publish m)) = client.Publish m.subject m.payload m.reply m.headers ∷ []
 commands c at subs (handled (Subscribe subject group)) = subscribe_command (next_subscribed at) subject group
 commands c at subs (read ping_op) = client.Pong ∷ []
 commands c at subs step = []

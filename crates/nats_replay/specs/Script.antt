@@ -86,7 +86,7 @@ sub_of fields = None
 
 -- a publish that asks for no answer
 abbrev pub pub_turn : List ℕ → List ℕ → Turn
-pub_turn subject payload = Do (Publish (record { subject = subject; reply = None; payload = payload }))
+pub_turn subject payload = Do (Publish (record { subject = subject; reply = None; payload = payload; headers = None }))
 
 abbrev pub pub_with : Option (List ℕ) → Option (List ℕ) → Option Turn
 pub_with (Some subject) (Some payload) = Some (pub_turn subject payload)

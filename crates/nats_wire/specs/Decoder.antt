@@ -18,6 +18,9 @@ message_view m = record {
   subject = m.subject.now;
   reply = option_map (λ text. text.now) m.reply;
   payload = m.payload.now;
+  headers = None;
+  status = None;
+  description = None;
   length = m.length;
 }
 

@@ -4,6 +4,8 @@ use Rattle.std.specs.Option.{option_map}
 use Rattle.std.specs.List.{starts_with, slice_split}
 use Rattle.std.specs.Str.{is_utf8, all_ascii_digits}
 use Rattle.std.specs.Str.Parse.{digits_value, without_leading_plus}
+use Rattle.nats_names.specs.declared.server_error.ServerError.{ServerError}
+use Rattle.nats_wire.specs.declared.info.ServerInfo.{ServerInfo}
 use Rattle.nats_wire.specs.declared.message.Message.{Message}
 use Rattle.nats_wire.specs.declared.op.ServerOp.{ServerOp}
 use Rattle.nats_wire.specs.declared.op.ServerOp.TheVariants as server
@@ -13,10 +15,14 @@ use Rattle.nats_wire.specs.declared.decode.Word.TheVariants as word
 -- an operation by its content
 pub data Operation : Type 0 where
   message : ℕ → Message → Operation
+  info_op : ServerInfo → Operation
+  error_op : ServerError → Operation
   ok_op ping_op pong_op : Operation
 
 abbrev pub op_view : ServerOp → Operation
 op_view (server.Message sid m) = message sid m
+op_view (server.Info info) = info_op info.value
+op_view (server.Error error) = error_op error
 op_view server.Ok = ok_op
 op_view server.Ping = ping_op
 op_view server.Pong = pong_op
@@ -102,6 +108,9 @@ message_of head payload = record {
   subject = head.subject;
   reply = head.reply;
   payload = payload;
+  headers = None;
+  status = None;
+  description = None;
   length = head.count + length_or_0 head.reply + length head.subject;
 }
 

@@ -1,10 +1,12 @@
 //! The texts of client operations, by the NATS client protocol.
-ghost use Rattle.std.specs.Prelude.{◌≡◌, ◌++◌, length, IfOk, OnOk, OnErr};
-ghost use Rattle.std.specs.String.{string_bytes};
-ghost use Rattle.nats_wire.specs.Commands.{crlf, subscription_text, publication_line, command_text};
+ghost use Rattle.std.specs.Prelude.{◌≡◌, ◌++◌, IfOk, OnOk, OnErr};
+ghost use Rattle.std.specs.Option.{option_map};
+ghost use Rattle.nats_wire.specs.Commands.{word_and_space, sent_block, publication_text, subscription_text, unsubscription_text, command_text, command_texts, joined};
 
 use crate::op::ClientOp;
 use bytes::BytesMut;
+use itoa::Buffer;
+use nats_header::HeaderMap;
 use nats_names::{NoMemory, Subject};
 use std::alloc::Global;
 
@@ -18,64 +20,161 @@ pub fn append(alloc: Global, op: &ClientOp, out: &mut BytesMut) -> Result<(), No
             sid,
             subject,
             queue_group,
-        } => {
-            let line = subscription(alloc, *sid, subject, queue_group)?;
-            out.extend_from_slice(line.as_bytes())?;
-        }
+        } => append_subscription(*sid, subject, queue_group, out),
+        ClientOp::Unsubscribe { sid, max } => append_unsubscription(*sid, *max, out),
         ClientOp::Publish {
             subject,
             payload,
             respond,
+            headers,
         } => {
-            let line = publication(alloc, subject, respond, payload.len())?;
-            append_with_payload(line.as_bytes(), payload.as_slice(), out)?;
+            let block = sent_block(alloc, headers)?;
+            append_publication(subject, respond, &block, payload.as_slice(), out)
         }
-        ClientOp::Ping => out.extend_from_slice(b"PING\r\n")?,
-        ClientOp::Pong => out.extend_from_slice(b"PONG\r\n")?,
+        ClientOp::Ping => append_all(&[b"PING\r\n".as_slice()], out),
+        ClientOp::Pong => append_all(&[b"PONG\r\n".as_slice()], out),
+    }
+}
+
+/// Appends what the client writes for some operations in order, all of it or nothing.
+pub fn append_each(alloc: Global, ops: &[ClientOp], out: &mut BytesMut) -> Result<(), NoMemory>
+    ensures ok { OnOk result (out.new.items ≡ out.old.items ++ command_texts ops.now) }
+    ensures err { OnErr result (out.new.items ≡ out.old.items) }
+{
+    let before = out.len();
+    for op in ops {
+        if let Err(refused) = append(alloc, op, out) {
+            out.truncate(before);
+            return Err(refused);
+        }
     }
     Ok(())
 }
 
-fn subscription(
-    alloc: Global,
+// The words that may follow, and the space behind them.
+fn word_and_space(word: &Option<Subject>) -> (&[u8], &[u8])
+    ensures { result.0.now ++ result.1.now ≡ word_and_space word.now }
+{
+    match word {
+        Some(word) => (word.as_str().as_bytes(), b" "),
+        None => (b"", b""),
+    }
+}
+
+fn append_subscription(
     sid: u64,
     subject: &Subject,
     queue_group: &Option<Subject>,
-) -> Result<String, NoMemory>
-    ensures { IfOk result (λ text. string_bytes text ≡ subscription_text sid subject.now queue_group.now) }
+    out: &mut BytesMut,
+) -> Result<(), NoMemory>
+    ensures ok { OnOk result (out.new.items ≡ out.old.items ++ subscription_text sid subject.now queue_group.now) }
+    ensures err { OnErr result (out.new.items ≡ out.old.items) }
 {
-    let subject = subject.as_str();
-    Ok(match queue_group {
-        Some(group) => format!(in alloc; "SUB {subject} {} {sid}\r\n", group.as_str())?,
-        None => format!(in alloc; "SUB {subject} {sid}\r\n")?,
-    })
+    let (group, space) = word_and_space(queue_group);
+    let mut number = Buffer::new();
+    let sid = number.format(sid).as_bytes();
+    append_all(
+        &[
+            b"SUB ",
+            subject.as_str().as_bytes(),
+            b" ",
+            group,
+            space,
+            sid,
+            b"\r\n",
+        ],
+        out,
+    )
 }
 
-// The line that goes before a payload of `count` bytes.
-fn publication(
-    alloc: Global,
+fn append_unsubscription(sid: u64, max: Option<u64>, out: &mut BytesMut) -> Result<(), NoMemory>
+    ensures ok { OnOk result (out.new.items ≡ out.old.items ++ unsubscription_text sid max) }
+    ensures err { OnErr result (out.new.items ≡ out.old.items) }
+{
+    let mut number = Buffer::new();
+    let sid = number.format(sid).as_bytes();
+    let Some(max) = max else {
+        return append_all(&[b"UNSUB ", sid, b"\r\n"], out);
+    };
+    let mut limit = Buffer::new();
+    let max = limit.format(max).as_bytes();
+    append_all(&[b"UNSUB ", sid, b" ", max, b"\r\n"], out)
+}
+
+// The header block that is sent before a payload.
+fn sent_block(alloc: Global, headers: &Option<HeaderMap>) -> Result<Option<Vec<u8>>, NoMemory>
+    ensures { IfOk result (λ block. option_map (λ block. block.items) block ≡ sent_block headers.now) }
+{
+    match headers {
+        Some(headers) if !headers.is_empty() => Ok(Some(headers.to_bytes(alloc)?)),
+        _ => Ok(None),
+    }
+}
+
+fn append_publication(
     subject: &Subject,
     respond: &Option<Subject>,
-    count: usize,
-) -> Result<String, NoMemory>
-    ensures { IfOk result (λ line. string_bytes line ≡ publication_line subject.now respond.now count) }
+    block: &Option<Vec<u8>>,
+    payload: &[u8],
+    out: &mut BytesMut,
+) -> Result<(), NoMemory>
+    ensures ok { OnOk result (out.new.items ≡ out.old.items
+        ++ publication_text subject.now respond.now (option_map (λ block. block.items) block.now) payload.now) }
+    ensures err { OnErr result (out.new.items ≡ out.old.items) }
 {
-    let subject = subject.as_str();
-    Ok(match respond {
-        Some(respond) => format!(in alloc; "PUB {subject} {} {count}\r\n", respond.as_str())?,
-        None => format!(in alloc; "PUB {subject} {count}\r\n")?,
-    })
+    let subject = subject.as_str().as_bytes();
+    let (respond, space) = word_and_space(respond);
+    let mut number = Buffer::new();
+    let Some(block) = block else {
+        let count = number.format(payload.len()).as_bytes();
+        return append_all(
+            &[
+                b"PUB ", subject, b" ", respond, space, count, b"\r\n", payload, b"\r\n",
+            ],
+            out,
+        );
+    };
+    let header_len = number.format(block.len()).as_bytes();
+    let mut sum = Buffer::new();
+    let total = sum.format(block.len() + payload.len()).as_bytes();
+    append_all(
+        &[
+            b"HPUB ",
+            subject,
+            b" ",
+            respond,
+            space,
+            header_len,
+            b" ",
+            total,
+            b"\r\n",
+            block.as_slice(),
+            payload,
+            b"\r\n",
+        ],
+        out,
+    )
+}
+
+// The bytes of all parts together, where that is a length.
+fn length_of(parts: &[&[u8]]) -> Option<usize>
+{
+    let mut length: usize = 0;
+    for part in parts {
+        length = length.checked_add(part.len())?;
+    }
+    Some(length)
 }
 
 // One request for room, and then no append can fail: so what was there stays where memory is wanting.
-fn append_with_payload(line: &[u8], payload: &[u8], out: &mut BytesMut) -> Result<(), NoMemory>
-    ensures ok { OnOk result (out.new.items ≡ out.old.items ++ (line.now ++ payload.now ++ crlf)) }
+fn append_all(parts: &[&[u8]], out: &mut BytesMut) -> Result<(), NoMemory>
+    ensures ok { OnOk result (out.new.items ≡ out.old.items ++ joined parts.now) }
     ensures err { OnErr result (out.new.items ≡ out.old.items) }
 {
-    let room = (line.len() + payload.len()).checked_add(2).ok_or(NoMemory)?;
+    let room = length_of(parts).ok_or(NoMemory)?;
     out.reserve(room)?;
-    out.extend_reserved(line);
-    out.extend_reserved(payload);
-    out.extend_reserved(b"\r\n");
+    for part in parts {
+        out.extend_reserved(part);
+    }
     Ok(())
 }

@@ -25,6 +25,9 @@ fn message(alloc: Global, text: &MessageText<'_>) -> Result<Message, NoMemory>
         subject: Subject::from_text(alloc, text.subject)?,
         reply: optional(alloc, text.reply)?,
         payload: Bytes::copy_from_slice(alloc, text.payload)?,
+        headers: None,
+        status: None,
+        description: None,
         length: text.length,
     })
 }

@@ -12,8 +12,9 @@ mod op;
 
 pub use connection::{Connection, Peeked, SOFT_WRITE_BUF_LIMIT};
 pub use info::ServerInfo;
-pub use message::{Message, OutboundMessage, copy_subject};
-pub use nats_names::{Bytes, Event, NoMemory, Seq, Subject, Text, Token};
+pub use message::{Message, OutboundMessage, PublishMessage, copy_headers, copy_subject};
+pub use nats_header::{HeaderError, HeaderMap, HeaderName, HeaderValue};
+pub use nats_names::{Bytes, Event, NoMemory, Seq, ServerError, StatusCode, Subject, Text, Token};
 pub use op::{ClientOp, ServerOp, WireError};
 
 #[cfg(test)]

@@ -103,6 +103,8 @@ fn word(op: &ServerOp) -> &'static str {
         ServerOp::Ping => "PING",
         ServerOp::Pong => "PONG",
         ServerOp::Message { .. } => "MSG",
+        ServerOp::Info(_) => "INFO",
+        ServerOp::Error(_) => "-ERR",
     }
 }
 
@@ -163,6 +165,7 @@ fn publish(alloc: Global, payload: &str, respond: Option<&str>) -> Result<Client
         subject: Subject::from_text(alloc, "FOO")?,
         payload: Bytes::copy_from_slice(alloc, payload.as_bytes())?,
         respond,
+        headers: None,
     })
 }
 
@@ -211,6 +214,7 @@ fn greeting(alloc: Global) -> Result<OutboundMessage, NoMemory> {
         subject: Subject::from_text(alloc, "FOO.BAR")?,
         reply: None,
         payload: Bytes::copy_from_slice(alloc, b"hi")?,
+        headers: None,
     })
 }
 

@@ -1,0 +1,1 @@
+//! What no clause says: blocks of the protocol with what they mean.
