@@ -1,5 +1,5 @@
 -- The lines behind the first of a header block: the fields.
-use Rattle.std.specs.Prelude.{ℕ, ◌==◌, ◌&&◌, Bool, true, false, not, List, [], ◌∷◌, ◌++◌, length, fold, Option, Some, None, if◌then◌else◌}
+use Rattle.std.specs.Prelude.{ℕ, ◌==◌, ◌&&◌, Bool, true, false, not, List, [], ◌∷◌, ◌++◌, length, fold, Option, Some, None, option_map, if◌then◌else◌}
 use Rattle.std.specs.Str.{trim_start, trim_end}
 use Rattle.nats_header.specs.Names.{is_header_name, is_header_value}
 use Rattle.nats_header.specs.Headers.{Headers, appended}
@@ -44,3 +44,7 @@ with_field headers field = appended headers field.0 field.1
 -- the header map of some fields: the values of one name stand in order
 abbrev pub all_appended : Headers → List Pair → Headers
 all_appended headers fields = fold with_field headers fields
+
+-- the header map of some lines
+abbrev pub headers_of : List (List ℕ) → Option Headers
+headers_of lines = option_map (all_appended []) (fields_of lines)

@@ -1,5 +1,6 @@
 //! A whole header block.
-ghost use Rattle.nats_block.specs.Block.{block_of};
+ghost use Rattle.std.specs.Str.Lines.{lines};
+ghost use Rattle.nats_block.specs.Block.{block_of_lines, block_of};
 ghost use Rattle.nats_block.specs.Answers.{Gives};
 
 use crate::BlockError;
@@ -22,6 +23,21 @@ pub struct Block {
     pub headers: HeaderMap,
 }
 
+fn read_text(alloc: Global, text: &str) -> Result<Block, BlockError>
+    ensures { Gives (block_of_lines (lines text.now)) result }
+{
+    let Some(first) = next_line(text) else {
+        return Err(BlockError::Malformed);
+    };
+    let headers = read_fields(alloc, first.rest)?;
+    let head = read_head(alloc, first.text)?;
+    Ok(Block {
+        status: head.status,
+        description: head.description,
+        headers,
+    })
+}
+
 /// Reads the header block of a message, by the NATS protocol: a line `NATS/1.0`, perhaps with a status of three digits and a
 /// description, then lines `Name: value`. It ends with the last byte; the empty line that ends a block may be missing.
 ///
@@ -33,17 +49,8 @@ pub struct Block {
 pub fn read_block(alloc: Global, block: &[u8]) -> Result<Block, BlockError>
     ensures { Gives (block_of block.now) result }
 {
-    let Ok(text) = str::from_utf8(block) else {
-        return Err(BlockError::Malformed);
-    };
-    let Some(first) = next_line(text) else {
-        return Err(BlockError::Malformed);
-    };
-    let head = read_head(alloc, first.text)?;
-    let headers = read_fields(alloc, first.rest)?;
-    Ok(Block {
-        status: head.status,
-        description: head.description,
-        headers,
-    })
+    match str::from_utf8(block) {
+        Ok(text) => read_text(alloc, text),
+        Err(_) => Err(BlockError::Malformed),
+    }
 }

@@ -1,14 +1,13 @@
 //! The fields of a header block.
-ghost use Rattle.std.specs.Prelude.{◌≡◌, [], option_map};
+ghost use Rattle.std.specs.Prelude.{◌≡◌, option_map};
 ghost use Rattle.std.specs.Str.Lines.{lines};
-ghost use Rattle.nats_header.specs.Headers.{Headers};
 ghost use Rattle.nats_block.specs.Lines.{joined};
-ghost use Rattle.nats_block.specs.Fields.{tested, with_field, field_of, fields_of, all_appended};
+ghost use Rattle.nats_block.specs.Fields.{tested, with_field, field_of, headers_of};
 ghost use Rattle.nats_block.specs.Code.{past_joined};
 ghost use Rattle.nats_block.specs.Answers.{Gives, Puts, PutsOf};
 
 use crate::BlockError;
-use crate::lines::{Line, join, next_joined, next_line};
+use crate::lines::{Line, cut_at, join, next_joined, next_line};
 use nats_header::{HeaderError, HeaderMap};
 use std::alloc::Global;
 
@@ -38,7 +37,7 @@ fn put_field<'a>(
         (field_of line.now.text.now (joined (lines line.now.rest.now))))
         (past_joined (lines line.now.rest.now)) result headers.new }
 {
-    let Some((name, value)) = line.text.split_once(':') else {
+    let Some((name, value)) = cut_at(line.text, ':') else {
         return Err(BlockError::Malformed);
     };
     let value = value.trim_start();
@@ -53,7 +52,7 @@ fn put_field<'a>(
 
 /// The headers of the lines behind the first.
 pub fn read_fields(alloc: Global, text: &str) -> Result<HeaderMap, BlockError>
-    ensures { Gives (option_map (all_appended []) (fields_of (lines text.now))) result }
+    ensures { Gives (headers_of (lines text.now)) result }
 {
     let mut headers = HeaderMap::new(alloc);
     let mut left = text;

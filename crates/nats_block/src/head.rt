@@ -1,11 +1,11 @@
 //! The first line of a header block.
-ghost use Rattle.std.specs.Prelude.{◌≡◌, Some, None};
-ghost use Rattle.std.specs.Str.{trim};
+ghost use Rattle.std.specs.Prelude.{◌≡◌, IfOk};
 ghost use Rattle.nats_block.specs.Head.{head_with, head_of_text, head_of};
 ghost use Rattle.nats_block.specs.Lines.{some_text};
 ghost use Rattle.nats_block.specs.Answers.{Gives};
 
 use crate::BlockError;
+use crate::lines::cut_at;
 use nats_names::{NoMemory, StatusCode, Text};
 use std::alloc::Global;
 
@@ -41,16 +41,21 @@ fn head_with(alloc: Global, status: &str, description: &str) -> Result<Head, Blo
     })
 }
 
+fn read_text(alloc: Global, text: &str) -> Result<Head, BlockError>
+    ensures { Gives (head_of_text text.now) result }
+{
+    match cut_at(text, ' ') {
+        Some((status, description)) => head_with(alloc, status.trim(), description.trim()),
+        None => head_with(alloc, text, ""),
+    }
+}
+
 /// The head that the first line of a block is.
 pub fn read_head(alloc: Global, line: &str) -> Result<Head, BlockError>
     ensures { Gives (head_of line.now) result }
 {
-    let Some(rest) = line.strip_prefix(VERSION) else {
-        return Err(BlockError::Malformed);
-    };
-    let text = rest.trim();
-    match text.split_once(' ') {
-        Some((status, description)) => head_with(alloc, status.trim(), description.trim()),
-        None => head_with(alloc, text, ""),
+    match line.strip_prefix(VERSION) {
+        Some(rest) => read_text(alloc, rest.trim()),
+        None => Err(BlockError::Malformed),
     }
 }

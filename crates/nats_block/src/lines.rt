@@ -1,11 +1,13 @@
 //! Cuts a text into lines, and joins those that go on with a value.
-ghost use Rattle.std.specs.Prelude.{◌≡◌, ◌++◌, IfOk, string_bytes};
-ghost use Rattle.std.specs.Str.Lines.{lines};
-ghost use Rattle.nats_block.specs.Lines.{goes_on, joined};
+ghost use Rattle.std.specs.Prelude.{◌≡◌, ◌<◌, ◌++◌, option_map, IfOk, string_bytes};
+ghost use Rattle.std.specs.Str.Lines.{lines, strip_carriage_return};
+ghost use Rattle.nats_block.specs.Lines.{cut_at, goes_on, joined};
 ghost use Rattle.nats_block.specs.Code.{lines_from, past_joined, JoinedFrom};
 
 use nats_names::NoMemory;
 use std::alloc::Global;
+
+// A text is cut behind its lines one by one, so that no list of them is made.
 
 /// A text cut behind its first line.
 #[derive(Clone, Copy)]
@@ -24,8 +26,21 @@ pub struct Joined<'a> {
     pub rest: &'a str,
 }
 
-fn without_cr(line: &str) -> &str {
-    line.strip_suffix('\r').unwrap_or(line)
+/// A text cut at its first `mark`, which is in neither part, `None` where it has none.
+pub fn cut_at(text: &str, mark: char) -> Option<(&str, &str)>
+    requires { mark < 128 }
+    ensures { option_map (λ cut. (cut.0.now, cut.1.now)) result ≡ cut_at mark text.now }
+{
+    text.split_once(mark)
+}
+
+fn without_cr(line: &str) -> &str
+    ensures { result.now ≡ strip_carriage_return line.now }
+{
+    match line.strip_suffix('\r') {
+        Some(line) => line,
+        None => line,
+    }
 }
 
 /// The first line of a text and what follows it, `None` where the text is empty.

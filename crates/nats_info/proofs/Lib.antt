@@ -1,1 +1,3 @@
 mod Infos
+pub mod Reading
+pub mod Texts

@@ -1,5 +1,5 @@
 -- The INFO that a text spells: a JSON object, and the table of its fields. The NATS client protocol names the fields.
-use Rattle.std.specs.Prelude.{ℕ, ◌^◌, ◌&&◌, ℤ, pos, negsuc, Bool, true, false, nat_lt, nat_le, List, [], ◌∷◌, Option, Some, None, option_map, option_and_then, if◌then◌else◌, codes}
+use Rattle.std.specs.Prelude.{ℕ, ◌^◌, ◌&&◌, ℤ, pos, negsuc, Bool, true, false, nat_lt, nat_le, List, [], ◌∷◌, Option, Some, None, option_map, option_and_then, is_some, if◌then◌else◌, codes}
 use Prim.Native.String.{String}
 use Rattle.std.specs.Str.{is_utf8}
 use Rattle.serde_json.specs.Data.{Data, null, boolean, number, string, array, object, Items, no_items, item}
@@ -103,14 +103,16 @@ with_switches value info = do
   lame_duck_mode ← switch "ldm" value
   Some (record info { auth_required = auth_required; tls_required = tls_required; headers = headers; jetstream = jetstream; lame_duck_mode = lame_duck_mode })
 
--- the INFO that a JSON value is: an object, whose other fields may be anything
-abbrev pub info_of : Data → Option ServerInfo
-info_of value = do
-  fields ← as_object value
-  named ← with_names value default_info
+abbrev pub with_fields : Data → ServerInfo → Option ServerInfo
+with_fields value info = do
+  named ← with_names value info
   placed ← with_places value named
   known ← with_client value placed
   with_switches value known
+
+-- the INFO that a JSON value is: an object, whose other fields may be anything
+abbrev pub info_of : Data → Option ServerInfo
+info_of value = if is_some (as_object value) then with_fields value default_info else None
 
 -- the INFO that a text spells
 unfoldable pub info_at : List ℕ → Option ServerInfo

@@ -52,7 +52,9 @@ fn texts_of(alloc: Global, values: &[Value]) -> Result<Seq<Text>, InfoError>
 {
     let mut texts = Seq::new(alloc);
     for value in values {
-        let text = value.as_str().ok_or(InfoError::Unreadable)?;
+        let Some(text) = value.as_str() else {
+            return Err(InfoError::Unreadable);
+        };
         texts.push(alloc, Text::from_text(alloc, text)?)?;
     }
     Ok(texts)

@@ -1,9 +1,9 @@
 //! Reads an INFO from its text.
-ghost use Rattle.std.specs.Prelude.{◌≡◌};
+ghost use Rattle.std.specs.Prelude.{◌≡◌, option_and_then};
 ghost use Rattle.std.specs.Result.{result_map_both};
 ghost use Rattle.serde_json.specs.Read.{read};
 ghost use Rattle.serde_json.specs.View.{view};
-ghost use Rattle.nats_info.specs.Fields.{with_names, with_places, with_client, with_switches, info_of, info_at};
+ghost use Rattle.nats_info.specs.Fields.{with_names, with_places, with_client, with_switches, with_fields, info_of, info_at};
 ghost use Rattle.nats_info.specs.Errors.{Gives, Puts};
 
 use crate::fields::{port, small_whole, switch, text, text_or_null, texts, whole};
@@ -55,6 +55,15 @@ fn put_switches(object: &Value, info: &mut ServerInfo) -> Result<(), InfoError>
     Ok(())
 }
 
+fn put_fields(alloc: Global, object: &Value, info: &mut ServerInfo) -> Result<(), InfoError>
+    ensures { Puts (with_fields (view object.now) info.old) result info.new }
+{
+    put_names(alloc, object, info)?;
+    put_places(alloc, object, info)?;
+    put_client(alloc, object, info)?;
+    put_switches(object, info)
+}
+
 // The INFO of a JSON value.
 fn info_of(alloc: Global, value: &Value) -> Result<ServerInfo, InfoError>
     ensures { Gives (info_of (view value.now)) result }
@@ -63,11 +72,10 @@ fn info_of(alloc: Global, value: &Value) -> Result<ServerInfo, InfoError>
         return Err(InfoError::Unreadable);
     }
     let mut info = ServerInfo::default(alloc);
-    put_names(alloc, value, &mut info)?;
-    put_places(alloc, value, &mut info)?;
-    put_client(alloc, value, &mut info)?;
-    put_switches(value, &mut info)?;
-    Ok(info)
+    match put_fields(alloc, value, &mut info) {
+        Ok(()) => Ok(info),
+        Err(error) => Err(error),
+    }
 }
 
 // The value that `serde_json` reads from a text.
@@ -80,6 +88,13 @@ fn value_of(alloc: Global, text: &str) -> Result<Value, InfoError>
     })
 }
 
+fn read_text(alloc: Global, text: &str) -> Result<ServerInfo, InfoError>
+    ensures { Gives (option_and_then info_of (read text.now)) result }
+{
+    let value = value_of(alloc, text)?;
+    info_of(alloc, &value)
+}
+
 /// The INFO that a text spells: a JSON object in UTF-8 whose fields are as the NATS protocol has them. A missing field has its
 /// default, an unknown one may be anything, and of a repeated one the last counts. For what follows `INFO ` in a server's line.
 ///
@@ -90,9 +105,8 @@ fn value_of(alloc: Global, text: &str) -> Result<Value, InfoError>
 pub fn read_info(alloc: Global, text: &[u8]) -> Result<ServerInfo, InfoError>
     ensures { Gives (info_at text.now) result }
 {
-    let Ok(text) = str::from_utf8(text) else {
-        return Err(InfoError::Unreadable);
-    };
-    let value = value_of(alloc, text)?;
-    info_of(alloc, &value)
+    match str::from_utf8(text) {
+        Ok(text) => read_text(alloc, text),
+        Err(_) => Err(InfoError::Unreadable),
+    }
 }

@@ -1,0 +1,3 @@
+pub mod Cuts
+pub mod Folds
+pub mod Reading

@@ -1,0 +1,10 @@
+-- The block is UTF-8, or spells nothing.
+use Rattle.nats_block.proofs.Reading.{spelled_by_text, no_text}
+use Rattle.nats_block.proofs.block.read_block.Goals as goal
+
+pub returns-in-Ok : goal.returns-in-Ok
+returns-in-Ok c =
+    rw (spelled_by_text c.args.block.now c.in-Ok.text.now c.in-Ok.ensures.cases.0 c.in-Ok.ensures.cases.1) c.read_text.ensures
+
+pub returns-in-Err : goal.returns-in-Err
+returns-in-Err c = no_text c.args.block.now c.in-Err.ensures.cases.0

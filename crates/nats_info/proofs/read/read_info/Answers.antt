@@ -1,0 +1,11 @@
+-- The text is UTF-8, or spells nothing.
+use Rattle.std.proofs.Common.{◌∙◌}
+use Rattle.nats_info.proofs.Reading.{spelled_by_text, no_text}
+use Rattle.nats_info.proofs.read.read_info.Goals as goal
+
+pub returns-in-Ok : goal.returns-in-Ok
+returns-in-Ok c =
+    rw (spelled_by_text c.args.text.now c.in-Ok.text.now c.in-Ok.ensures.cases.0 c.in-Ok.ensures.cases.1) c.read_text.ensures
+
+pub returns-in-Err : goal.returns-in-Err
+returns-in-Err c = no_text c.args.text.now c.in-Err.ensures.cases.0
