@@ -1,7 +1,9 @@
 -- What links in memory, who dials them, and a clock in memory tell.
-use Rattle.std.specs.Prelude.{◌≡◌, ℕ, zero, suc, List, [], ◌∷◌, ◌++◌, take, None, Some, Result, Ok, Err}
+use Rattle.std.specs.Prelude.{◌≡◌, ◌==◌, ℕ, zero, suc, Bool, List, [], ◌∷◌, ◌++◌, take, None, Some, Result, Ok, Err}
 use Rattle.std.specs.Io.KnownBytes.{append_known}
+use Rattle.std.specs.List.{list_any}
 use Rattle.std.specs.Vec.Iter.{into_iter_items}
+use Rattle.nats_addr.specs.Resolving.{risen}
 use Rattle.nats_outside.specs.declared.fake_parts.FakeLink.{FakeLink}
 use Rattle.nats_outside.specs.declared.fake_parts.FakeRead.{FakeRead}
 use Rattle.nats_outside.specs.declared.fake_parts.FakeWrite.{FakeWrite}
@@ -59,3 +61,27 @@ pieces_with (suc n) bytes pieces = pieces ++ take (suc n) bytes ∷ []
 abbrev pub kept_of : {E : Type 0} → Result ℕ E → List ℕ → WriteTold → WriteTold
 kept_of (Ok n) bytes w = record w { taken = append_known w.taken (take n bytes) }
 kept_of (Err e) bytes w = w
+
+-- the next call, after so many, is one of those that fail
+abbrev pub fails_next : List ℕ → ℕ → Bool
+fails_next failing calls = list_any (λ n. n == risen 1 calls) failing
+
+-- the halves of a link that waited
+pub record IsLinkOf (l : FakeLink) (r : FakeRead) (w : FakeWrite) : Type 0 where
+  pub bytes : r.bytes ≡ l.bytes
+  pub most : r.most ≡ l.most
+  pub failing_reads : r.failing.items ≡ l.failing_reads.items
+  pub no_reads : r.reads ≡ 0
+  pub write_most : w.most ≡ l.most
+  pub failing_writes : w.failing.items ≡ l.failing_writes.items
+  pub no_writes : w.writes ≡ 0
+
+-- the first of the links that wait is dialed
+abbrev pub DialsFirst : List FakeLink → List FakeLink → FakeRead → FakeWrite → Type 0
+DialsFirst [] left r w = ⊥
+DialsFirst (l ∷ more) left r w = IsLinkOf l r w × (left ≡ more)
+
+-- the first of these numbers, or else this one
+abbrev pub first_or : ℕ → List ℕ → ℕ
+first_or n [] = n
+first_or n (m ∷ more) = m

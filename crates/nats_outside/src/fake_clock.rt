@@ -1,7 +1,8 @@
 //! A clock and a source of numbers in memory.
-ghost use Rattle.std.specs.Prelude.{◌≡◌, false};
+ghost use Rattle.std.specs.Prelude.{◌≡◌, false, drop};
 ghost use Rattle.std.specs.Vec.Iter.{into_iter_items};
-ghost use Rattle.nats_outside.specs.Fakes.{clock_told_of};
+ghost use Rattle.nats_outside.specs.Fakes.{clock_told_of, first_or};
+ghost use Rattle.nats_outside.specs.Told.{started, looked};
 
 use crate::{Clock, Draw};
 use std::vec;
@@ -34,7 +35,9 @@ impl FakeClock {
     }
 
     fn look(&mut self) -> u64
-        ensures { self.new ≡ record (self.old) { times = self.new.times; last = result } }
+        ensures told { self.new ≡ record (self.old) { times = self.new.times; last = result } }
+        ensures value { result ≡ first_or self.old.last (into_iter_items self.old.times) }
+        ensures left { into_iter_items self.new.times ≡ drop 1 (into_iter_items self.old.times) }
     {
         if let Some(time) = self.times.next() {
             self.last = time;
@@ -50,7 +53,11 @@ impl Clock for FakeClock {
 
     ghost beside_clock = { λ _. tt };
 
-    fn start_ms(&mut self) -> u64 {
+    fn start_ms(&mut self) -> u64
+        ensures told { clock_told_of self.new ≡ started result (clock_told_of self.old) }
+        ensures value { result ≡ first_or self.old.last (into_iter_items self.old.times) }
+        ensures left { into_iter_items self.new.times ≡ drop 1 (into_iter_items self.old.times) }
+    {
         let now = self.look();
         self.start = now;
         self.starts = self.starts.saturating_add(1);
@@ -58,7 +65,11 @@ impl Clock for FakeClock {
         now
     }
 
-    fn now_ms(&mut self) -> u64 {
+    fn now_ms(&mut self) -> u64
+        ensures told { clock_told_of self.new ≡ looked result (clock_told_of self.old) }
+        ensures value { result ≡ first_or self.old.last (into_iter_items self.old.times) }
+        ensures left { into_iter_items self.new.times ≡ drop 1 (into_iter_items self.old.times) }
+    {
         self.look()
     }
 
@@ -90,7 +101,10 @@ impl Draw for FakeDraw {
 
     ghost beside_draw = { λ _. tt };
 
-    fn draw(&mut self) -> u64 {
+    fn draw(&mut self) -> u64
+        ensures value { result ≡ first_or 0 (into_iter_items self.old.numbers) }
+        ensures left { into_iter_items self.new.numbers ≡ drop 1 (into_iter_items self.old.numbers) }
+    {
         self.numbers.next().unwrap_or(0)
     }
 }

@@ -1,8 +1,9 @@
 //! A dialer in memory.
-ghost use Rattle.std.specs.Prelude.{◌≡◌, [], None, Some};
-ghost use Rattle.nats_outside.specs.Fakes.{IsNewDialer, dialer_told_of, read_told_of, write_told_of};
+ghost use Rattle.std.specs.Prelude.{◌≡◌, [], false, IfOk};
+ghost use Rattle.nats_outside.specs.Fakes.{IsNewDialer, IsLinkOf, DialsFirst, fails_next, dialer_told_of, read_told_of, write_told_of};
 ghost use Rattle.nats_addr.specs.Resolving.{risen};
-ghost use Rattle.nats_outside.specs.Told.{IsFresh, word_of};
+ghost use Rattle.nats_outside.specs.Told.{IsFresh, dialed, word_of};
+ghost use Rattle.std.specs.Vec.Iter.{into_iter_items};
 ghost use Rattle.nats_outside.specs.declared.dialer.DialWord.TheVariants as word;
 
 use crate::fake_parts::{FakeDialer, FakeLink, FakeRead, FakeWrite};
@@ -47,7 +48,8 @@ impl FakeDialer {
 
 // The halves of a link as it begins.
 fn halves(alloc: Global, link: FakeLink) -> (FakeRead, FakeWrite)
-    ensures { IsFresh (read_told_of result.0) (write_told_of result.1) }
+    ensures fresh { IsFresh (read_told_of result.0) (write_told_of result.1) }
+    ensures link { IsLinkOf link result.0 result.1 }
 {
     let FakeLink {
         bytes,
@@ -102,7 +104,13 @@ impl Dialer for FakeDialer {
 
     ghost beside_dialer = { λ _. tt };
 
-    fn dial(&mut self, to: &SocketAddr) -> Result<(FakeRead, FakeWrite), Failed> {
+    fn dial(&mut self, to: &SocketAddr) -> Result<(FakeRead, FakeWrite), Failed>
+        ensures told { dialer_told_of self.new ≡ dialed to.now result (dialer_told_of self.old) }
+        ensures fresh { IfOk result (λ link. IsFresh (read_told_of link.0) (write_told_of link.1)) }
+        ensures answer { IfOk result (λ link. fails_next self.old.failing.items self.old.dials ≡ false) }
+        ensures first { IfOk result (λ link.
+            DialsFirst (into_iter_items self.old.links) (into_iter_items self.new.links) link.0 link.1) }
+    {
         self.dials = self.dials.saturating_add(1);
         self.to = Some(*to);
         if self.failing.as_slice().contains(&self.dials) {

@@ -1,7 +1,10 @@
 //! The two halves of a link in memory.
-ghost use Rattle.std.specs.Prelude.{◌≡◌, ◌≤◌, ◌<◌, ◌++◌, ◌∷◌, [], Some, min, take, length, drop, IfOk, OnOk, OnErr};
+ghost use Rattle.std.specs.Prelude.{◌≡◌, ◌≤◌, ◌<◌, ◌++◌, ◌∷◌, [], Some, false, min, take, length, drop, IfOk, OnOk, OnErr};
 ghost use Rattle.std.specs.List.{concat};
-ghost use Rattle.nats_outside.specs.Fakes.{read_told_of, write_told_of, IsNewLink, pieces_with, kept_of};
+ghost use Rattle.nats_outside.specs.Fakes.{read_told_of, write_told_of, IsNewLink, pieces_with, kept_of, fails_next};
+ghost use Rattle.nats_outside.specs.Told.{read_of, write_of};
+ghost use Rattle.std.specs.Io.{ReadsAtMost};
+ghost use Rattle.std.specs.Io.KnownBytes.{ReadConsumes};
 
 use crate::fake_parts::{FakeLink, FakeRead, FakeWrite, Past};
 use crate::{LinkRead, LinkWrite};
@@ -76,7 +79,13 @@ impl FakeRead {
 impl LinkRead for FakeRead {
     ghost read_told = { read_told_of };
 
-    fn read(&mut self, buf: &mut [u8]) -> Result<usize, Failed> {
+    fn read(&mut self, buf: &mut [u8]) -> Result<usize, Failed>
+        ensures bound { ReadsAtMost result buf.new }
+        ensures bytes { ReadConsumes ((read_told_of self.old).left) ((read_told_of self.new).left) result buf.new }
+        ensures told { read_told_of self.new
+            ≡ read_of result buf.new ((read_told_of self.new).left) (read_told_of self.old) }
+        ensures answer { IfOk result (λ n. fails_next self.old.failing.items self.old.reads ≡ false) }
+    {
         let has_room = !buf.is_empty();
         let count = self.bytes.len().min(buf.len()).min(self.most);
         self.reads = self.reads.saturating_add(1);
@@ -126,7 +135,11 @@ impl FakeWrite {
 impl LinkWrite for FakeWrite {
     ghost write_told = { write_told_of };
 
-    fn write_pieces(&mut self, pieces: &[Bytes]) -> Result<usize, Failed> {
+    fn write_pieces(&mut self, pieces: &[Bytes]) -> Result<usize, Failed>
+        ensures count { IfOk result (λ n. n ≡ min (length (concat pieces.now)) self.old.most) }
+        ensures told { write_told_of self.new ≡ write_of result (concat pieces.now) (write_told_of self.old) }
+        ensures answer { IfOk result (λ n. fails_next self.old.failing.items self.old.writes ≡ false) }
+    {
         self.writes = self.writes.saturating_add(1);
         if !self.failing.as_slice().contains(&self.writes)
             && let Ok(count) = self.take(pieces)
