@@ -1,5 +1,5 @@
 -- What a resolver tells, and what each asking changes of it.
-use Rattle.std.specs.Prelude.{ℕ, ◌+◌, ◌-◌, ◌^◌, min, max, List, [], ◌∷◌, length, Option, Some, option_map, Result, Ok, Err}
+use Rattle.std.specs.Prelude.{ℕ, ◌+◌, ◌-◌, ◌^◌, min, max, List, [], ◌∷◌, length, codes, Option, Some, option_map, Result, Ok, Err}
 use Rattle.std.specs.Global.{Vec}
 use Rattle.std.specs.declared.net.socket_addr.SocketAddr.{SocketAddr}
 use Rattle.nats_addr.specs.declared.resolver.AskWord.{AskWord}
@@ -11,8 +11,8 @@ use Rattle.nats_addr.specs.declared.resolver.ResolveError.TheVariants as refusal
 abbrev pub risen : ℕ → ℕ → ℕ
 risen n before = max before (min (before + n) (2 ^ 64 - 1))
 
--- what a resolver tells: how often it failed, gave nothing and was asked, how many addresses it gave, the word of its last
--- answer, the host and port that it was asked for last, and the last list that it gave, where it is known
+-- what a resolver tells: how often it failed, gave nothing and was asked, how many addresses it gave, the word of
+-- its last answer, the host and port that it was asked for last, and the last list that it gave, where it is known
 pub record ResolverTold : Type 0 where
   pub faults : ℕ
   pub empties : ℕ
@@ -70,3 +70,8 @@ abbrev pub resolved_all : List ℕ → ℕ → Result (List SocketAddr) ResolveE
 resolved_all host port (Ok addresses) r = gave host port addresses r
 resolved_all host port (Err refusal.Failed) r = failed host port r
 resolved_all host port (Err refusal.NoMemory) r = wanted r
+
+-- what its refusals print
+abbrev pub resolve_error_text : ResolveError → List ℕ
+resolve_error_text refusal.Failed = codes "the resolver failed"
+resolve_error_text refusal.NoMemory = codes "out of memory"

@@ -84,8 +84,9 @@ fn without_brackets(text: &str) -> &str
 }
 
 impl ServerAddr {
-    /// The address that a text spells, as `demo.nats.io`, `tls://demo.nats.io:4443` or `[::1]:4222`; without a scheme it is
-    /// `nats`. `Url` where the text is no URL, `Scheme` where its scheme is none of the protocol's. The crate's `from_str`.
+    /// The address that a text spells, as `demo.nats.io`, `tls://demo.nats.io:4443` or `[::1]:4222`; without a
+    /// scheme it is `nats`. `Url` where the text is no URL, `Scheme` where its scheme is none of the protocol's.
+    /// The crate's `from_str`.
     pub fn parse(alloc: Global, input: &str) -> Result<ServerAddr, AddrError>
         ensures { Answers result (addr_of input.now) }
     {

@@ -1,8 +1,9 @@
 //! Who turns a host's name into addresses of sockets, and one in memory.
-ghost use Rattle.std.specs.Prelude.{◌≡◌, IfOk, IfErr};
-ghost use Rattle.nats_addr.specs.Resolving.{ResolverTold, resolved, resolved_all};
+ghost use Rattle.std.specs.Prelude.{◌≡◌, [], Some, IfOk, IfErr};
+ghost use Rattle.nats_addr.specs.Resolving.{ResolverTold, resolved, resolved_all, resolve_error_text};
 ghost use Rattle.nats_addr.specs.Addr.{host_name, port_of};
-ghost use Rattle.nats_addr.specs.Noted.{noted};
+ghost use Rattle.nats_addr.specs.Noted.{noted, told_by, NewFake, FakeAnswers};
+ghost use Rattle.nats_addr.specs.declared.resolver.Manner.TheVariants as manner;
 
 use crate::{NoMemory, ServerAddr, SocketAddrs};
 use nats_names::Text;
@@ -21,6 +22,8 @@ pub enum ResolveError {
 }
 
 impl fmt::Display for ResolveError {
+    ghost output = { λ error. Some (resolve_error_text error) };
+
     fn fmt<W: fmt::Write>(&self, f: &mut fmt::Formatter<W>) -> fmt::Result {
         match self {
             ResolveError::Failed => write!(f, "the resolver failed"),
@@ -88,7 +91,8 @@ pub trait Resolver {
 }
 
 impl ServerAddr {
-    /// The addresses of sockets that `resolver` gives for the host and the port. The crate's call, which asks the system.
+    /// The addresses of sockets that `resolver` gives for the host and the port. The crate's call, which asks the
+    /// system.
     pub fn socket_addrs<R: Resolver>(
         &self,
         alloc: Global,
@@ -112,7 +116,8 @@ enum Manner {
     Refuses,
 }
 
-/// A resolver in memory: it gives the same list at each asking, fails at those that it was told to fail at, and tells all.
+/// A resolver in memory: it gives the same list at each asking, fails at those that it was told to fail at, and
+/// tells all.
 #[derive(Drop)]
 pub struct FakeResolver {
     addresses: Vec<SocketAddr>,
@@ -130,14 +135,14 @@ pub struct FakeResolver {
 impl FakeResolver {
     /// It gives these addresses at each asking.
     pub fn told(alloc: Global, addresses: Vec<SocketAddr>) -> FakeResolver
-        ensures { result.addresses ≡ addresses }
+        ensures { NewFake manner.Tells addresses.items [] result }
     {
         FakeResolver::failing(addresses, Vec::new(alloc))
     }
 
     /// It gives these addresses, and fails at the askings of these numbers, counted from 1.
     pub fn failing(addresses: Vec<SocketAddr>, failing: Vec<u64>) -> FakeResolver
-        ensures { result.addresses ≡ addresses }
+        ensures { NewFake manner.Tells addresses.items failing.items result }
     {
         FakeResolver {
             addresses,
@@ -154,7 +159,9 @@ impl FakeResolver {
     }
 
     /// It answers want of memory at each asking.
-    pub fn refusing(alloc: Global) -> FakeResolver {
+    pub fn refusing(alloc: Global) -> FakeResolver
+        ensures { NewFake manner.Refuses [] [] result }
+    {
         let mut fake = FakeResolver::told(alloc, Vec::new(alloc));
         fake.manner = Manner::Refuses;
         fake
@@ -174,7 +181,8 @@ impl FakeResolver {
     }
 
     fn answer(&self, alloc: Global, host: &str) -> Result<(Vec<SocketAddr>, Text), ResolveError>
-        ensures ok { IfOk result (λ a. (a.0.items ≡ self.now.addresses.items) × (a.1 ≡ host.now)) }
+        ensures ok { IfOk result (λ a. (self.now.manner ≡ manner.Tells)
+            × (a.0.items ≡ self.now.addresses.items) × (a.1 ≡ host.now)) }
         ensures err { IfErr result (λ error. error ≡ ResolveError.NoMemory) }
     {
         if self.manner == Manner::Refuses {
@@ -188,17 +196,7 @@ impl FakeResolver {
 }
 
 impl Resolver for FakeResolver {
-    ghost use Rattle.std.specs.Prelude.{Some, [], if◌then◌else◌};
-
-    ghost resolver_told = { λ r. record {
-      faults = r.faults;
-      empties = r.empties;
-      askings = r.askings;
-      given = r.given;
-      word = r.word;
-      asked = r.asked;
-      list = Some (if r.has_given then r.addresses.items else []);
-    } };
+    ghost resolver_told = { told_by };
 
     ghost BesideResolver = { Unit {0} };
 
@@ -209,7 +207,10 @@ impl Resolver for FakeResolver {
         alloc: Global,
         host: &str,
         port: u16,
-    ) -> Result<Vec<SocketAddr>, ResolveError> {
+    ) -> Result<Vec<SocketAddr>, ResolveError>
+        ensures told { told_by self.new ≡ resolved host.now port result (told_by self.old) }
+        ensures answer { FakeAnswers self.old result }
+    {
         self.askings = self.askings.saturating_add(1);
         let (addresses, text) = match self.answer(alloc, host) {
             Ok(answer) => answer,

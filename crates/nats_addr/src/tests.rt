@@ -1,4 +1,6 @@
-use crate::{AddrError, FakeResolver, NoMemory, ServerAddr, ToServerAddrs, addrs_of_texts};
+use crate::{
+    AddrError, FakeResolver, NoMemory, ResolveError, ServerAddr, ToServerAddrs, addrs_of_texts,
+};
 use std::alloc::Global;
 use std::net::{IpAddr, Ipv4Addr, SocketAddr};
 use std::test::Fail;
@@ -49,7 +51,8 @@ fn a_user_and_a_password_are_kept_and_not_shown(rt: HostRuntime) -> Result<(), F
     assert!(rt; addr.has_user_pass() && addr.as_url_str() == "nats://token:secret@h");
     assert!(rt; addr.username() == Some("token") && addr.password() == Some("secret"));
     assert!(rt; tells(alloc, &addr)?);
-    assert!(rt; addr.into_inner().as_str() == "nats://token:secret@h");
+    let again = ServerAddr::from_url(addr.into_inner())?;
+    assert!(rt; again.into_inner().as_str() == "nats://token:secret@h");
     Ok(())
 }
 
@@ -72,6 +75,10 @@ fn texts_and_addresses_become_lists_of_addresses(rt: HostRuntime) -> Result<(), 
     Ok(())
 }
 
+fn prints(alloc: Global, error: ResolveError, text: &str) -> Result<bool, NoMemory> {
+    Ok(format!(in alloc; "{error}")?.as_str() == text)
+}
+
 #[test]
 fn a_resolver_is_asked_for_the_host_and_the_port(rt: HostRuntime) -> Result<(), Fail> {
     let alloc = rt.alloc();
@@ -80,9 +87,9 @@ fn a_resolver_is_asked_for_the_host_and_the_port(rt: HostRuntime) -> Result<(), 
     let mut resolver = FakeResolver::failing(vec![in alloc; home]?, vec![in alloc; 2]?);
     assert!(rt; addr.socket_addrs(alloc, &mut resolver)?.next() == Some(home));
     assert!(rt; addr.socket_addrs(alloc, &mut resolver).is_err());
-    assert!(rt;
-        addr.socket_addrs(alloc, &mut FakeResolver::refusing(alloc))
-            .is_err()
-    );
+    let mut refuses = FakeResolver::refusing(alloc);
+    let refused = addr.socket_addrs(alloc, &mut refuses);
+    assert!(rt; matches!(refused, Err(ResolveError::NoMemory)));
+    assert!(rt; prints(alloc, ResolveError::Failed, "the resolver failed")?);
     Ok(())
 }

@@ -60,8 +60,8 @@ impl ToServerAddrs for Vec<ServerAddr> {
     }
 }
 
-/// The addresses that these texts spell, in order; the first that spells none decides. Own call of this library, for the
-/// Rust's `ToServerAddrs` of slices.
+/// The addresses that these texts spell, in order; the first that spells none decides. Own call of this library,
+/// for the Rust's `ToServerAddrs` of slices.
 pub fn addrs_of_texts(alloc: Global, texts: &[&str]) -> Result<Vec<ServerAddr>, AddrError>
     ensures { AnswersAll result (addrs_of (map (λ text. text.now) texts.now)) }
 {

@@ -22,7 +22,9 @@ module _ {X : Type 0} {F : X → Type 0} {g : Mut ((x : X) × F x) (ℕ × Unit 
   custom_of (delay.Custom f) = Some f
 
 -- the options where none was chosen but what to authenticate by
-pub record IsDefaultWith {A B C D E : Type 0} {a : A → Type 0} {b : B → Type 0} {c : C → Type 0} {d : D → Type 0} {e : E → Type 0} {p : _} {q : _} {r : _} {s : _} {t : _} (auth : Auth) (o : ConnectOptions A B C D E a b c d e p q r s t) : Type 0 where
+pub record IsDefaultWith {A B C D E : Type 0} {a : A → Type 0} {b : B → Type 0} {c : C → Type 0} {d : D → Type 0}
+    {e : E → Type 0} {p : _} {q : _} {r : _} {s : _} {t : _}
+    (auth : Auth) (o : ConnectOptions A B C D E a b c d e p q r s t) : Type 0 where
   pub name : o.name ≡ None
   pub no_echo : o.no_echo ≡ false
   pub max_reconnects : o.max_reconnects ≡ None

@@ -40,17 +40,22 @@ abbrev pub attempts_after : Outcome → ℕ → ℕ
 attempts_after Connected attempts = 0
 attempts_after (Failed text) attempts = attempts
 
-module _ {Y : Type 0} {G : Y → Type 0} {h : Mut ((y : Y) × G y) (Vec Server × (ServerInfo × Unit {0})) (Option ReconnectToServer)} where
-  -- what a callback may answer of these servers and the last INFO, where `Answers f servers info named` says what f may answer
-  abbrev pub IsAnswer : (ChoiceFn Y G h → Vec Server → ServerInfo → Option ReconnectToServer → Type 0) → ChoiceFn Y G h → List Server → ServerInfo → Option ReconnectToServer → Type 0
+module _ {Y : Type 0} {G : Y → Type 0}
+    {h : Mut ((y : Y) × G y) (Vec Server × (ServerInfo × Unit {0})) (Option ReconnectToServer)} where
+  -- what a callback may answer of these servers and the last INFO, where `Answers f servers info named` says what f may
+  -- answer
+  abbrev pub IsAnswer : (ChoiceFn Y G h → Vec Server → ServerInfo → Option ReconnectToServer → Type 0)
+      → ChoiceFn Y G h → List Server → ServerInfo → Option ReconnectToServer → Type 0
   IsAnswer Answers f servers last named = (v : Vec Server) × (v.items ≡ servers) × Answers f v last named
 
   -- the same where there may be no callback, and then none is named
-  abbrev pub NamedBy : (ChoiceFn Y G h → Vec Server → ServerInfo → Option ReconnectToServer → Type 0) → Option (ChoiceFn Y G h) → List Server → ServerInfo → Option ReconnectToServer → Type 0
+  abbrev pub NamedBy : (ChoiceFn Y G h → Vec Server → ServerInfo → Option ReconnectToServer → Type 0)
+      → Option (ChoiceFn Y G h) → List Server → ServerInfo → Option ReconnectToServer → Type 0
   NamedBy Answers None servers last named = named ≡ None
   NamedBy Answers (Some f) servers last named = IsAnswer Answers f servers last named
 
-module _ {X Y : Type 0} {F : X → Type 0} {G : Y → Type 0} {g : Mut ((x : X) × F x) (ℕ × Unit {0}) ℕ} {h : Mut ((y : Y) × G y) (Vec Server × (ServerInfo × Unit {0})) (Option ReconnectToServer)} where
+module _ {X Y : Type 0} {F : X → Type 0} {G : Y → Type 0} {g : Mut ((x : X) × F x) (ℕ × Unit {0}) ℕ}
+    {h : Mut ((y : Y) × G y) (Vec Server × (ServerInfo × Unit {0})) (Option ReconnectToServer)} where
   -- ---- the parts of a pool
 
   abbrev pub servers_of : Pool X Y F G g h → List Server
@@ -79,7 +84,8 @@ module _ {X Y : Type 0} {F : X → Type 0} {G : Y → Type 0} {g : Mut ((x : X) 
 
   -- ---- a new pool
 
-  pub record NewPool (addrs : List Parts) (given : PoolOptions X Y F G g h) (start : ℕ) (pool : Pool X Y F G g h) : Type 0 where
+  pub record NewPool (addrs : List Parts) (given : PoolOptions X Y F G g h) (start : ℕ) (pool : Pool X Y F G g h)
+      : Type 0 where
     pub servers : servers_of pool ≡ map new_server addrs
     pub options : options_of pool ≡ given
     pub numbers : numbers_left pool ≡ numbers_of (of_seed (splitmix_seed 32 start))
@@ -89,20 +95,23 @@ module _ {X Y : Type 0} {F : X → Type 0} {G : Y → Type 0} {g : Mut ((x : X) 
 
   -- ---- other servers
 
-  abbrev pub SetsPool : List Parts → Pool X Y F G g h → Pool X Y F G g h → Result (Unit {0}) SetServerPoolErrorKind → Type 0
+  abbrev pub SetsPool : List Parts → Pool X Y F G g h → Pool X Y F G g h
+      → Result (Unit {0}) SetServerPoolErrorKind → Type 0
   SetsPool addrs before after (Ok done) =
       (is_mixed addrs ≡ false) × (1 ≤ length addrs) × (servers_of after ≡ map (kept (servers_of before)) addrs)
       × (after ≡ record before { servers = after.servers; attempts = 0 })
   SetsPool addrs before after (Err refusal.EmptyPool) = (addrs ≡ []) × (after ≡ before)
   SetsPool addrs before after (Err refusal.MixedSchemes) = (is_mixed addrs ≡ true) × (after ≡ before)
-  SetsPool addrs before after (Err refusal.NoMemory) = after ≡ before
+  SetsPool addrs before after (Err refusal.NoMemory) =
+      (is_mixed addrs ≡ false) × (1 ≤ length addrs) × (after ≡ before)
   SetsPool addrs before after (Err refusal.Send) = ⊥
   SetsPool addrs before after (Err refusal.InvalidAddress) = ⊥
 
   -- ---- a round
 
   -- a round begins
-  pub record Begins (Answers : ChoiceFn Y G h → Vec Server → ServerInfo → Option ReconnectToServer → Type 0) (last : ServerInfo) (before after : Pool X Y F G g h) (chosen : Choice) : Type 0 where
+  pub record Begins (Answers : ChoiceFn Y G h → Vec Server → ServerInfo → Option ReconnectToServer → Type 0)
+      (last : ServerInfo) (before after : Pool X Y F G g h) (chosen : Choice) : Type 0 where
     pub named : Option ReconnectToServer
     pub names : NamedBy Answers ((options_of before).choice) (servers_of before) last named
     pub plan : IsRoundBy named (servers_of before) ((options_of before).retain_servers_order)
@@ -121,13 +130,17 @@ module _ {X Y : Type 0} {F : X → Type 0} {G : Y → Type 0} {g : Mut ((x : X) 
   Waits Answers pool None attempts ms = WaitsBefore Answers (options_of pool).delay attempts ms
 
   -- the next server of the round is handed out
-  pub record Tries (Answers : DelayFn X F g → ℕ → ℕ → Type 0) (before after : Pool X Y F G g h) (to : Parts) (ms : ℕ) : Type 0 where
+  pub record Tries (Answers : DelayFn X F g → ℕ → ℕ → Type 0) (before after : Pool X Y F G g h) (to : Parts) (ms : ℕ)
+      : Type 0 where
     pub planned : Planned
     pub first : drop (handed_of before) (round_of before) ≡ planned ∷ drop (handed_of before + 1) (round_of before)
     pub there : to ≡ planned.addr
     pub within : passes (options_of before).max_reconnects (one_more (attempts_of before)) ≡ false
     pub waits : Waits Answers before planned.delay (one_more (attempts_of before)) ms
-    pub after_it : after ≡ record before { attempts = one_more (attempts_of before); round = (round_of before, handed_of before + 1) }
+    pub after_it : after ≡ record before {
+      attempts = one_more (attempts_of before);
+      round = (round_of before, handed_of before + 1);
+    }
 
   -- what is handed out next; where the round is used up, nothing is counted
   abbrev pub HandsOut : (DelayFn X F g → ℕ → ℕ → Type 0) → Pool X Y F G g h → Pool X Y F G g h → Next → Type 0

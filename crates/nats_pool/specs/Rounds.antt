@@ -47,7 +47,8 @@ IsDefaultOrder true before numbers after left = (after ≡ before) × (left ≡ 
 IsDefaultOrder false before numbers after left = IsOrdered before numbers after left
 
 -- how a round came about, and its servers, where a server was named that is in the pool, or isn't
-abbrev pub IsRoundWith : Bool → ReconnectToServer → List Server → Bool → Stream → Choice → List Planned → Stream → Type 0
+abbrev pub IsRoundWith : Bool → ReconnectToServer → List Server → Bool → Stream → Choice → List Planned → Stream
+    → Type 0
 IsRoundWith true target servers retains numbers chosen plan left =
     (chosen ≡ choice.Callback) × (plan ≡ plan_of_target target ∷ []) × (left ≡ numbers)
 IsRoundWith false target servers retains numbers chosen plan left =

@@ -181,7 +181,8 @@ impl ConnectOptions {
     pub fn reconnect_delay_callback(mut self, f: DelayBox) -> ConnectOptions
         requires { DelayBox.IsAlwaysCallable f }
         ensures set { MatchOption (custom_of result.reconnect_delay) ⊥ (λ kept. kept.f ≡ f) }
-        ensures rest { record result { reconnect_delay = delay.Default } ≡ record self { reconnect_delay = delay.Default } }
+        ensures rest { record result { reconnect_delay = delay.Default }
+            ≡ record self { reconnect_delay = delay.Default } }
     {
         self.reconnect_delay = Delay::Custom(DelayFn::new(f));
         self

@@ -134,7 +134,9 @@ impl EventFn {
     }
 
     /// Tells the callback of this event.
-    pub fn call(&self, event: Event) {
+    pub fn call(&self, event: Event)
+        ensures { EventBox.post self.now.f event result }
+    {
         (self.f)(event)
     }
 }

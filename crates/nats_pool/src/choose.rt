@@ -67,7 +67,8 @@ pub(crate) fn default_order(
     retains_order: bool,
     generator: &mut SmallRng,
 ) -> Result<Vec<Planned>, NoMemory>
-    ensures { IfOk result (λ plans. IsDefaultOrder retains_order (map plan_of servers.now) (numbers_of generator.old) plans.items (numbers_of generator.new)) }
+    ensures { IfOk result (λ plans. IsDefaultOrder retains_order (map plan_of servers.now)
+        (numbers_of generator.old) plans.items (numbers_of generator.new)) }
 {
     let mut plans = plans_for(alloc, servers)?;
     if !retains_order {
@@ -98,7 +99,8 @@ fn named_round(
     retains_order: bool,
     generator: &mut SmallRng,
 ) -> Result<(Choice, Vec<Planned>), NoMemory>
-    ensures { IfOk result (λ r. IsRoundWith is_known target servers.now retains_order (numbers_of generator.old) r.0 r.1.items (numbers_of generator.new)) }
+    ensures { IfOk result (λ r. IsRoundWith is_known target servers.now retains_order
+        (numbers_of generator.old) r.0 r.1.items (numbers_of generator.new)) }
 {
     if is_known {
         Ok((Choice::Callback, one(alloc, target)?))
@@ -115,7 +117,8 @@ pub(crate) fn plan_round(
     retains_order: bool,
     generator: &mut SmallRng,
 ) -> Result<(Choice, Vec<Planned>), NoMemory>
-    ensures { IfOk result (λ r. IsRoundBy named servers.now retains_order (numbers_of generator.old) r.0 r.1.items (numbers_of generator.new)) }
+    ensures { IfOk result (λ r. IsRoundBy named servers.now retains_order
+        (numbers_of generator.old) r.0 r.1.items (numbers_of generator.new)) }
 {
     match named {
         Some(target) => {

@@ -22,8 +22,8 @@ pub(crate) const DEFAULT_SUBSCRIPTION_CAPACITY: u64 = 65_536;
 /// What inbox subjects begin with. The crate's default.
 pub(crate) const DEFAULT_INBOX_PREFIX: &str = "_INBOX";
 
-/// The options of a connection: each call below changes its one field, which stands here too. The crate's `ConnectOptions`. It has no
-/// Debug text, since it holds secrets.
+/// The options of a connection: each call below changes its one field, which stands here too. The crate's
+/// `ConnectOptions`. It has no Debug text, since it holds secrets.
 #[derive(Drop)]
 pub struct ConnectOptions {
     /// The name of the client, sent to the server.

@@ -5,8 +5,8 @@ ghost use Rattle.nats_pool.specs.Delays.{default_delay};
 /// The longest wait, in milliseconds. The crate's rule.
 const LONGEST_DELAY: u64 = 4000;
 
-/// How many milliseconds to wait before the attempt of this number since the last success: none before the first, then 2, 4, 8
-/// and so on up to 4000. The crate's rule.
+/// How many milliseconds to wait before the attempt of this number since the last success: none before the first,
+/// then 2, 4, 8 and so on up to 4000. The crate's rule.
 pub fn reconnect_delay_default(attempts: usize) -> u64
     ensures { result ≡ default_delay attempts }
 {

@@ -122,7 +122,8 @@ fn ask_it(
     servers: &[Server],
     last: &ServerInfo,
 ) -> Result<Option<ReconnectToServer>, NoMemory>
-    ensures { IfOk result (IsAnswer (λ f servers info named. ChoiceBox.post f.f servers info named) choice.now servers.now last.now) }
+    ensures { IfOk result (IsAnswer (λ f servers info named. ChoiceBox.post f.f servers info named)
+        choice.now servers.now last.now) }
 {
     let copies = copy_servers(alloc, servers)?;
     let info = last.copy(alloc)?;
@@ -137,7 +138,8 @@ fn ask(
     servers: &[Server],
     last: &ServerInfo,
 ) -> Result<Option<ReconnectToServer>, NoMemory>
-    ensures { IfOk result (NamedBy (λ f servers info named. ChoiceBox.post f.f servers info named) choice.now servers.now last.now) }
+    ensures { IfOk result (NamedBy (λ f servers info named. ChoiceBox.post f.f servers info named)
+        choice.now servers.now last.now) }
 {
     match choice {
         None => Ok(None),
@@ -182,9 +184,9 @@ impl Pool {
         })
     }
 
-    /// Replaces the servers. Those whose address was there keep their counts and their last error. `EmptyPool` exactly where
-    /// there is no address, else `MixedSchemes` exactly where some are of `ws` or `wss` and others are not. A refusal changes
-    /// nothing. The crate's call.
+    /// Replaces the servers. Those whose address was there keep their counts and their last error. `EmptyPool`
+    /// exactly where there is no address, else `MixedSchemes` exactly where some are of `ws` or `wss` and others
+    /// are not. A refusal changes nothing. The crate's call.
     pub fn set_server_pool(
         &mut self,
         alloc: Global,
@@ -210,11 +212,12 @@ impl Pool {
         copy_servers(alloc, self.servers.as_slice())
     }
 
-    /// Begins a round: that of the server which the callback names, where it is in the pool; else that of all servers, which are
-    /// shuffled and then stably sorted by their failures unless the pool's order is retained. `last` is the last INFO. The
-    /// crate's rule.
+    /// Begins a round: that of the server which the callback names, where it is in the pool; else that of all
+    /// servers, which are shuffled and then stably sorted by their failures unless the pool's order is retained.
+    /// `last` is the last INFO. The crate's rule.
     pub fn begin_round(&mut self, alloc: Global, last: &ServerInfo) -> Result<Choice, NoMemory>
-        ensures ok { IfOk result (Begins (λ f servers info named. ChoiceBox.post f.f servers info named) last.now self.old self.new) }
+        ensures ok { IfOk result (Begins (λ f servers info named. ChoiceBox.post f.f servers info named)
+            last.now self.old self.new) }
         ensures err { OnErr result (self.new ≡ self.old) }
     {
         let named = ask(&self.options.choice, alloc, self.servers.as_slice(), last)?;
@@ -240,8 +243,9 @@ impl Pool {
         self.choice
     }
 
-    /// The next attempt of the round, counted: `Over` exactly where all its servers were handed out, and then nothing is
-    /// counted; `MaxReconnects` exactly where the attempt passes the limit. It takes no memory. The crate's rule.
+    /// The next attempt of the round, counted: `Over` exactly where all its servers were handed out, and then
+    /// nothing is counted; `MaxReconnects` exactly where the attempt passes the limit. It takes no memory. The
+    /// crate's rule.
     pub fn next_attempt(&mut self) -> Next
         ensures { HandsOut (λ f n ms. DelayBox.post f.f n ms) self.old self.new result }
     {
@@ -267,8 +271,8 @@ impl Pool {
         }
     }
 
-    /// Counts how an attempt at `addr` went, at the first server of that address; where there is none, no server changes. A
-    /// success begins the count of attempts anew. It takes no memory. The crate's rule.
+    /// Counts how an attempt at `addr` went, at the first server of that address; where there is none, no server
+    /// changes. A success begins the count of attempts anew. It takes no memory. The crate's rule.
     pub fn report(&mut self, addr: &ServerAddr, outcome: Outcome)
         ensures { Reports addr.now outcome self.old self.new }
     {

@@ -7,8 +7,8 @@ use std::alloc::Global;
 use std::marker::Model;
 use std::vec;
 
-/// The servers to try, in order, with the number of those that were handed out. Two copies are kept, since one of them is
-/// handed out without taking memory. Contracts see the list and the number.
+/// The servers to try, in order, with the number of those that were handed out. Two copies are kept, since one of
+/// them is handed out without taking memory. Contracts see the list and the number.
 #[derive(Drop)]
 pub struct Round {
     plan: Vec<Planned>,

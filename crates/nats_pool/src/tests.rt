@@ -1,10 +1,10 @@
 use crate::{
-    Auth, Choice, ChoiceBox, ConnectOptions, DelayBox, Next, NoMemory, Outcome, Pool,
-    ReconnectToServer, Server, ServerAddr, ServerInfo, SetServerPoolErrorKind, Text,
-    addrs_of_texts, reconnect_delay_default,
+    Auth, AuthBox, AuthError, AuthFn, Choice, ChoiceBox, ConnectOptions, DelayBox, Event, EventBox,
+    EventFn, Next, NoMemory, Outcome, Pool, ReconnectToServer, Server, ServerAddr, ServerInfo,
+    SetServerPoolErrorKind, SignerBox, SignerFn, Text, addrs_of_texts, reconnect_delay_default,
 };
 use std::alloc::Global;
-use std::num::NonZeroU64;
+use std::num::{NonZeroU16, NonZeroU64};
 use std::test::Fail;
 
 #[test]
@@ -14,10 +14,25 @@ fn the_delay_doubles_up_to_four_seconds(rt: HostRuntime) {
     }
 }
 
-fn pool_of(alloc: Global, options: ConnectOptions, texts: &[&str]) -> Option<Pool> {
-    let mut options = options;
-    let addrs = addrs_of_texts(alloc, texts).ok()?;
-    Pool::new(alloc, addrs, options.take_pool_options(), 7).ok()
+// What is done with a pool, and what has to come of it.
+#[derive(Drop)]
+enum Step<'a> {
+    // An attempt at this address fails.
+    Fails(&'a str),
+    // A round begins, its servers chosen so.
+    Begins(Choice),
+    // This host is handed out, with this delay.
+    Tries(&'a str, u64),
+    // Any server is handed out.
+    TriesOne,
+    // The round is used up.
+    Over,
+    // The limit is passed.
+    Limit,
+    // The pool is replaced by these addresses, or isn't.
+    Sets(&'a [&'a str], Option<SetServerPoolErrorKind>),
+    // The pool has two servers with these failures.
+    Counts(usize, usize),
 }
 
 fn fails_at(alloc: Global, pool: &mut Pool, text: &str) -> bool {
@@ -29,75 +44,122 @@ fn fails_at(alloc: Global, pool: &mut Pool, text: &str) -> bool {
     true
 }
 
-fn tries(pool: &mut Pool, host: &str, delay: u64) -> bool {
-    match pool.next_attempt() {
+fn begins(alloc: Global, pool: &mut Pool, choice: Choice) -> bool {
+    let info = ServerInfo::default(alloc);
+    pool.begin_round(alloc, &info) == Ok(choice) && pool.last_choice() == choice
+}
+
+fn is_try(next: &Next, host: &str, delay: u64) -> bool {
+    match next {
         Next::Try(attempt) => attempt.addr.host() == host && attempt.delay == delay,
         Next::Over | Next::MaxReconnects => false,
     }
 }
 
-fn is_over(pool: &mut Pool) -> bool {
-    matches!(pool.next_attempt(), Next::Over)
-}
-
-#[test]
-fn a_retained_order_is_that_of_the_pool(rt: HostRuntime) -> Result<(), Fail> {
-    let alloc = rt.alloc();
-    let info = ServerInfo::default(alloc);
-    let options = ConnectOptions::new().retain_servers_order();
-    let mut pool = pool_of(alloc, options, &["a", "b", "c"]).ok_or("no pool")?;
-    assert!(rt; fails_at(alloc, &mut pool, "a") && fails_at(alloc, &mut pool, "a"));
-    assert!(rt; pool.begin_round(alloc, &info)? == Choice::Default);
-    assert!(rt; tries(&mut pool, "a", 0) && tries(&mut pool, "b", 2) && tries(&mut pool, "c", 4));
-    assert!(rt; is_over(&mut pool) && pool.last_choice() == Choice::Default);
-    Ok(())
-}
-
-fn comes_last(pool: &mut Pool, host: &str) -> bool {
-    let mut last = false;
-    for _ in 0..3u64 {
-        last = match pool.next_attempt() {
-            Next::Try(attempt) => attempt.addr.host() == host,
-            Next::Over | Next::MaxReconnects => false,
-        };
+fn sets(
+    alloc: Global,
+    pool: &mut Pool,
+    texts: &[&str],
+    why: Option<SetServerPoolErrorKind>,
+) -> bool {
+    match addrs_of_texts(alloc, texts) {
+        Ok(addrs) => pool.set_server_pool(alloc, addrs).err() == why,
+        Err(_) => false,
     }
-    last
+}
+
+fn are_counted(servers: &[Server], first: usize, second: usize) -> bool {
+    match servers {
+        [a, b] => a.failed_attempts == first && b.failed_attempts == second,
+        _ => false,
+    }
+}
+
+fn counts(alloc: Global, pool: &Pool, first: usize, second: usize) -> bool {
+    match pool.server_pool(alloc) {
+        Ok(servers) => are_counted(servers.as_slice(), first, second),
+        Err(_) => false,
+    }
+}
+
+fn goes(alloc: Global, pool: &mut Pool, step: &Step) -> bool {
+    match step {
+        Step::Fails(text) => fails_at(alloc, pool, text),
+        Step::Begins(choice) => begins(alloc, pool, *choice),
+        Step::Tries(host, delay) => is_try(&pool.next_attempt(), host, *delay),
+        Step::TriesOne => matches!(pool.next_attempt(), Next::Try(_)),
+        Step::Over => matches!(pool.next_attempt(), Next::Over),
+        Step::Limit => matches!(pool.next_attempt(), Next::MaxReconnects),
+        Step::Sets(texts, why) => sets(alloc, pool, texts, *why),
+        Step::Counts(first, second) => counts(alloc, pool, *first, *second),
+    }
+}
+
+// A pool of a, b and c goes through these steps.
+fn plays(alloc: Global, mut options: ConnectOptions, steps: &[Step]) -> bool {
+    let Ok(addrs) = addrs_of_texts(alloc, &["a", "b", "c"]) else {
+        return false;
+    };
+    let Ok(mut pool) = Pool::new(alloc, addrs, options.take_pool_options(), 7) else {
+        return false;
+    };
+    for step in steps {
+        if !goes(alloc, &mut pool, step) {
+            return false;
+        }
+    }
+    true
 }
 
 #[test]
-fn a_server_that_failed_comes_last_and_keeps_its_count(rt: HostRuntime) -> Result<(), Fail> {
+fn a_pool_goes_through_its_rounds(rt: HostRuntime) {
     let alloc = rt.alloc();
-    let info = ServerInfo::default(alloc);
-    let mut pool = pool_of(alloc, ConnectOptions::default(), &["a", "b", "c"]).ok_or("no pool")?;
-    assert!(rt; fails_at(alloc, &mut pool, "a") && fails_at(alloc, &mut pool, "a"));
-    pool.begin_round(alloc, &info)?;
-    assert!(rt; comes_last(&mut pool, "a") && is_over(&mut pool));
-    let refused = pool.set_server_pool(alloc, Vec::new(alloc));
-    assert!(rt; refused == Err(SetServerPoolErrorKind::EmptyPool));
-    let mixed = addrs_of_texts(alloc, &["ws://a", "nats://b"])?;
-    assert!(rt; pool.set_server_pool(alloc, mixed) == Err(SetServerPoolErrorKind::MixedSchemes));
+    let mixed = Some(SetServerPoolErrorKind::MixedSchemes);
     assert!(rt;
-        pool.set_server_pool(alloc, addrs_of_texts(alloc, &["a", "d"])?)
-            .is_ok()
+        plays(
+            alloc,
+            ConnectOptions::new().retain_servers_order(),
+            &[
+                Step::Fails("a"),
+                Step::Begins(Choice::Default),
+                Step::Tries("a", 0),
+                Step::Tries("b", 2),
+                Step::Tries("c", 4),
+                Step::Over,
+            ]
+        )
     );
-    let servers = pool.server_pool(alloc)?;
     assert!(rt;
-        matches!(servers.as_slice(), [a, d] if a.failed_attempts == 2 && d.failed_attempts == 0)
+        plays(
+            alloc,
+            ConnectOptions::default(),
+            &[
+                Step::Fails("a"),
+                Step::Fails("a"),
+                Step::Begins(Choice::Default),
+                Step::TriesOne,
+                Step::TriesOne,
+                Step::Tries("a", 4),
+                Step::Over,
+                Step::Sets(&[], Some(SetServerPoolErrorKind::EmptyPool)),
+                Step::Sets(&["ws://a", "nats://b"], mixed),
+                Step::Sets(&["a", "d"], None),
+                Step::Counts(2, 0),
+            ]
+        )
     );
-    Ok(())
-}
-
-#[test]
-fn the_limit_is_tested_after_the_attempt_is_counted(rt: HostRuntime) -> Result<(), Fail> {
-    let alloc = rt.alloc();
-    let info = ServerInfo::default(alloc);
-    let options = ConnectOptions::new().max_reconnects(Some(2));
-    let mut pool = pool_of(alloc, options, &["a", "b", "c"]).ok_or("no pool")?;
-    pool.begin_round(alloc, &info)?;
-    pool.next_attempt();
-    pool.next_attempt();
-    assert!(rt; matches!(pool.next_attempt(), Next::MaxReconnects));
-    Ok(())
+    assert!(rt;
+        plays(
+            alloc,
+            ConnectOptions::new().max_reconnects(Some(2)),
+            &[
+                Step::Begins(Choice::Default),
+                Step::TriesOne,
+                Step::TriesOne,
+                Step::Limit,
+            ]
+        )
+    );
 }
 
 fn last_one(servers: Vec<Server>, _info: ServerInfo) -> Option<ReconnectToServer> {
@@ -117,19 +179,18 @@ fn twice(attempts: usize) -> u64 {
     }
 }
 
-#[test]
-fn a_server_that_the_callback_names_is_tried_alone(rt: HostRuntime) -> Result<(), Fail> {
-    let alloc = rt.alloc();
-    let info = ServerInfo::default(alloc);
+fn tries_the_named_one(alloc: Global) -> Result<bool, NoMemory> {
     let choice: ChoiceBox = Box::new(alloc, last_one)?;
     let delay: DelayBox = Box::new(alloc, twice)?;
     let options = ConnectOptions::new()
         .reconnect_to_server_callback(choice)
         .reconnect_delay_callback(delay);
-    let mut pool = pool_of(alloc, options, &["a", "b", "c"]).ok_or("no pool")?;
-    assert!(rt; pool.begin_round(alloc, &info)? == Choice::Callback);
-    assert!(rt; tries(&mut pool, "c", 2) && is_over(&mut pool));
-    Ok(())
+    let steps = [
+        Step::Begins(Choice::Callback),
+        Step::Tries("c", 2),
+        Step::Over,
+    ];
+    Ok(plays(alloc, options, &steps))
 }
 
 fn other_one(alloc: Global) -> Option<ReconnectToServer> {
@@ -139,21 +200,57 @@ fn other_one(alloc: Global) -> Option<ReconnectToServer> {
     })
 }
 
-#[test]
-fn where_the_callback_names_another_server_all_are_tried(rt: HostRuntime) -> Result<(), Fail> {
-    let alloc = rt.alloc();
-    let info = ServerInfo::default(alloc);
+fn tries_all(alloc: Global) -> Result<bool, NoMemory> {
     let choice: ChoiceBox = Box::new(alloc, move |_servers: Vec<Server>, _info: ServerInfo| {
         other_one(alloc)
     })?;
     let options = ConnectOptions::new()
         .retain_servers_order()
         .reconnect_to_server_callback(choice);
-    let mut pool = pool_of(alloc, options, &["a", "b", "c"]).ok_or("no pool")?;
-    assert!(rt; pool.begin_round(alloc, &info)? == Choice::NotInPool);
-    assert!(rt; pool.last_choice() == Choice::NotInPool);
-    assert!(rt; tries(&mut pool, "a", 0) && tries(&mut pool, "b", 2) && tries(&mut pool, "c", 4));
-    assert!(rt; is_over(&mut pool));
+    let steps = [
+        Step::Begins(Choice::NotInPool),
+        Step::Tries("a", 0),
+        Step::Tries("b", 2),
+    ];
+    Ok(plays(alloc, options, &steps))
+}
+
+fn itself(nonce: Vec<u8>) -> Result<Vec<u8>, AuthError> {
+    Ok(nonce)
+}
+
+fn nothing(_nonce: Vec<u8>) -> Result<Auth, AuthError> {
+    Ok(Auth::default())
+}
+
+fn ignored(_event: Event) {}
+
+fn signs(alloc: Global) -> Result<bool, NoMemory> {
+    let signer: SignerBox = Box::new(alloc, itself)?;
+    let nonce = b"n".to_vec(alloc)?;
+    match SignerFn::new(signer).call(nonce) {
+        Ok(signature) => Ok(signature.as_slice() == b"n".as_slice()),
+        Err(_) => Ok(false),
+    }
+}
+
+fn authenticates(alloc: Global) -> Result<bool, NoMemory> {
+    let auth: AuthBox = Box::new(alloc, nothing)?;
+    let event: EventBox = Box::new(alloc, ignored)?;
+    EventFn::new(event).call(Event::Connected);
+    match AuthFn::new(auth).call(Vec::new(alloc)) {
+        Ok(auth) => Ok(auth.token.is_none()),
+        Err(_) => Ok(false),
+    }
+}
+
+#[test]
+fn callbacks_are_asked(rt: HostRuntime) -> Result<(), Fail> {
+    let alloc = rt.alloc();
+    assert!(rt; tries_the_named_one(alloc)?);
+    assert!(rt; tries_all(alloc)?);
+    assert!(rt; signs(alloc)?);
+    assert!(rt; authenticates(alloc)?);
     Ok(())
 }
 
@@ -162,17 +259,80 @@ fn shows(alloc: Global, auth: &Auth) -> Result<bool, NoMemory> {
     Ok(!text.as_str().contains("secret") && auth.copy(alloc)?.token.is_some())
 }
 
+fn hides_its_token(alloc: Global) -> Result<bool, NoMemory> {
+    let token = String::from_str(alloc, "secret")?;
+    shows(alloc, &ConnectOptions::with_token(token).auth)
+}
+
+fn keeps_callbacks(alloc: Global) -> Result<bool, NoMemory> {
+    let signer: SignerBox = Box::new(alloc, itself)?;
+    let auth: AuthBox = Box::new(alloc, nothing)?;
+    let event: EventBox = Box::new(alloc, ignored)?;
+    let options = ConnectOptions::with_jwt(String::new(alloc), signer)
+        .auth_callback(auth)
+        .event_callback(event);
+    Ok(
+        options.signer.is_some()
+            && options.auth_callback.is_some()
+            && options.event_callback.is_some(),
+    )
+}
+
+fn built(alloc: Global, user: String, pass: String) -> Result<ConnectOptions, NoMemory> {
+    let options = ConnectOptions::with_user_and_password(user, pass);
+    let options = options.name(alloc, "me")?;
+    let options = options.custom_inbox_prefix(alloc, "_MINE")?;
+    Ok(
+        options
+            .no_echo()
+            .connection_timeout(1)
+            .request_timeout(None)
+            .ping_interval(NonZeroU64::MIN)
+            .client_capacity(2)
+            .subscription_capacity(3)
+            .read_buffer_capacity(NonZeroU16::MIN)
+            .require_tls(true)
+            .retry_on_initial_connect()
+            .ignore_discovered_servers()
+            .skip_subject_validation(true)
+            .journal(true),
+    )
+}
+
+fn has_texts(options: &ConnectOptions) -> bool {
+    options.name.is_some()
+        && options.inbox_prefix.as_str() == "_MINE"
+        && options.auth.password.is_some()
+}
+
+fn has_numbers(options: &ConnectOptions) -> bool {
+    options.connection_timeout == 1
+        && options.request_timeout.is_none()
+        && options.ping_interval == NonZeroU64::MIN
+        && options.client_capacity == 2
+        && options.subscription_capacity == 3
+        && options.read_buffer_capacity == NonZeroU16::MIN
+}
+
+fn has_switches(options: &ConnectOptions) -> bool {
+    options.no_echo
+        && options.tls_required
+        && options.retry_on_initial_connect
+        && options.ignore_discovered_servers
+        && options.skip_subject_validation
+        && options.journal
+}
+
+fn is_built(alloc: Global) -> Result<bool, NoMemory> {
+    let options = built(alloc, String::new(alloc), String::new(alloc))?;
+    Ok(has_texts(&options) && has_numbers(&options) && has_switches(&options))
+}
+
 #[test]
 fn options_are_built_call_by_call(rt: HostRuntime) -> Result<(), Fail> {
     let alloc = rt.alloc();
-    let options = ConnectOptions::with_token(String::from_str(alloc, "secret")?);
-    assert!(rt; shows(alloc, &options.auth)?);
-    let options = options
-        .name(alloc, "me")?
-        .custom_inbox_prefix(alloc, "_MINE")?
-        .ping_interval(NonZeroU64::MIN)
-        .journal(true);
-    assert!(rt; options.inbox_prefix.as_str() == "_MINE" && options.journal);
-    assert!(rt; options.client_capacity == 2_048 && options.request_timeout == Some(10_000));
+    assert!(rt; hides_its_token(alloc)?);
+    assert!(rt; keeps_callbacks(alloc)?);
+    assert!(rt; is_built(alloc)?);
     Ok(())
 }
