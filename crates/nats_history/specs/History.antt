@@ -2,7 +2,7 @@
 use Rattle.std.specs.Prelude.{ℕ, zero, suc, ◌+◌, ◌-◌, ◌^◌, Bool, true, false, not, ◌&&◌, ◌||◌, nat_lt, min, List, [], ◌∷◌, ◌++◌, length, drop, map, Option, Some, None, if◌then◌else◌}
 use Rattle.nats_names.specs.declared.event.Event.{Event}
 use Rattle.nats_names.specs.declared.event.Event.TheVariants.{Connected, Disconnected, SlowConsumer}
-use Rattle.nats_wire.specs.declared.info.ServerInfo.{ServerInfo}
+use Rattle.nats_info.specs.declared.info.ServerInfo.{ServerInfo}
 use Rattle.nats_wire.specs.declared.message.Message.{Message}
 use Rattle.nats_wire.specs.declared.op.ClientOp.{ClientOp}
 use Rattle.nats_wire.specs.declared.op.ClientOp.TheVariants as client
@@ -266,7 +266,7 @@ subscribe_command (Some s) subject group = client.Subscribe s subject group ∷ 
 
 -- the commands that a step writes, where these are the subscriptions before it
 abbrev pub commands : Config → At → List Sub → Step → List ClientOp
-commands c at subs (handled (Publish m)) = client.Publish m.subject m.payload m.reply ∷ []
+commands c at subs (handled (Publish m)) = client.Publish m.subject m.payload m.reply m.headers ∷ []
 commands c at subs (handled (Subscribe subject group)) = subscribe_command (next_subscribed at) subject group
 commands c at subs (read ping_op) = client.Pong ∷ []
 commands c at subs step = []

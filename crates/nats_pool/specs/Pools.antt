@@ -6,7 +6,7 @@ use Rattle.rand_core.specs.Stream.{Stream}
 use Rattle.rand_xoshiro.specs.Xoshiro256.{of_seed}
 use Rattle.rand_xoshiro.specs.SplitMix64.{splitmix_seed}
 use Rattle.url.specs.Parts.{Parts}
-use Rattle.nats_wire.specs.declared.info.ServerInfo.{ServerInfo}
+use Rattle.nats_info.specs.declared.info.ServerInfo.{ServerInfo}
 use Rattle.nats_pool.specs.declared.callbacks.ChoiceFn.{ChoiceFn}
 use Rattle.nats_pool.specs.declared.callbacks.DelayFn.{DelayFn}
 use Rattle.nats_pool.specs.declared.server.Server.{Server}

@@ -4,7 +4,7 @@ use Rattle.std.specs.Option.{option_map}
 use Rattle.std.specs.List.{slice_split}
 use Rattle.std.specs.Str.{bytes_eq}
 use Rattle.nats_names.specs.Names.{is_valid, is_publishable}
-use Rattle.nats_wire.specs.Info.{default_info}
+use Rattle.nats_info.specs.Info.{default_info}
 use Rattle.nats_history.specs.declared.config.Config.{Config}
 use Rattle.nats_history.specs.declared.call.Call.TheVariants.{Publish, Subscribe}
 use Rattle.nats_history.specs.declared.turn.Turn.{Turn}
@@ -86,7 +86,7 @@ sub_of fields = None
 
 -- a publish that asks for no answer
 abbrev pub pub_turn : List ℕ → List ℕ → Turn
-pub_turn subject payload = Do (Publish (record { subject = subject; reply = None; payload = payload }))
+pub_turn subject payload = Do (Publish (record { subject = subject; reply = None; payload = payload; headers = None }))
 
 abbrev pub pub_with : Option (List ℕ) → Option (List ℕ) → Option Turn
 pub_with (Some subject) (Some payload) = Some (pub_turn subject payload)

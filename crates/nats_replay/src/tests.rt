@@ -340,6 +340,9 @@ fn rows_of_every_kind_are_printed(rt: HostRuntime) -> Result<(), Fail> {
         subject: Subject::from_text(rt.alloc(), "a")?,
         reply: Some(Subject::from_text(rt.alloc(), "r\u{e9} ")?),
         payload: Bytes::copy_from_slice(rt.alloc(), &[0, b'%', b'~', b'}'])?,
+        headers: None,
+        status: None,
+        description: None,
         length: 9,
     };
     let link = LinkRow {

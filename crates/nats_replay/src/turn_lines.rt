@@ -191,6 +191,7 @@ fn pub_with(subject: Option<Subject>, payload: Option<Bytes>) -> Option<Turn>
         subject: subject?,
         reply: None,
         payload: payload?,
+        headers: None,
     })))
 }
 

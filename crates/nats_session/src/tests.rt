@@ -30,6 +30,7 @@ fn publish(alloc: Global) -> Result<Call, NoMemory> {
         subject: Subject::from_text(alloc, "a")?,
         reply: None,
         payload: Bytes::from_static(b"hi"),
+        headers: None,
     }))
 }
 

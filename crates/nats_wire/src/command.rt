@@ -1,11 +1,12 @@
 //! The texts of client operations, by the NATS client protocol.
-ghost use Rattle.std.specs.Prelude.{◌≡◌, ◌++◌, length, IfOk, OnOk, OnErr};
-ghost use Rattle.std.specs.String.{string_bytes};
-ghost use Rattle.nats_wire.specs.Commands.{crlf, subscription_text, publication_line, command_text};
+ghost use Rattle.std.specs.Prelude.{◌≡◌, ◌++◌, length, Some, None, IfOk, IfSome, OnOk, OnErr};
+ghost use Rattle.nats_wire.specs.Commands.{word_and_space, sent_block, publication_text, subscription_text, unsubscription_text, command_text, command_texts, joined};
 
 use crate::op::ClientOp;
 use bytes::BytesMut;
-use nats_names::{NoMemory, Subject};
+use itoa::Buffer;
+use nats_header::HeaderMap;
+use nats_names::{Bytes, NoMemory, Subject};
 use std::alloc::Global;
 
 /// Appends what the client writes for an operation, whole or not at all.
@@ -18,64 +19,178 @@ pub fn append(alloc: Global, op: &ClientOp, out: &mut BytesMut) -> Result<(), No
             sid,
             subject,
             queue_group,
-        } => {
-            let line = subscription(alloc, *sid, subject, queue_group)?;
-            out.extend_from_slice(line.as_bytes())?;
-        }
+        } => append_subscription(*sid, subject, queue_group, out),
+        ClientOp::Unsubscribe { sid, max } => append_unsubscription(*sid, *max, out),
         ClientOp::Publish {
             subject,
             payload,
             respond,
-        } => {
-            let line = publication(alloc, subject, respond, payload.len())?;
-            append_with_payload(line.as_bytes(), payload.as_slice(), out)?;
+            headers,
+        } => append_publication(alloc, subject, respond, headers, payload, out),
+        ClientOp::Ping => append_all(&[b"PING\r\n".as_slice()], out),
+        ClientOp::Pong => append_all(&[b"PONG\r\n".as_slice()], out),
+    }
+}
+
+/// Appends what the client writes for some operations in order, all of it or nothing.
+pub fn append_each(alloc: Global, ops: &[ClientOp], out: &mut BytesMut) -> Result<(), NoMemory>
+    ensures ok { OnOk result (out.new.items ≡ out.old.items ++ command_texts ops.now) }
+    ensures err { OnErr result (out.new.items ≡ out.old.items) }
+{
+    let before = out.len();
+    for op in ops {
+        if let Err(refused) = append(alloc, op, out) {
+            out.truncate(before);
+            return Err(refused);
         }
-        ClientOp::Ping => out.extend_from_slice(b"PING\r\n")?,
-        ClientOp::Pong => out.extend_from_slice(b"PONG\r\n")?,
     }
     Ok(())
 }
 
-fn subscription(
-    alloc: Global,
-    sid: u64,
-    subject: &Subject,
-    queue_group: &Option<Subject>,
-) -> Result<String, NoMemory>
-    ensures { IfOk result (λ text. string_bytes text ≡ subscription_text sid subject.now queue_group.now) }
+// The words that may follow, and the space behind them.
+fn word_and_space(word: &Option<Subject>) -> (&[u8], &[u8])
+    ensures { result.0.now ++ result.1.now ≡ word_and_space word.now }
 {
-    let subject = subject.as_str();
-    Ok(match queue_group {
-        Some(group) => format!(in alloc; "SUB {subject} {} {sid}\r\n", group.as_str())?,
-        None => format!(in alloc; "SUB {subject} {sid}\r\n")?,
-    })
+    match word {
+        Some(word) => (word.as_str().as_bytes(), b" "),
+        None => (b"", b""),
+    }
 }
 
-// The line that goes before a payload of `count` bytes.
-fn publication(
+fn append_subscription<'a>(
+    sid: u64,
+    subject: &'a Subject,
+    queue_group: &'a Option<Subject>,
+    out: &mut BytesMut,
+) -> Result<(), NoMemory>
+    ensures ok { OnOk result (out.new.items ≡ out.old.items ++ subscription_text sid subject.now queue_group.now) }
+    ensures err { OnErr result (out.new.items ≡ out.old.items) }
+{
+    let subject = subject.as_str().as_bytes();
+    let (group, space) = word_and_space(queue_group);
+    let mut number = Buffer::new();
+    let sid = number.format(sid).as_bytes();
+    append_all(&[b"SUB ", subject, b" ", group, space, sid, b"\r\n"], out)
+}
+
+fn append_unsubscription(sid: u64, max: Option<u64>, out: &mut BytesMut) -> Result<(), NoMemory>
+    ensures ok { OnOk result (out.new.items ≡ out.old.items ++ unsubscription_text sid max) }
+    ensures err { OnErr result (out.new.items ≡ out.old.items) }
+{
+    let mut number = Buffer::new();
+    let sid = number.format(sid).as_bytes();
+    let Some(max) = max else {
+        return append_all(&[b"UNSUB ", sid, b"\r\n"], out);
+    };
+    let mut limit = Buffer::new();
+    let max = limit.format(max).as_bytes();
+    append_all(&[b"UNSUB ", sid, b" ", max, b"\r\n"], out)
+}
+
+fn append_publication(
     alloc: Global,
     subject: &Subject,
     respond: &Option<Subject>,
-    count: usize,
-) -> Result<String, NoMemory>
-    ensures { IfOk result (λ line. string_bytes line ≡ publication_line subject.now respond.now count) }
+    headers: &Option<HeaderMap>,
+    payload: &Bytes,
+    out: &mut BytesMut,
+) -> Result<(), NoMemory>
+    ensures ok { OnOk result (out.new.items ≡ out.old.items
+        ++ publication_text subject.now respond.now (sent_block headers.now) payload.now) }
+    ensures err { OnErr result (out.new.items ≡ out.old.items) }
 {
-    let subject = subject.as_str();
-    Ok(match respond {
-        Some(respond) => format!(in alloc; "PUB {subject} {} {count}\r\n", respond.as_str())?,
-        None => format!(in alloc; "PUB {subject} {count}\r\n")?,
-    })
+    match headers {
+        Some(headers) if !headers.is_empty() => {
+            let block = headers.to_bytes(alloc)?;
+            append_hpub(subject, respond, block.as_slice(), payload, out)
+        }
+        _ => append_pub(subject, respond, payload, out),
+    }
+}
+
+fn append_pub<'a>(
+    subject: &'a Subject,
+    respond: &'a Option<Subject>,
+    payload: &'a Bytes,
+    out: &mut BytesMut,
+) -> Result<(), NoMemory>
+    ensures ok { OnOk result (out.new.items ≡ out.old.items ++ publication_text subject.now respond.now None payload.now) }
+    ensures err { OnErr result (out.new.items ≡ out.old.items) }
+{
+    let (respond, space) = word_and_space(respond);
+    let mut number = Buffer::new();
+    let count = number.format(payload.len()).as_bytes();
+    append_all(
+        &[
+            b"PUB ",
+            subject.as_str().as_bytes(),
+            b" ",
+            respond,
+            space,
+            count,
+            b"\r\n",
+            payload.as_slice(),
+            b"\r\n",
+        ],
+        out,
+    )
+}
+
+fn append_hpub<'a>(
+    subject: &'a Subject,
+    respond: &'a Option<Subject>,
+    block: &'a [u8],
+    payload: &'a Bytes,
+    out: &mut BytesMut,
+) -> Result<(), NoMemory>
+    ensures ok { OnOk result (out.new.items ≡ out.old.items
+        ++ publication_text subject.now respond.now (Some block.now) payload.now) }
+    ensures err { OnErr result (out.new.items ≡ out.old.items) }
+{
+    let (respond, space) = word_and_space(respond);
+    let mut number = Buffer::new();
+    let header_len = number.format(block.len()).as_bytes();
+    let mut sum = Buffer::new();
+    let total = sum.format(block.len() + payload.len()).as_bytes();
+    append_all(
+        &[
+            b"HPUB ",
+            subject.as_str().as_bytes(),
+            b" ",
+            respond,
+            space,
+            header_len,
+            b" ",
+            total,
+            b"\r\n",
+            block,
+            payload.as_slice(),
+            b"\r\n",
+        ],
+        out,
+    )
+}
+
+// The bytes of all parts together, where that is a length.
+fn length_of(parts: &[&[u8]]) -> Option<usize>
+    ensures { IfSome result (λ n. n ≡ length (joined parts.now)) }
+{
+    let mut length: usize = 0;
+    for part in parts {
+        length = length.checked_add(part.len())?;
+    }
+    Some(length)
 }
 
 // One request for room, and then no append can fail: so what was there stays where memory is wanting.
-fn append_with_payload(line: &[u8], payload: &[u8], out: &mut BytesMut) -> Result<(), NoMemory>
-    ensures ok { OnOk result (out.new.items ≡ out.old.items ++ (line.now ++ payload.now ++ crlf)) }
+fn append_all(parts: &[&[u8]], out: &mut BytesMut) -> Result<(), NoMemory>
+    ensures ok { OnOk result (out.new.items ≡ out.old.items ++ joined parts.now) }
     ensures err { OnErr result (out.new.items ≡ out.old.items) }
 {
-    let room = (line.len() + payload.len()).checked_add(2).ok_or(NoMemory)?;
+    let room = length_of(parts).ok_or(NoMemory)?;
     out.reserve(room)?;
-    out.extend_reserved(line);
-    out.extend_reserved(payload);
-    out.extend_reserved(b"\r\n");
+    for part in parts {
+        out.extend_reserved(part);
+    }
     Ok(())
 }

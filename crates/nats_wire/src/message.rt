@@ -1,7 +1,8 @@
 //! Messages as they come in and as they go out.
 ghost use Rattle.std.specs.Prelude.{◌≡◌, IfOk, option_map};
 
-use nats_names::{Bytes, NoMemory, Subject};
+use nats_header::HeaderMap;
+use nats_names::{Bytes, NoMemory, StatusCode, Subject, Text};
 use std::alloc::Global;
 
 /// A message that the server delivered. The crate's `Message`.
@@ -13,6 +14,12 @@ pub struct Message {
     pub reply: Option<Subject>,
     /// The body, any bytes.
     pub payload: Bytes,
+    /// The headers, where the message came with a block for them, which may hold none.
+    pub headers: Option<HeaderMap>,
+    /// The status code, where the block's first line has one.
+    pub status: Option<StatusCode>,
+    /// The words behind the status code, where the block's first line has some.
+    pub description: Option<Text>,
     /// The length in bytes that the server counted, with those of the subject and the reply.
     pub length: usize,
 }
@@ -26,7 +33,12 @@ pub struct OutboundMessage {
     pub reply: Option<Subject>,
     /// The body, any bytes.
     pub payload: Bytes,
+    /// The headers; none and an empty map are sent alike.
+    pub headers: Option<HeaderMap>,
 }
+
+/// The crate's second name for it.
+pub type PublishMessage = OutboundMessage;
 
 /// An equal subject where there is one.
 pub fn copy_subject(alloc: Global, subject: &Option<Subject>) -> Result<Option<Subject>, NoMemory>
@@ -34,6 +46,28 @@ pub fn copy_subject(alloc: Global, subject: &Option<Subject>) -> Result<Option<S
 {
     match subject {
         Some(subject) => Ok(Some(subject.copy(alloc)?)),
+        None => Ok(None),
+    }
+}
+
+/// Equal headers where there are some.
+pub fn copy_headers(
+    alloc: Global,
+    headers: &Option<HeaderMap>,
+) -> Result<Option<HeaderMap>, NoMemory>
+    ensures { IfOk result (λ h. h ≡ headers.now) }
+{
+    match headers {
+        Some(headers) => Ok(Some(headers.copy(alloc)?)),
+        None => Ok(None),
+    }
+}
+
+fn copy_text(alloc: Global, text: &Option<Text>) -> Result<Option<Text>, NoMemory>
+    ensures { IfOk result (λ t. t ≡ text.now) }
+{
+    match text {
+        Some(text) => Ok(Some(text.copy(alloc)?)),
         None => Ok(None),
     }
 }
@@ -47,6 +81,9 @@ impl Message {
             subject: self.subject.copy(alloc)?,
             reply: copy_subject(alloc, &self.reply)?,
             payload: self.payload.clone()?,
+            headers: copy_headers(alloc, &self.headers)?,
+            status: self.status,
+            description: copy_text(alloc, &self.description)?,
             length: self.length,
         })
     }
@@ -61,6 +98,7 @@ impl OutboundMessage {
             subject: self.subject.copy(alloc)?,
             reply: copy_subject(alloc, &self.reply)?,
             payload: self.payload.clone()?,
+            headers: copy_headers(alloc, &self.headers)?,
         })
     }
 }

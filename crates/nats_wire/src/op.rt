@@ -4,7 +4,9 @@ ghost use Rattle.nats_wire.specs.Wire.{wire_error_text};
 ghost use Rattle.nats_wire.specs.declared.op.WireError.TheVariants as refused;
 
 use crate::message::Message;
-use nats_names::{Bytes, NoMemory, Subject};
+use nats_header::HeaderMap;
+use nats_info::ServerInfo;
+use nats_names::{Bytes, NoMemory, ServerError, Subject};
 use std::error::Error;
 use std::fmt;
 
@@ -13,11 +15,15 @@ use std::fmt;
 pub enum ServerOp {
     /// The protocol's `+OK`: the server took what the client sent.
     Ok,
+    /// The protocol's `INFO`: what the server says of itself.
+    Info(Box<ServerInfo>),
     /// The protocol's `PING`: the server asks for a `PONG`.
     Ping,
     /// The protocol's `PONG`: the server's answer to a `PING`.
     Pong,
-    /// A message delivered to the subscription `sid`.
+    /// The protocol's `-ERR`: what the server complains of.
+    Error(ServerError),
+    /// The protocol's `MSG`, and `HMSG` with headers: a message delivered to the subscription `sid`.
     Message { sid: u64, message: Message },
 }
 
@@ -30,11 +36,18 @@ pub enum ClientOp {
         subject: Subject,
         queue_group: Option<Subject>,
     },
-    /// The protocol's `PUB`: sends a payload to the subscribers of `subject`, and says where an answer is asked to go.
+    /// The protocol's `UNSUB`: ends the subscription of the number `sid`, at once or once `max` messages were delivered to it.
+    Unsubscribe {
+        sid: u64,
+        max: Option<u64>,
+    },
+    /// The protocol's `PUB`, and `HPUB` where headers are there and not empty: sends a payload to the subscribers of `subject`,
+    /// and says where an answer is asked to go.
     Publish {
         subject: Subject,
         payload: Bytes,
         respond: Option<Subject>,
+        headers: Option<HeaderMap>,
     },
     /// The protocol's `PING`: asks for a `PONG`.
     Ping,

@@ -18,7 +18,7 @@ use crate::subs::{Delivery, Subscriptions};
 use nats_history::{
     Call, Config, Due, Event, LinkWord, Message, NoMemory, OutboundMessage, Subject,
 };
-use nats_wire::{ClientOp, Connection, Peeked, ServerOp, WireError, copy_subject};
+use nats_wire::{ClientOp, Connection, Peeked, ServerOp, WireError, copy_headers, copy_subject};
 use std::alloc::Global;
 
 /// Which step is due.
@@ -48,13 +48,14 @@ fn write_publish(
     alloc: Global,
     message: &OutboundMessage,
 ) -> Result<(), NoMemory>
-    ensures ok { OnOk result (connection.new ≡ record connection.old { waiting = connection.old.waiting ++ command_text (client.Publish message.now.subject message.now.payload message.now.reply) }) }
+    ensures ok { OnOk result (connection.new ≡ record connection.old { waiting = connection.old.waiting ++ command_text (client.Publish message.now.subject message.now.payload message.now.reply message.now.headers) }) }
     ensures err { OnErr result (connection.new ≡ connection.old) }
 {
     let op = ClientOp::Publish {
         subject: message.subject.copy(alloc)?,
         payload: message.payload.clone()?,
         respond: copy_subject(alloc, &message.reply)?,
+        headers: copy_headers(alloc, &message.headers)?,
     };
     connection.enqueue_write_op(alloc, &op)
 }
@@ -195,7 +196,7 @@ impl ConnectionHandler {
                 self.connection.consume(len);
                 Ok(Due::Read)
             }
-            ServerOp::Ok | ServerOp::Pong => {
+            ServerOp::Ok | ServerOp::Pong | ServerOp::Info(_) | ServerOp::Error(_) => {
                 self.connection.consume(len);
                 Ok(Due::Read)
             }
