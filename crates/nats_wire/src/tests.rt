@@ -1,13 +1,26 @@
 //! What no clause says: texts of the protocol with what they mean, and each call once with ample memory.
 use crate::{
-    Bytes, ClientOp, Connection, HeaderMap, Message, OutboundMessage, ServerError, ServerOp,
-    StatusCode, Subject, Text, WireError,
+    Bytes, ClientOp, Connection, HeaderMap, Message, OutboundMessage, ServerOp, Subject, WireError,
 };
 use nats_names::NoMemory;
 use std::alloc::Global;
+use std::str;
 use std::test::Fail;
 
-// ---- reading
+// Texts, and behind `~` what is read at their front and how many bytes stay. A message is its number, subject, reply, payload,
+// length, status, description and its header `K`; rows end at `|`.
+const READ: &str = "+OK\r\n~ok 0|PINGX\r\n~ping 0|PONG\r\nPI~pong 2\
+|ONE\r\nPING\r\n~fault 6|ONE\nPING\r~unfinished 9\
+|INFO {\"port\":42}\r\n~info 42 0|INFO {\"port\":-1}\r\n~fault 18|INFO {\"po~unfinished 9\
+|-ERR 'Authorization Violation'\r\n~nats: authorization violation 0|-ERR ''Slow's'\r\n~nats: Slow's 0\
+|-ERR\r\n~fault 6|MSG a 1\r\n~fault 9\
+|MSG a 1 18446744073709551615\r\n~unfinished 30|MSG a 1 18446744073709551616\r\n~fault 30\
+|MSG  a  +7  b  0 \r\n\r\n~7 a b  2 0 - - 0|MSG FOO.BAR 9 r 11\r\nHello World\r\nP~9 FOO.BAR r Hello World 19 0 - - 1\
+|HMSG FOO.BAR 10 INBOX.35 28 28\r\nNATS/1.0 404 No Messages\r\n\r\n\r\n~10 FOO.BAR INBOX.35  43 404 No Messages + 0\
+|HMSG FOO.BAR 10 INBOX.35 18 29\r\nNATS/1.0\r\nK: X\r\n\r\nHello World\r\n~10 FOO.BAR INBOX.35 Hello World 44 0 - X 0\
+|HMSG a\u{3000}1 12 12\r\nNATS/1.0\r\n\r\n\r\n~1 a -  13 0 - + 0|HMSG a\u{3000}1 12 12\r\nNATS/1.0\r\n\r\n\r~unfinished 31\
+|HMSG\ta 1 12 12\r\nNATS~fault 4|HMSG a 1 3 2\r\nhi\r\n~fault 18\
+|HMSG a 1 12 12\r\nNATS/2.0\r\n\r\n\r\nP~fault 1|HMSG a 1 20 20\r\nNATS/1.0\r\nk: a\rb\r\n\r\n\r\n~fault 0";
 
 fn fed(alloc: Global, text: &[u8]) -> Result<Connection, NoMemory> {
     let mut connection = Connection::new(alloc);
@@ -15,92 +28,58 @@ fn fed(alloc: Global, text: &[u8]) -> Result<Connection, NoMemory> {
     Ok(connection)
 }
 
-fn word_of(op: &ServerOp) -> &'static str {
-    match op {
-        ServerOp::Ok => "+OK",
-        ServerOp::Info(_) => "INFO",
-        ServerOp::Ping => "PING",
-        ServerOp::Pong => "PONG",
-        ServerOp::Error(_) => "-ERR",
-        ServerOp::Message { .. } => "MSG",
+fn header_of(message: &Message) -> &str {
+    match &message.headers {
+        Some(headers) => headers.get("K").map_or("+", |value| value.as_str()),
+        None => "-",
     }
 }
 
-// What is read at the front of a text, and how many bytes stay.
-fn read_word(alloc: Global, text: &[u8]) -> Result<(&'static str, usize), NoMemory> {
-    let mut connection = fed(alloc, text)?;
-    let word = match connection.try_read_op(alloc) {
-        Ok(Some(op)) => word_of(&op),
-        Ok(None) => "unfinished",
-        Err(WireError::ReadFault) => "fault",
-        Err(WireError::NoMemory) => return Err(NoMemory),
+fn told_message(alloc: Global, sid: u64, message: &Message) -> Result<String, NoMemory> {
+    let subject = message.subject.as_str();
+    let reply = message.reply.as_ref().map_or("-", |reply| reply.as_str());
+    let payload = str::from_utf8(message.payload.as_slice()).unwrap_or("");
+    let status = message.status.map_or(0, |status| status.as_u16());
+    let description = message.description.as_ref().map_or("-", |text| text.as_str());
+    let header = header_of(message);
+    let length = message.length;
+    Ok(format!(in alloc; "{sid} {subject} {reply} {payload} {length} {status} {description} {header}")?)
+}
+
+fn told(alloc: Global, op: &ServerOp) -> Result<String, NoMemory> {
+    Ok(match op {
+        ServerOp::Ok => String::from_str(alloc, "ok")?,
+        ServerOp::Ping => String::from_str(alloc, "ping")?,
+        ServerOp::Pong => String::from_str(alloc, "pong")?,
+        ServerOp::Info(info) => format!(in alloc; "info {}", info.port)?,
+        ServerOp::Error(error) => format!(in alloc; "{error}")?,
+        ServerOp::Message { sid, message } => told_message(alloc, *sid, message)?,
+    })
+}
+
+fn told_read(alloc: Global, connection: &mut Connection) -> Result<String, NoMemory> {
+    match connection.try_read_op(alloc) {
+        Ok(Some(op)) => told(alloc, &op),
+        Ok(None) => Ok(String::from_str(alloc, "unfinished")?),
+        Err(WireError::ReadFault) => Ok(String::from_str(alloc, "fault")?),
+        Err(WireError::NoMemory) => Err(NoMemory),
+    }
+}
+
+fn is_read_as_told(alloc: Global, row: &str) -> Result<bool, NoMemory> {
+    let Some((text, expected)) = row.split_once('~') else {
+        return Ok(false);
     };
-    Ok((word, connection.unread()))
+    let mut connection = fed(alloc, text.as_bytes())?;
+    let read = told_read(alloc, &mut connection)?;
+    let read = format!(in alloc; "{} {}", read.as_str(), connection.unread())?;
+    Ok(read.as_str() == expected)
 }
 
 #[test]
-fn a_line_is_read_by_the_word_that_it_begins_with(rt: HostRuntime) -> Result<(), Fail> {
-    for (text, word, left) in [
-        (b"+OK\r\n".as_slice(), "+OK", 0),
-        (b"PINGX\r\n".as_slice(), "PING", 0),
-        (b"PONG\r\nPI".as_slice(), "PONG", 2),
-        (b"INFO {\"port\":4222}\r\n".as_slice(), "INFO", 0),
-        (b"INFO {\"port\":65536}\r\n".as_slice(), "fault", 21),
-        (b"INFO {\"po".as_slice(), "unfinished", 9),
-        (b"-ERR 'x'\r\n".as_slice(), "-ERR", 0),
-        (b"-ERR\r\n".as_slice(), "fault", 6),
-        (b"ONE\r\nPING\r\n".as_slice(), "fault", 6),
-        (b"ONE\nPING\r".as_slice(), "unfinished", 9),
-    ] {
-        assert_eq!(rt; read_word(rt.alloc(), text)?, (word, left));
-    }
-    Ok(())
-}
-
-#[test]
-fn a_message_is_whole_bad_or_unfinished(rt: HostRuntime) -> Result<(), Fail> {
-    for (text, word, left) in [
-        (
-            b"MSG a 1 18446744073709551615\r\n".as_slice(),
-            "unfinished",
-            30,
-        ),
-        (b"MSG a 1 18446744073709551616\r\n".as_slice(), "fault", 30),
-        (b"MSG a.\xff 1 2\r\nhi\r\n".as_slice(), "fault", 17),
-        (b"MSG a 1\r\n".as_slice(), "fault", 9),
-        (b"HMSG a 1 3 2\r\nhi\r\n".as_slice(), "fault", 18),
-        (
-            b"HMSG a 1 12 18446744073709551615\r\n".as_slice(),
-            "unfinished",
-            34,
-        ),
-        (
-            b"HMSG\ta\xe3\x80\x801 12 12\r\nNATS/1.0\r\n\r\n\r\n".as_slice(),
-            "fault",
-            14,
-        ),
-        (
-            b"HMSG a\xe3\x80\x801 12 12\r\nNATS/1.0\r\n\r\n\r".as_slice(),
-            "unfinished",
-            31,
-        ),
-        (
-            b"HMSG a\xe3\x80\x801 12 12\r\nNATS/1.0\r\n\r\n\r\n".as_slice(),
-            "MSG",
-            0,
-        ),
-        (
-            b"HMSG a 1 12 12\r\nNATS/2.0\r\n\r\n\r\nP".as_slice(),
-            "fault",
-            1,
-        ),
-        (
-            b"HMSG a 1 20 20\r\nNATS/1.0\r\nk: a\rb\r\n\r\n\r\n".as_slice(),
-            "fault",
-            0,
-        ),
-    ] {
-        assert_eq!(rt; read_word(rt.alloc(), text)?, (word, left));
+fn texts_are_read_as_the_protocol_has_them(rt: HostRuntime) -> Result<(), Fail> {
+    for row in READ.split('|') {
+        assert!(rt; is_read_as_told(rt.alloc(), row)?, "{row:?}");
     }
     Ok(())
 }
@@ -111,176 +90,43 @@ fn a_message_is_read_at_its_last_byte(rt: HostRuntime) -> Result<(), Fail> {
     for byte in b"MSG a 1 2\r\nhi\r" {
         connection.feed(rt.alloc(), &[*byte])?;
         assert!(rt; connection.is_unfinished());
-        assert!(rt; connection.try_read_op(rt.alloc())?.is_none());
     }
     connection.feed(rt.alloc(), b"\n")?;
-    assert!(rt; connection.try_read_op(rt.alloc())?.is_some());
-    Ok(())
-}
-
-// The message that a text is, where it is one.
-fn message_in(alloc: Global, text: &str) -> Result<Option<Message>, WireError> {
-    let mut connection = fed(alloc, text.as_bytes())?;
-    match connection.try_read_op(alloc)? {
-        Some(ServerOp::Message { message, .. }) => Ok(Some(message)),
-        _ => Ok(None),
-    }
-}
-
-#[test]
-fn a_message_is_read_as_sent(rt: HostRuntime) -> Result<(), Fail> {
-    for (text, reply, payload, length) in [
-        ("MSG  a  7  b  0 \r\n\r\n", "b", "", 2),
-        (
-            "MSG FOO.BAR 9 INBOX.34 11\r\nHello World\r\n",
-            "INBOX.34",
-            "Hello World",
-            26,
-        ),
-    ] {
-        let message = message_in(rt.alloc(), text)?.ok_or("no message")?;
-        let subject = message.reply.ok_or("no reply")?;
-        assert_eq!(rt; subject.as_str(), reply);
-        assert_eq!(rt; message.payload.as_slice(), payload.as_bytes());
-        assert_eq!(rt; message.length, length);
-        assert!(rt; message.headers.is_none());
-    }
-    Ok(())
-}
-
-#[test]
-fn a_status_is_read_from_the_header_block(rt: HostRuntime) -> Result<(), Fail> {
-    let text = "HMSG FOO.BAR 10 INBOX.35 28 28\r\nNATS/1.0 404 No Messages\r\n\r\n\r\n";
-    let message = message_in(rt.alloc(), text)?.ok_or("no message")?;
-    let message = message.copy(rt.alloc())?;
-    assert_eq!(rt; message.status, Some(StatusCode::NOT_FOUND));
-    let description = message.description.ok_or("no description")?;
-    assert_eq!(rt; description.as_str(), "No Messages");
-    let headers = message.headers.ok_or("no headers")?;
-    assert!(rt; headers.is_empty());
-    assert_eq!(rt; message.length, 43);
-    Ok(())
-}
-
-#[test]
-fn headers_are_read_before_the_payload(rt: HostRuntime) -> Result<(), Fail> {
-    let text = "HMSG FOO.BAR 10 INBOX.35 23 34\r\nNATS/1.0\r\nHeader: X\r\n\r\nHello World\r\n";
-    let message = message_in(rt.alloc(), text)?.ok_or("no message")?;
-    let headers = message.headers.ok_or("no headers")?;
-    let value = headers.get("Header").ok_or("no value")?;
-    assert_eq!(rt; value.as_str(), "X");
-    assert_eq!(rt; message.payload.as_slice(), b"Hello World".as_slice());
-    assert_eq!(rt; message.length, 49);
-    Ok(())
-}
-
-// The error that a text is, where it is one.
-fn error_in(alloc: Global, text: &[u8]) -> Result<Option<ServerError>, WireError> {
-    let mut connection = fed(alloc, text)?;
-    match connection.try_read_op(alloc)? {
-        Some(ServerOp::Error(error)) => Ok(Some(error)),
-        _ => Ok(None),
-    }
-}
-
-#[test]
-fn an_error_loses_its_quotes(rt: HostRuntime) -> Result<(), Fail> {
-    for (text, other) in [
-        (b"-ERR ''Slow's''\r\n".as_slice(), "Slow's"),
-        (b"-ERR Went wrong\r\n".as_slice(), "Went wrong"),
-        (b"-ERR \r\n".as_slice(), ""),
-    ] {
-        let other = Text::from_text(rt.alloc(), other)?;
-        assert_eq!(rt;
-            error_in(rt.alloc(), text)?,
-            Some(ServerError::Other(other))
-        );
-    }
-    assert_eq!(rt;
-        error_in(rt.alloc(), b"-ERR 'Authorization Violation'\r\n")?,
-        Some(ServerError::AuthorizationViolation)
-    );
-    Ok(())
-}
-
-#[test]
-fn a_peek_takes_nothing(rt: HostRuntime) -> Result<(), Fail> {
-    let mut connection = fed(rt.alloc(), b"MSG a 1 2\r\nhi\r\nMSG")?;
     let first = connection.peek_op(rt.alloc())?.ok_or("no message")?;
-    assert_eq!(rt; first.len, 15);
     connection.consume(first.len);
-    assert!(rt; connection.peek_op(rt.alloc())?.is_none());
+    assert_eq!(rt; connection.unread(), 0);
     Ok(())
 }
 
-// ---- writing
-
-fn subscribe(alloc: Global, queue_group: Option<Subject>) -> Result<ClientOp, NoMemory> {
-    Ok(ClientOp::Subscribe {
-        sid: 7,
-        subject: Subject::from_text(alloc, "FOO.BAR")?,
-        queue_group,
-    })
+#[test]
+fn bytes_that_are_no_text_are_a_fault(rt: HostRuntime) -> Result<(), Fail> {
+    let mut connection = fed(rt.alloc(), b"MSG a.\xff 1 2\r\nhi\r\n")?;
+    let read = connection.try_read_op(rt.alloc());
+    assert_eq!(rt; read.err(), Some(WireError::ReadFault));
+    Ok(())
 }
 
-fn publish(
-    alloc: Global,
-    payload: &str,
-    respond: Option<Subject>,
-    headers: Option<HeaderMap>,
-) -> Result<ClientOp, NoMemory> {
-    Ok(ClientOp::Publish {
-        subject: Subject::from_text(alloc, "FOO")?,
-        payload: Bytes::copy_from_slice(alloc, payload.as_bytes())?,
-        respond,
-        headers,
-    })
-}
-
-fn one_header(alloc: Global) -> Result<Option<HeaderMap>, Fail> {
+fn one_header(alloc: Global) -> Result<HeaderMap, Fail> {
     let mut headers = HeaderMap::new(alloc);
     headers.insert(alloc, "Header", "X")?;
-    Ok(Some(headers))
+    Ok(headers)
 }
 
-// The text of an operation.
-fn text_of(alloc: Global, op: &ClientOp) -> Result<Bytes, NoMemory> {
-    let mut connection = Connection::new(alloc);
-    connection.enqueue_write_op(alloc, op)?;
-    Ok(Bytes::copy_from_slice(alloc, connection.waiting())?)
+fn publish(respond: Option<Subject>, headers: Option<HeaderMap>) -> ClientOp {
+    ClientOp::Publish {
+        subject: Subject::from_static("FOO"),
+        payload: Bytes::from_static(b"hi"),
+        respond,
+        headers,
+    }
 }
 
-#[test]
-fn a_subscription_is_written_as_its_line(rt: HostRuntime) -> Result<(), Fail> {
-    let plain = text_of(rt.alloc(), &subscribe(rt.alloc(), None)?)?;
-    assert_eq!(rt; plain.as_slice(), b"SUB FOO.BAR 7\r\n".as_slice());
-    let group = Some(Subject::from_static("g"));
-    let grouped = text_of(rt.alloc(), &subscribe(rt.alloc(), group)?)?;
-    assert_eq!(rt; grouped.as_slice(), b"SUB FOO.BAR g 7\r\n".as_slice());
-    Ok(())
-}
-
-#[test]
-fn a_payload_is_written_behind_its_length(rt: HostRuntime) -> Result<(), Fail> {
-    let op = publish(
-        rt.alloc(),
-        "Hello NATS!",
-        None,
-        Some(HeaderMap::new(rt.alloc())),
-    )?;
-    let plain = text_of(rt.alloc(), &op)?;
-    assert_eq!(rt;
-        plain.as_slice(),
-        b"PUB FOO 11\r\nHello NATS!\r\n".as_slice()
-    );
-    let respond = Some(Subject::from_static("BAR.1"));
-    let op = publish(rt.alloc(), "a\r\nb", respond, one_header(rt.alloc())?)?;
-    let headed = text_of(rt.alloc(), &op)?;
-    assert_eq!(rt;
-        headed.as_slice(),
-        b"HPUB FOO BAR.1 23 27\r\nNATS/1.0\r\nHeader: X\r\n\r\na\r\nb\r\n".as_slice()
-    );
-    Ok(())
+fn subscribe(queue_group: Option<Subject>) -> ClientOp {
+    ClientOp::Subscribe {
+        sid: 7,
+        subject: Subject::from_static("FOO"),
+        queue_group,
+    }
 }
 
 #[test]
@@ -288,9 +134,11 @@ fn commands_are_written_in_order(rt: HostRuntime) -> Result<(), Fail> {
     let mut connection = Connection::new(rt.alloc());
     let ops = [
         ClientOp::Ping,
-        ClientOp::Unsubscribe { sid: 1, max: None },
+        subscribe(None),
+        subscribe(Some(Subject::from_static("g"))),
+        ClientOp::Unsubscribe { sid: 7, max: None },
         ClientOp::Unsubscribe {
-            sid: 1,
+            sid: 7,
             max: Some(3),
         },
         ClientOp::Pong,
@@ -298,7 +146,22 @@ fn commands_are_written_in_order(rt: HostRuntime) -> Result<(), Fail> {
     connection.enqueue_write_ops(rt.alloc(), &ops)?;
     assert_eq!(rt;
         connection.waiting(),
-        b"PING\r\nUNSUB 1\r\nUNSUB 1 3\r\nPONG\r\n".as_slice()
+        b"PING\r\nSUB FOO 7\r\nSUB FOO g 7\r\nUNSUB 7\r\nUNSUB 7 3\r\nPONG\r\n".as_slice()
+    );
+    Ok(())
+}
+
+#[test]
+fn a_payload_is_written_behind_its_length(rt: HostRuntime) -> Result<(), Fail> {
+    let mut connection = Connection::new(rt.alloc());
+    let ops = [
+        publish(None, Some(HeaderMap::new(rt.alloc()))),
+        publish(Some(Subject::from_static("r")), Some(one_header(rt.alloc())?)),
+    ];
+    connection.enqueue_write_ops(rt.alloc(), &ops)?;
+    assert_eq!(rt;
+        connection.waiting(),
+        b"PUB FOO 2\r\nhi\r\nHPUB FOO r 23 25\r\nNATS/1.0\r\nHeader: X\r\n\r\nhi\r\n".as_slice()
     );
     Ok(())
 }
@@ -306,7 +169,6 @@ fn commands_are_written_in_order(rt: HostRuntime) -> Result<(), Fail> {
 #[test]
 fn what_was_written_no_longer_waits(rt: HostRuntime) -> Result<(), Fail> {
     let mut connection = Connection::new(rt.alloc());
-    assert_eq!(rt; connection.pending_pieces(rt.alloc())?.len(), 0);
     connection.enqueue_write_op(rt.alloc(), &ClientOp::Ping)?;
     assert_eq!(rt; connection.pending(), 6);
     assert!(rt; !connection.is_write_buf_full());
@@ -323,7 +185,7 @@ fn a_message_can_be_copied(rt: HostRuntime) -> Result<(), Fail> {
         subject: Subject::from_static("FOO.BAR"),
         reply: None,
         payload: Bytes::from_static(b"hi"),
-        headers: one_header(rt.alloc())?,
+        headers: Some(one_header(rt.alloc())?),
     };
     assert_eq!(rt; message.copy(rt.alloc())?, message);
     Ok(())
