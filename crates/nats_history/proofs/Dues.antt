@@ -2,7 +2,7 @@
 use Rattle.std.proofs.Common.{◌≡◌, ℕ, zero, suc, ◌-◌, ◌≤◌, ◌<◌, Bool, true, false, cond, List, [], ◌∷◌, ◌++◌, length, nat_lt, Option, Some, None, refl, ◌∙◌, ap, subst, arith}
 use Rattle.std.proofs.lemmas.List.{length-drop}
 use Rattle.std.proofs.lemmas.Option.{none-some, same_Some}
-use Rattle.nats_wire.specs.Operations.{Operation, Front, got, unfinished, fault, front}
+use Rattle.nats_wire.specs.Operations.{Operation, Front, got, unfinished, fault, front, sight}
 use Rattle.nats_wire.proofs.Fronts.{front_takes, front_fits}
 use Rattle.nats_history.specs.declared.call.Call.{Call}
 use Rattle.nats_history.specs.declared.transcript.LinkWord.TheVariants as word
@@ -14,7 +14,7 @@ use Rattle.nats_history.specs.After.{after, after_all, due_steps_within, due_ste
 -- ---- each due step brings the end nearer
 
 nothing_there : front [] ≡ unfinished
-unfolding front
+unfolding front sight
 nothing_there = refl
 
 -- a fault needs bytes
