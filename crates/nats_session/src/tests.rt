@@ -1,6 +1,6 @@
 use crate::{
-    Bytes, Call, CallReply, Config, ConnectionHandler, Due, LinkWord, NoMemory, OutboundMessage,
-    RunError, ServerInfo, Subject, TakeReply, Token, Turn, run,
+    Bytes, Call, CallReply, Config, ConnectionHandler, Due, Event, HeaderMap, LinkWord, NoMemory,
+    OutboundMessage, RunError, ServerInfo, Subject, TakeReply, Token, Turn, run,
 };
 use std::alloc::Global;
 use std::process::Abort;
@@ -251,5 +251,215 @@ fn answered(
 #[test]
 fn a_ping_is_answered(rt: HostRuntime) -> Result<(), Fail> {
     answered(rt.alloc(), &rt, &mut session(rt.alloc(), &rt)?)?;
+    Ok(())
+}
+
+// ---- refusals
+
+fn word_of(reply: &CallReply) -> &'static str {
+    match reply {
+        CallReply::Accepted => "accepted",
+        CallReply::Numbered(_) => "numbered",
+        CallReply::InvalidSubject => "invalid-subject",
+        CallReply::InvalidQueueName => "invalid-queue-name",
+        CallReply::MaxPayloadExceeded { .. } => "max-payload",
+        CallReply::NoNumber => "no-number",
+        CallReply::Full => "full",
+    }
+}
+
+/// What a session answers to a publish.
+fn publish_word(
+    alloc: Global,
+    rt: &impl Abort,
+    skip: bool,
+    subject: &str,
+    reply: &str,
+) -> Result<&'static str, NoMemory> {
+    let mut config = settings(alloc, rt)?;
+    config.skip_subject_validation = skip;
+    let mut handler = ConnectionHandler::new(alloc, config)?;
+    let message = OutboundMessage {
+        subject: Subject::from_text(alloc, subject)?,
+        reply: Some(Subject::from_text(alloc, reply)?),
+        payload: Bytes::from_static(b"hi"),
+        headers: None,
+    };
+    Ok(word_of(&submit(
+        alloc,
+        rt,
+        &mut handler,
+        Call::Publish(message),
+    )?))
+}
+
+#[test]
+fn what_is_published_to_is_tested(rt: HostRuntime) -> Result<(), Fail> {
+    for (skip, subject, reply, word) in [
+        (false, "a", "r", "accepted"),
+        (false, "", "r", "invalid-subject"),
+        (false, "a\r\nPUB b 2", "r", "invalid-subject"),
+        (false, "a", "r r", "invalid-subject"),
+        (true, "a\r\nPUB b 2", "r r", "accepted"),
+        (true, "", "r", "invalid-subject"),
+        (true, "a", "", "invalid-subject"),
+    ] {
+        assert_eq!(rt; publish_word(rt.alloc(), &rt, skip, subject, reply)?, word);
+    }
+    Ok(())
+}
+
+/// What a session answers to a subscribe.
+fn subscribe_word(
+    alloc: Global,
+    rt: &impl Abort,
+    subject: &str,
+    group: &str,
+) -> Result<&'static str, NoMemory> {
+    let mut handler = session(alloc, rt)?;
+    let call = Call::Subscribe {
+        subject: Subject::from_text(alloc, subject)?,
+        queue_group: Some(Subject::from_text(alloc, group)?),
+    };
+    Ok(word_of(&submit(alloc, rt, &mut handler, call)?))
+}
+
+#[test]
+fn what_is_subscribed_to_is_tested(rt: HostRuntime) -> Result<(), Fail> {
+    for (subject, group, word) in [
+        ("a.*", "g", "numbered"),
+        (".a", "g h", "invalid-subject"),
+        ("a b", "g", "invalid-subject"),
+        ("a", "g h", "invalid-queue-name"),
+        ("a", "", "invalid-queue-name"),
+    ] {
+        assert_eq!(rt; subscribe_word(rt.alloc(), &rt, subject, group)?, word);
+    }
+    Ok(())
+}
+
+/// What a session whose server takes `max` bytes answers to a publish of 11 bytes with a header block of 23.
+fn sized(alloc: Global, rt: &impl Abort, max: u64) -> Result<CallReply, NoMemory> {
+    let mut handler = session(alloc, rt)?;
+    let mut info = ServerInfo::default(alloc);
+    info.max_payload = max;
+    assert!(rt; handler.check(&Turn::Up(info.copy(alloc)?)));
+    handler.up(alloc, info)?;
+    let mut headers = HeaderMap::new(alloc);
+    headers
+        .insert(alloc, "Header", "X")
+        .map_err(|_| NoMemory)?;
+    let message = OutboundMessage {
+        subject: Subject::from_text(alloc, "FOO.BAR")?,
+        reply: None,
+        payload: Bytes::from_static(b"Hello World"),
+        headers: Some(headers),
+    };
+    submit(alloc, rt, &mut handler, Call::Publish(message))
+}
+
+#[test]
+fn a_size_counts_the_header_block(rt: HostRuntime) -> Result<(), Fail> {
+    let exceeded = CallReply::MaxPayloadExceeded {
+        limit: 33,
+        size: 34,
+    };
+    assert_eq!(rt; sized(rt.alloc(), &rt, 33)?, exceeded);
+    assert_eq!(rt; sized(rt.alloc(), &rt, 34)?, CallReply::Accepted);
+    Ok(())
+}
+
+// ---- ends
+
+/// A call is accepted and handled.
+fn handled(
+    alloc: Global,
+    rt: &impl Abort,
+    handler: &mut ConnectionHandler,
+    call: Call,
+) -> Result<(), NoMemory> {
+    let reply = submit(alloc, rt, handler, call)?;
+    assert!(rt; matches!(reply, CallReply::Accepted));
+    assert!(rt; matches!(handler.advance(alloc)?, Due::Handled));
+    Ok(())
+}
+
+/// A message comes, and is read.
+fn read(
+    alloc: Global,
+    rt: &impl Abort,
+    handler: &mut ConnectionHandler,
+) -> Result<Due, NoMemory> {
+    piece(alloc, rt, handler, MESSAGE)?;
+    handler.advance(alloc)
+}
+
+fn unsubscribed(
+    alloc: Global,
+    rt: &impl Abort,
+    handler: &mut ConnectionHandler,
+) -> Result<(), NoMemory> {
+    subscribe_on(alloc, rt, handler)?;
+    assert!(rt; matches!(read(alloc, rt, handler)?, Due::Put(1)));
+    handled(alloc, rt, handler, Call::Unsubscribe(1))?;
+    assert_eq!(rt; handler.pending(), 24);
+    assert!(rt; matches!(read(alloc, rt, handler)?, Due::Read));
+    assert!(rt; matches!(take(rt, handler, 1), TakeReply::Message(_)));
+    assert!(rt; matches!(take(rt, handler, 1), TakeReply::Ended));
+    Ok(())
+}
+
+fn limited(
+    alloc: Global,
+    rt: &impl Abort,
+    handler: &mut ConnectionHandler,
+) -> Result<(), NoMemory> {
+    subscribe_on(alloc, rt, handler)?;
+    handled(alloc, rt, handler, Call::Limit(1, 1))?;
+    assert_eq!(rt; handler.pending(), 26);
+    assert!(rt; matches!(take(rt, handler, 1), TakeReply::Empty));
+    assert!(rt; matches!(read(alloc, rt, handler)?, Due::Put(1)));
+    assert!(rt; matches!(read(alloc, rt, handler)?, Due::Read));
+    Ok(())
+}
+
+fn let_go(
+    alloc: Global,
+    rt: &impl Abort,
+    handler: &mut ConnectionHandler,
+) -> Result<(), NoMemory> {
+    subscribe_on(alloc, rt, handler)?;
+    handled(alloc, rt, handler, Call::DropSub(1))?;
+    assert!(rt; !handler.check(&Turn::Take(1)));
+    assert!(rt; !handler.check(&Turn::Do(Call::DropSub(1))));
+    assert!(rt; matches!(read(alloc, rt, handler)?, Due::Read));
+    Ok(())
+}
+
+#[test]
+fn a_subscription_ends(rt: HostRuntime) -> Result<(), Fail> {
+    unsubscribed(rt.alloc(), &rt, &mut session(rt.alloc(), &rt)?)?;
+    limited(rt.alloc(), &rt, &mut session(rt.alloc(), &rt)?)?;
+    let_go(rt.alloc(), &rt, &mut session(rt.alloc(), &rt)?)?;
+    Ok(())
+}
+
+// ---- events
+
+fn last_event(alloc: Global, rt: &impl Abort, bytes: &'static [u8]) -> Result<Option<Event>, NoMemory> {
+    let mut handler = session(alloc, rt)?;
+    up(alloc, rt, &mut handler)?;
+    let _ = handler.next_event();
+    piece(alloc, rt, &mut handler, bytes)?;
+    handler.advance(alloc)?;
+    Ok(handler.next_event())
+}
+
+#[test]
+fn a_server_tells_of_itself(rt: HostRuntime) -> Result<(), Fail> {
+    let lame = last_event(rt.alloc(), &rt, b"INFO {\"ldm\":true}\r\n")?;
+    assert_eq!(rt; lame, Some(Event::LameDuckMode));
+    let error = last_event(rt.alloc(), &rt, b"-ERR 'x'\r\n")?;
+    assert!(rt; matches!(error, Some(Event::ServerError(_))));
     Ok(())
 }
