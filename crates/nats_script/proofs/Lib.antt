@@ -1,3 +1,4 @@
+mod Appends
 mod Cuts
 mod Numbering
 mod Scripts

@@ -100,12 +100,16 @@ sub_lines s row =
 abbrev pub event_line : ℕ × Event → List ℕ
 event_line (place, event) = placed (codes "event") place (spelled (event_text event))
 
+-- the greatest size that is taken, and the size that was met
+abbrev pub sizes_text : ℕ → ℕ → List ℕ
+sizes_text limit size = opening (codes "max-payload") limit ++ decimal size
+
 abbrev pub reply_text : CallReply → List ℕ
 reply_text Accepted = codes "accepted"
 reply_text (Numbered n) = codes "numbered " ++ decimal n
 reply_text InvalidSubject = codes "invalid-subject"
 reply_text InvalidQueueName = codes "invalid-queue-name"
-reply_text (MaxPayloadExceeded limit size) = codes "max-payload " ++ decimal limit ++ space ++ decimal size
+reply_text (MaxPayloadExceeded limit size) = sizes_text limit size
 reply_text NoNumber = codes "no-number"
 reply_text Full = codes "full"
 

@@ -52,8 +52,13 @@ mode_of field = if bytes_eq field (codes "check") then Some false else (if bytes
 
 abbrev pub config_with : Option ℕ → Option ℕ → Option Bool → Option (List ℕ) → Option (List ℕ) → Option Config
 config_with (Some clients) (Some messages) (Some skip) (Some prefix) (Some id) =
-    Some (record { client_capacity = clients; subscription_capacity = messages; skip_subject_validation = skip;
-      inbox_prefix = prefix; mux_id = id })
+    Some (record {
+      client_capacity = clients;
+      subscription_capacity = messages;
+      skip_subject_validation = skip;
+      inbox_prefix = prefix;
+      mux_id = id;
+    })
 config_with clients messages skip prefix id = None
 
 -- `config C S check P X` or `config C S skip P X`: client capacity, subscription capacity, inbox prefix, mux id

@@ -1,7 +1,7 @@
 //! Printing a transcript.
 ghost use Rattle.std.specs.Prelude.{◌≡◌, ◌++◌, IfOk, OnOk};
 ghost use Rattle.std.specs.List.{flat_map};
-ghost use Rattle.nats_script.specs.Printed.{lf, opening, number_or_absent, header_fields, value_count, headers_text, content_text, answer_text, message_text, placed, end_word, link_lines, put_line, drop_line, take_text, take_line, sub_lines, event_line, reply_text, call_line, numbered, printed};
+ghost use Rattle.nats_script.specs.Printed.{lf, opening, number_or_absent, header_fields, value_count, headers_text, content_text, answer_text, message_text, placed, end_word, link_lines, put_line, drop_line, take_text, take_line, sub_lines, event_line, sizes_text, reply_text, call_line, numbered, printed};
 ghost use Rattle.nats_script.specs.Spelling.{spelled, spelled_or_absent};
 ghost use Rattle.nats_names.specs.Events.{event_text};
 
@@ -263,6 +263,13 @@ fn push_events(alloc: Global, out: &mut Vec<u8>, events: &[(u64, Event)]) -> Res
     Ok(())
 }
 
+fn push_sizes(out: &mut Vec<u8>, limit: u64, size: u64) -> Result<(), NoMemory>
+    ensures { OnOk result (out.new.items ≡ out.old.items ++ sizes_text limit size) }
+{
+    open_line(out, b"max-payload", limit)?;
+    push_number(out, size)
+}
+
 fn push_reply(out: &mut Vec<u8>, reply: &CallReply) -> Result<(), NoMemory>
     ensures { OnOk result (out.new.items ≡ out.old.items ++ reply_text reply.now) }
 {
@@ -274,12 +281,7 @@ fn push_reply(out: &mut Vec<u8>, reply: &CallReply) -> Result<(), NoMemory>
         }
         CallReply::InvalidSubject => out.extend_from_slice(b"invalid-subject")?,
         CallReply::InvalidQueueName => out.extend_from_slice(b"invalid-queue-name")?,
-        CallReply::MaxPayloadExceeded { limit, size } => {
-            out.extend_from_slice(b"max-payload ")?;
-            push_number(out, *limit)?;
-            out.push(b' ')?;
-            push_number(out, *size)?;
-        }
+        CallReply::MaxPayloadExceeded { limit, size } => push_sizes(out, *limit, *size)?,
         CallReply::NoNumber => out.extend_from_slice(b"no-number")?,
         CallReply::Full => out.extend_from_slice(b"full")?,
     }

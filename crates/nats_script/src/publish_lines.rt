@@ -122,7 +122,7 @@ struct FrontFields<'a> {
 fn front_fields(fields: Option<&[u8]>) -> Option<FrontFields<'_>>
     ensures { MatchOption result (hpub_of (parts_behind 32 (option_copied fields.entry)) ≡ None)
         (λ f. parts_behind 32 (option_copied fields.entry)
-            ≡ f.subject.now ∷ f.reply.now ∷ f.payload.now ∷ parts_behind 32 (option_copied f.pairs)) }
+        ≡ f.subject.now ∷ f.reply.now ∷ f.payload.now ∷ parts_behind 32 (option_copied f.pairs)) }
 {
     let (subject, rest) = cut(fields?, b' ');
     let (reply, rest) = cut(rest?, b' ');

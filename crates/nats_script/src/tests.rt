@@ -39,7 +39,10 @@ fn the_first_line_in_no_form_is_found(rt: HostRuntime) -> Result<(), Fail> {
         ("config 2048 65536 check %FF MUX1\n", 1),
         ("config 2048 65536 check _INBOX MUX-1\n", 1),
         ("config 0 18446744073709551615 skip _INBOX MUX1", 0),
-        ("config 1 1 check P X\ntake 7\nwrite 0\npiece %\nup 0\nup 7\nsub a..b ~\n", 0),
+        (
+            "config 1 1 check P X\ntake 7\nwrite 0\npiece %\nup 0\nup 7\nsub a..b ~\n",
+            0,
+        ),
         ("config 1 1 check P X\nup 01\n", 2),
         ("config 1 1 check P X\nup 1\n\nup 1\n", 3),
         ("config 1 1 check P X\nopen {\n", 2),
@@ -75,7 +78,10 @@ fn values_under_k(alloc: Global, line: &str) -> Result<Option<usize>, NoMemory> 
 
 #[test]
 fn headers_are_read_in_pairs(rt: HostRuntime) -> Result<(), Fail> {
-    assert_eq!(rt; values_under_k(rt.alloc(), "hpub a r x K v L w K %20")?, Some(2));
+    assert_eq!(rt;
+        values_under_k(rt.alloc(), "hpub a r x K v L w K %20")?,
+        Some(2)
+    );
     assert_eq!(rt; values_under_k(rt.alloc(), "hpub a ~ x")?, Some(0));
     assert_eq!(rt; values_under_k(rt.alloc(), "pub a ~ x")?, None);
     Ok(())
@@ -97,7 +103,10 @@ fn max_payload(alloc: Global, line: &str) -> Result<Option<u64>, NoMemory> {
 fn turns_are_read(rt: HostRuntime) -> Result<(), Fail> {
     assert!(rt; is_limit(rt.alloc(), "limit 3 5")?);
     assert_eq!(rt; max_payload(rt.alloc(), "up 33")?, Some(33));
-    assert_eq!(rt; max_payload(rt.alloc(), "open {\"max_payload\":34}")?, Some(34));
+    assert_eq!(rt;
+        max_payload(rt.alloc(), "open {\"max_payload\":34}")?,
+        Some(34)
+    );
     Ok(())
 }
 

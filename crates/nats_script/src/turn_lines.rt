@@ -6,7 +6,9 @@ ghost use Rattle.nats_script.specs.Script.{fields_of, only, mode_of, config_with
 ghost use Rattle.nats_script.specs.Cut.{parts_behind};
 
 use crate::cut::{cut, only};
-use crate::fields::{bytes_field, field_bytes, field_number, field_optional, field_text, field_token};
+use crate::fields::{
+    bytes_field, field_bytes, field_number, field_optional, field_text, field_token,
+};
 use crate::publish_lines::{hpub_of, pub_of};
 use nats_history::{Call, Config, ServerInfo, Turn};
 use nats_info::{InfoError, read_info};
@@ -176,7 +178,7 @@ fn open_of(alloc: Global, fields: Option<&[u8]>) -> Result<Option<Turn>, NoMemor
 fn two(fields: Option<&[u8]>) -> Option<(&[u8], &[u8])>
     ensures { MatchOption result
         ((sub_of (parts_behind 32 (option_copied fields.entry)) ≡ None)
-            × (limit_of (parts_behind 32 (option_copied fields.entry)) ≡ None))
+        × (limit_of (parts_behind 32 (option_copied fields.entry)) ≡ None))
         (λ f. parts_behind 32 (option_copied fields.entry) ≡ f.0.now ∷ f.1.now ∷ []) }
 {
     let (first, rest) = cut(fields?, b' ');
