@@ -49,7 +49,11 @@ fn a_line_is_a_name_and_a_value(rt: HostRuntime) -> Result<(), Fail> {
     for (lines, name, value) in [
         ("Header: X\r\n\r\n", "Header", "X"),
         ("A: 1\r\nB:b\r\nA:2 \r\n\r\n", "A", "2"),
-        ("A: 1\r\n  2\r\n\u{2003}3 \r\nB: x\r\n", "A", "1  2\u{2003}3"),
+        (
+            "A: 1\r\n  2\r\n\u{2003}3 \r\nB: x\r\n",
+            "A",
+            "1  2\u{2003}3",
+        ),
         ("A:\r\n\r\nB: x", "B", "x"),
         ("A:\r\n 1\r\n", "A", " 1"),
         ("A:b:c\n", "A", "b:c"),
@@ -86,8 +90,14 @@ fn other_blocks_are_malformed(rt: HostRuntime) -> Result<(), Fail> {
         "NATS/1.0\r\nA: x\r\n\r\n B: y\r\n",
         "NATS/1.0\r\n\u{e4}: x\r\n\r\n",
     ] {
-        assert_eq!(rt; fault(rt.alloc(), text.as_bytes()), Some(BlockError::Malformed));
+        assert_eq!(rt;
+            fault(rt.alloc(), text.as_bytes()),
+            Some(BlockError::Malformed)
+        );
     }
-    assert_eq!(rt; fault(rt.alloc(), b"NATS/1.0\r\nA: \xff\r\n"), Some(BlockError::Malformed));
+    assert_eq!(rt;
+        fault(rt.alloc(), b"NATS/1.0\r\nA: \xff\r\n"),
+        Some(BlockError::Malformed)
+    );
     Ok(())
 }

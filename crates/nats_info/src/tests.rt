@@ -4,26 +4,61 @@ use std::alloc::Global;
 use std::test::Fail;
 
 const LINE: &str =
-    r#" {"server_id":"NDQ","server_name":"n1","version":"2.10.18","proto":1,"go":"go1.22.5","host":"0.0.0.0","port":4222,"headers":true,"auth_required":true,"tls_required":false,"max_payload":1048576,"jetstream":true,"client_id":5,"client_ip":"127.0.0.1","nonce":"abc","connect_urls":["10.0.0.1:4222","10.0.0.2:4222"],"cluster":"c1","domain":null,"ldm":true,"xkey":{"a":[1.5,null]}} "#;
+    r#" {"server_id":"NDQ","server_name":"n1","version":"2.10.18","proto":1,"go":"go1.22.5","host":"0.0.0.0","port":4222,"headers":true,"auth_required":true,"tls_required":false,"max_payload":1048576,"jetstream":true,"client_id":5,"client_ip":"127.0.0.1","nonce":"abc","connect_urls":["a:1","b:2"],"cluster":"c1","domain":null,"ldm":true,"xkey":{"a":[1.5,null]}} "#;
+
+const SHOWN: &str =
+    r#"NDQ n1 2.10.18 go1.22.5 0.0.0.0 abc 127.0.0.1 (4222, 1, 1048576, 5) (true, false, true, true) (true, [Text { text: "a:1" }, Text { text: "b:2" }], Some(Text { text: "c1" }), None)"#;
+
+fn shown(alloc: Global, info: &ServerInfo) -> Result<String, InfoError> {
+    let ids = format!(in alloc;
+        "{} {} {} {} {} {} {}",
+        info.server_id,
+        info.server_name,
+        info.version,
+        info.go,
+        info.host,
+        info.nonce,
+        info.client_ip
+    );
+    let ids = ids.map_err(|_| InfoError::NoMemory)?;
+    let numbers = (info.port, info.proto, info.max_payload, info.client_id);
+    let switches = (
+        info.auth_required,
+        info.tls_required,
+        info.headers,
+        info.jetstream,
+    );
+    let others = (
+        info.lame_duck_mode,
+        &info.connect_urls,
+        &info.cluster,
+        &info.domain,
+    );
+    let text = format!(in alloc; "{ids} {numbers:?} {switches:?} {others:?}");
+    text.map_err(|_| InfoError::NoMemory)
+}
+
+fn reads_as(alloc: Global, text: &str) -> Result<String, InfoError> {
+    let info = read_info(alloc, text.as_bytes())?;
+    shown(alloc, &info)
+}
+
+fn copies_as(alloc: Global, text: &str) -> Result<String, InfoError> {
+    let info = read_info(alloc, text.as_bytes())?;
+    let copy = info.copy(alloc)?;
+    shown(alloc, &copy)
+}
+
+fn is_default(alloc: Global, text: &str) -> Result<bool, InfoError> {
+    let info = read_info(alloc, text.as_bytes())?;
+    Ok(info == ServerInfo::default(alloc))
+}
 
 #[test]
 fn the_line_of_a_server_is_read(rt: HostRuntime) -> Result<(), Fail> {
-    let info = read_info(rt.alloc(), LINE.as_bytes())?;
-    assert_eq!(rt; info.server_id.as_str(), "NDQ");
-    assert_eq!(rt; info.server_name.as_str(), "n1");
-    assert_eq!(rt; info.version.as_str(), "2.10.18");
-    assert_eq!(rt; info.go.as_str(), "go1.22.5");
-    assert_eq!(rt; info.host.as_str(), "0.0.0.0");
-    assert_eq!(rt; info.nonce.as_str(), "abc");
-    assert_eq!(rt; info.client_ip.as_str(), "127.0.0.1");
-    assert_eq!(rt; (info.port, info.proto), (4222, 1));
-    assert_eq!(rt; (info.max_payload, info.client_id), (1_048_576, 5));
-    assert!(rt; info.headers && info.auth_required && info.jetstream);
-    assert!(rt; info.lame_duck_mode && !info.tls_required);
-    assert_eq!(rt; info.connect_urls.as_slice().len(), 2);
-    assert!(rt; info.cluster.is_some() && info.domain.is_none());
-    let copy = info.copy(rt.alloc())?;
-    assert!(rt; copy == info);
+    assert_eq!(rt; reads_as(rt.alloc(), LINE)?.as_str(), SHOWN);
+    assert_eq!(rt; copies_as(rt.alloc(), LINE)?.as_str(), SHOWN);
+    assert!(rt; is_default(rt.alloc(), "{}")?);
     Ok(())
 }
 
@@ -33,9 +68,7 @@ fn port_of(alloc: Global, text: &str) -> Result<u16, InfoError> {
 }
 
 #[test]
-fn a_missing_field_has_its_default_and_the_last_of_two_counts(rt: HostRuntime) -> Result<(), Fail> {
-    let empty = read_info(rt.alloc(), b"{}")?;
-    assert!(rt; empty == ServerInfo::default(rt.alloc()));
+fn the_last_of_two_fields_counts(rt: HostRuntime) -> Result<(), Fail> {
     for (text, port) in [
         (r#"{"port":65535}"#, 65535),
         (r#"{"port":1,"port":2}"#, 2),
