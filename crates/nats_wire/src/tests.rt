@@ -40,10 +40,15 @@ fn told_message(alloc: Global, sid: u64, message: &Message) -> Result<String, No
     let reply = message.reply.as_ref().map_or("-", |reply| reply.as_str());
     let payload = str::from_utf8(message.payload.as_slice()).unwrap_or("");
     let status = message.status.map_or(0, |status| status.as_u16());
-    let description = message.description.as_ref().map_or("-", |text| text.as_str());
+    let description = message
+        .description
+        .as_ref()
+        .map_or("-", |text| text.as_str());
     let header = header_of(message);
     let length = message.length;
-    Ok(format!(in alloc; "{sid} {subject} {reply} {payload} {length} {status} {description} {header}")?)
+    Ok(format!(in alloc;
+        "{sid} {subject} {reply} {payload} {length} {status} {description} {header}"
+    )?)
 }
 
 fn told(alloc: Global, op: &ServerOp) -> Result<String, NoMemory> {
@@ -156,7 +161,10 @@ fn a_payload_is_written_behind_its_length(rt: HostRuntime) -> Result<(), Fail> {
     let mut connection = Connection::new(rt.alloc());
     let ops = [
         publish(None, Some(HeaderMap::new(rt.alloc()))),
-        publish(Some(Subject::from_static("r")), Some(one_header(rt.alloc())?)),
+        publish(
+            Some(Subject::from_static("r")),
+            Some(one_header(rt.alloc())?),
+        ),
     ];
     connection.enqueue_write_ops(rt.alloc(), &ops)?;
     assert_eq!(rt;
