@@ -1,6 +1,2 @@
-mod Cuts
-mod Numbering
 mod Outcomes
-mod Scripts
-mod Spelled
 mod Transfers

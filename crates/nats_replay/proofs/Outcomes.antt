@@ -1,14 +1,16 @@
 -- From what was read to what it comes to; and the words that play a script.
-use Rattle.std.proofs.Common.{◌≡◌, ℕ, ◌<◌, ◌≤◌, Bool, true, false, List, [], ◌∷◌, length, get_or, map, Option, Some, None, Result, Ok, Err, sym, ap, subst, ◌∙◌, arith}
-use Rattle.std.specs.Prelude.{◌≢◌, IfSome, MatchBool, codes}
-use Rattle.std.specs.Global.{Vec}
+use Rattle.std.proofs.Common.{inl, refl, ◌≡◌, ℕ, ◌<◌, ◌≤◌, Bool, true, false, List, [], ◌∷◌, length, get_or, map, Option, Some, None, Result, Ok, Err, sym, ap, subst, ◌∙◌, arith}
+use Rattle.std.specs.Prelude.{◌≢◌, ◌⊎◌, IfSome, MatchBool, codes}
 use Rattle.std.specs.Str.{bytes_eq}
 use Rattle.std.proofs.lemmas.Slice.Eq.{bytes_eq-Decides}
 use Rattle.nats_replay.specs.declared.top.Refusal.{Refusal}
-use Rattle.nats_replay.specs.declared.top.Refusal.TheVariants.{ReadFault, Unreadable, OutOfTurn, NoMemory, TooLong}
+use Rattle.nats_replay.specs.declared.top.Refusal.TheVariants.{ReadFault, NoMemory, TooLong}
+use Rattle.nats_replay.specs.declared.top.Output.{Output}
 use Rattle.nats_replay.specs.Outside.{Rose, Tally}
-use Rattle.nats_replay.specs.Words.{run_words, IsTranscript, IsUnreadable, IsOutOfTurn}
-use Rattle.nats_replay.specs.Played.{Comes, Whole, Played}
+use Rattle.nats_replay.specs.declared.top.Ending.{Ending}
+use Rattle.nats_replay.specs.declared.top.Ending.TheVariants.{Transcript, Unreadable, OutOfTurn}
+use Rattle.nats_replay.specs.Words.{run_words, Prints, IsPlayable}
+use Rattle.nats_replay.specs.Played.{Comes, Whole, Played, status_of_ending}
 use Rattle.nats_replay.specs.declared.whole.TheConstants.{SCRIPT_LIMIT}
 
 -- what is so of the bytes that were read is so of those that were held
@@ -24,13 +26,24 @@ whole_is held before after bytes Is read h =
     (held_is held bytes Is read.0 h, held_is held bytes (λ b. length b ≤ SCRIPT_LIMIT) read.0 read.1, read.2)
 
 -- what the bytes that were read come to is what the source's bytes come to
-pub played : (held : Option (List ℕ)) (before after : Tally) (bytes : List ℕ) (r : Result (Vec ℕ) Refusal) → Parts held before after bytes → Comes bytes r → Played held before after r
-played held before after bytes (Ok text) read h = whole_is held before after bytes (λ b. IsTranscript b text.items) read h
-played held before after bytes (Err Unreadable) read h = whole_is held before after bytes IsUnreadable read h
-played held before after bytes (Err OutOfTurn) read h = whole_is held before after bytes IsOutOfTurn read h
+pub played : (held : Option (List ℕ)) (before after : Tally) (bytes : List ℕ) (r : Result Output Refusal) → Parts held before after bytes
+    → Comes bytes r → Played held before after r
+played held before after bytes (Ok output) read h = whole_is held before after bytes (λ b. Prints output.ending b output.text.items) read h
 played held before after bytes (Err NoMemory) read h = tt
 played held before after bytes (Err ReadFault) read h = absurd h
 played held before after bytes (Err TooLong) read h = absurd h
+
+-- a script that can be played ends with its transcript
+plays_out : (ending : Ending) (bytes text : List ℕ) → Prints ending bytes text → IsPlayable bytes → status_of_ending ending ≡ 0
+plays_out Transcript bytes text prints playable = refl
+plays_out Unreadable bytes text (line, bad, is) (short, config, turns, good, none) = absurd (cc)
+plays_out OutOfTurn bytes text (config, turns, place, good, out, is) (short, config', turns', good', none) = absurd (cc)
+
+-- so does one that a source held
+pub completes : (A B : Type 0) (held : Option (List ℕ)) (ending : Ending) (text : List ℕ) (status : ℕ) → status ≡ status_of_ending ending
+    → IfSome held (λ bytes. Prints ending bytes text) → IfSome held (λ bytes. IsPlayable bytes → A → B → (status ≡ 0) ⊎ (status ≡ 7))
+completes A B None ending text status is prints = tt
+completes A B (Some bytes) ending text status is prints = λ playable a b. inl (is ∙ plays_out ending bytes text prints playable)
 
 -- ---- words
 

@@ -1,10 +1,6 @@
 pub mod Adapters
-pub mod Cut
 pub mod Memory
 pub mod Outside
 pub mod Played
-pub mod Printed
-pub mod Script
-pub mod Spelling
 pub mod Whole
 pub mod Words

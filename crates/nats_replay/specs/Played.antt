@@ -1,17 +1,17 @@
 -- What playing the bytes of a script answers.
 use Rattle.std.specs.Prelude.{suc, ℕ, ◌<◌, ◌≤◌, List, length, Option, IfSome, Result, Ok, Err}
-use Rattle.std.specs.Global.{Vec}
+use Rattle.nats_replay.specs.declared.top.Ending.{Ending}
+use Rattle.nats_replay.specs.declared.top.Ending.TheVariants.{Transcript, Unreadable, OutOfTurn}
+use Rattle.nats_replay.specs.declared.top.Output.{Output}
 use Rattle.nats_replay.specs.declared.top.Refusal.{Refusal}
-use Rattle.nats_replay.specs.declared.top.Refusal.TheVariants.{ReadFault, Unreadable, OutOfTurn, NoMemory, TooLong}
+use Rattle.nats_replay.specs.declared.top.Refusal.TheVariants.{ReadFault, NoMemory, TooLong}
 use Rattle.nats_replay.specs.Outside.{Rose, RoseBy, Tally}
-use Rattle.nats_replay.specs.Words.{IsTranscript, IsUnreadable, IsOutOfTurn}
+use Rattle.nats_replay.specs.Words.{Prints}
 use Rattle.nats_replay.specs.declared.whole.TheConstants.{SCRIPT_LIMIT}
 
--- the printed transcript of what bytes spell, or why they have none
-abbrev pub Comes : List ℕ → Result (Vec ℕ) Refusal → Type 0
-Comes bytes (Ok text) = IsTranscript bytes text.items
-Comes bytes (Err Unreadable) = IsUnreadable bytes
-Comes bytes (Err OutOfTurn) = IsOutOfTurn bytes
+-- what the bytes of a script print, or why they print nothing
+abbrev pub Comes : List ℕ → Result Output Refusal → Type 0
+Comes bytes (Ok output) = Prints output.ending bytes output.text.items
 Comes bytes (Err NoMemory) = Unit {0}
 Comes bytes (Err ReadFault) = ⊥
 Comes bytes (Err TooLong) = ⊥
@@ -20,19 +20,21 @@ Comes bytes (Err TooLong) = ⊥
 abbrev pub Whole : Option (List ℕ) → Tally → Tally → (List ℕ → Type 0) → Type 0
 Whole held before after Is = IfSome held Is × IfSome held (λ bytes. length bytes ≤ SCRIPT_LIMIT) × Rose before.ends after.ends
 
--- the printed transcript of what a source held, or why there is none
-abbrev pub Played : Option (List ℕ) → Tally → Tally → Result (Vec ℕ) Refusal → Type 0
-Played held before after (Ok text) = Whole held before after (λ bytes. IsTranscript bytes text.items)
-Played held before after (Err Unreadable) = Whole held before after IsUnreadable
-Played held before after (Err OutOfTurn) = Whole held before after IsOutOfTurn
+-- what the script that a source held prints, or why it prints nothing
+abbrev pub Played : Option (List ℕ) → Tally → Tally → Result Output Refusal → Type 0
+Played held before after (Ok output) = Whole held before after (λ bytes. Prints output.ending bytes output.text.items)
 Played held before after (Err NoMemory) = Unit {0}
 Played held before after (Err ReadFault) = Rose before.faults after.faults
 Played held before after (Err TooLong) = IfSome held (λ bytes. SCRIPT_LIMIT < length bytes) × RoseBy (suc SCRIPT_LIMIT) before.given after.given
 
+-- the status of an ending
+abbrev pub status_of_ending : Ending → ℕ
+status_of_ending Transcript = 0
+status_of_ending Unreadable = 5
+status_of_ending OutOfTurn = 6
+
 -- the status of a refusal
 abbrev pub status_of : Refusal → ℕ
 status_of ReadFault = 3
-status_of Unreadable = 5
-status_of OutOfTurn = 6
 status_of NoMemory = 7
 status_of TooLong = 8

@@ -1,13 +1,16 @@
 -- The words of the command line, and what each status says of the bytes that were read.
-use Rattle.std.specs.Prelude.{◌≡◌, ℕ, Bool, ◌==◌, ◌∷◌, [], List, Some, None, length, ◌≤◌, codes}
+use Rattle.std.specs.Prelude.{◌≡◌, ℕ, Bool, ◌==◌, ◌∷◌, ◌++◌, [], List, Some, None, length, ◌≤◌, codes}
+use Rattle.std.specs.Fmt.{decimal}
 use Rattle.std.specs.List.{list_any}
 use Rattle.nats_history.specs.declared.config.Config.{Config}
 use Rattle.nats_history.specs.declared.turn.Turn.{Turn}
 use Rattle.nats_history.specs.Schedule.{out_of_turn}
 use Rattle.nats_history.specs.Transcripts.{transcript}
-use Rattle.nats_replay.specs.declared.script.Script.TheVariants.{Good, Bad}
-use Rattle.nats_replay.specs.Printed.{printed}
-use Rattle.nats_replay.specs.Script.{script}
+use Rattle.nats_script.specs.declared.script.Script.TheVariants.{Good, Bad}
+use Rattle.nats_replay.specs.declared.top.Ending.{Ending}
+use Rattle.nats_replay.specs.declared.top.Ending.TheVariants.{Transcript, Unreadable, OutOfTurn}
+use Rattle.nats_script.specs.Printed.{lf, printed}
+use Rattle.nats_script.specs.Script.{script}
 use Rattle.nats_replay.specs.declared.whole.TheConstants.{SCRIPT_LIMIT}
 
 -- the words that play a script: the one word `run`
@@ -22,19 +25,33 @@ unknown_command = codes "unknown command\n"
 abbrev pub is_status : ℕ → Bool
 is_status n = list_any (λ status. status == n) (0 ∷ 2 ∷ 3 ∷ 4 ∷ 5 ∷ 6 ∷ 7 ∷ 8 ∷ [])
 
+-- what is printed of a script whose first line that cannot be read is line k
+abbrev pub unreadable_text : ℕ → List ℕ
+unreadable_text k = codes "script line " ++ decimal k ++ lf
+
+-- what is printed of a script whose first turn that may not come where it stands is turn k
+abbrev pub out_of_turn_text : ℕ → List ℕ
+out_of_turn_text k = codes "turn " ++ decimal k ++ codes " out of turn" ++ lf
+
 -- bytes spell settings and turns that may come where they stand, and the text is their printed transcript
 abbrev pub IsTranscript : List ℕ → List ℕ → Type 0
 IsTranscript bytes text = (config : Config) × (turns : List Turn)
     × (script bytes ≡ Good config turns) × (out_of_turn config turns ≡ None) × (text ≡ printed (transcript config turns))
 
--- bytes have a first line that cannot be read
-abbrev pub IsUnreadable : List ℕ → Type 0
-IsUnreadable bytes = (line : ℕ) × (script bytes ≡ Bad line)
+-- bytes have a first line that cannot be read, and the text names it
+abbrev pub IsUnreadable : List ℕ → List ℕ → Type 0
+IsUnreadable bytes text = (line : ℕ) × (script bytes ≡ Bad line) × (text ≡ unreadable_text line)
 
--- bytes spell settings and turns, and some turn may not come where it stands
-abbrev pub IsOutOfTurn : List ℕ → Type 0
-IsOutOfTurn bytes = (config : Config) × (turns : List Turn) × (place : ℕ)
-    × (script bytes ≡ Good config turns) × (out_of_turn config turns ≡ Some place)
+-- bytes spell settings and turns, and the text names the first turn that may not come where it stands
+abbrev pub IsOutOfTurn : List ℕ → List ℕ → Type 0
+IsOutOfTurn bytes text = (config : Config) × (turns : List Turn) × (place : ℕ)
+    × (script bytes ≡ Good config turns) × (out_of_turn config turns ≡ Some place) × (text ≡ out_of_turn_text place)
+
+-- the text is what a script with this ending prints
+abbrev pub Prints : Ending → List ℕ → List ℕ → Type 0
+Prints Transcript bytes text = IsTranscript bytes text
+Prints Unreadable bytes text = IsUnreadable bytes text
+Prints OutOfTurn bytes text = IsOutOfTurn bytes text
 
 -- bytes are no more than a script may have, and spell settings and turns that may come where they stand
 abbrev pub IsPlayable : List ℕ → Type 0

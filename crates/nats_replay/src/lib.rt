@@ -1,25 +1,16 @@
 //! Playing a script: reading its bytes from a source, playing its turns, printing their transcript into a sink.
 #![tactic(auto)]
 
-mod cut;
-mod fields;
 mod memory;
 mod outside;
-mod print;
-mod read;
-mod script;
-mod spelling;
 mod top;
-mod turn_lines;
 mod whole;
 
 pub use memory::{Failing, MemorySink, MemorySource};
 pub use nats_names::{Failed, NoMemory};
+pub use nats_script::{Script, print_transcript, read_script};
 pub use nats_session::{Config, RunError, Seq, Transcript, Turn};
 pub use outside::{Reading, Sink, Source, Writing};
-pub use print::print_transcript;
-pub use read::read_script;
-pub use script::Script;
 pub use top::{NO_MEMORY, WRITE_FAULT, replay};
 pub use whole::SCRIPT_LIMIT;
 

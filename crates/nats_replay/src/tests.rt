@@ -1,8 +1,6 @@
 ghost use Rattle.std.specs.Prelude.{◌<◌};
 
 use super::*;
-use nats_names::{Bytes, Event, Seq, Subject};
-use nats_session::{CallReply, LinkRow, LinkWord, Message, SubRow, TakeReply, Transcript};
 use std::alloc::Global;
 use std::io;
 use std::io::Read;
@@ -57,7 +55,7 @@ fn a_turn_out_of_turn_is_refused(rt: HostRuntime) -> Result<(), Fail> {
     let text = "config 2048 65536 check _INBOX MUX1\nup 1048576\nsub a ~\npiece a%0D%0A\npiece a\n";
     let (status, sink) = played(rt.alloc(), text)?;
     assert_eq!(rt; status, 6);
-    assert!(rt; sink.bytes().is_empty());
+    assert_eq!(rt; sink.bytes(), b"turn 4 out of turn\n".as_slice());
     Ok(())
 }
 
@@ -66,15 +64,15 @@ fn a_second_link_is_out_of_turn(rt: HostRuntime) -> Result<(), Fail> {
     let text = "config 2048 65536 check P X\nup 1048576\nup 1048576\n";
     let (status, sink) = played(rt.alloc(), text)?;
     assert_eq!(rt; status, 6);
-    assert!(rt; sink.bytes().is_empty());
+    assert_eq!(rt; sink.bytes(), b"turn 2 out of turn\n".as_slice());
     Ok(())
 }
 
 #[test]
-fn a_line_in_no_form_prints_nothing(rt: HostRuntime) -> Result<(), Fail> {
+fn the_first_line_in_no_form_is_named(rt: HostRuntime) -> Result<(), Fail> {
     let (status, sink) = played(rt.alloc(), "config 2048 65536 check P X\nbogus\n")?;
     assert_eq!(rt; status, 5);
-    assert!(rt; sink.bytes().is_empty());
+    assert_eq!(rt; sink.bytes(), b"script line 2\n".as_slice());
     Ok(())
 }
 
@@ -224,7 +222,6 @@ fn a_script_that_is_too_long_is_refused(rt: HostRuntime) -> Result<(), Fail> {
         let mut sink = MemorySink::new(rt.alloc(), 65_536);
         let status = replay(rt.alloc(), words.as_slice(), &mut source, &mut sink);
         assert_eq!(rt; status, want, "at {length} bytes");
-        assert!(rt; sink.bytes().is_empty());
     }
     Ok(())
 }
@@ -242,129 +239,5 @@ fn other_words_are_called_unknown(rt: HostRuntime) -> Result<(), Fail> {
     let mut none = source(rt.alloc(), SCRIPT, 65_536)?;
     let mut sink = Writing::new(Vec::new(rt.alloc()));
     assert_eq!(rt; replay(rt.alloc(), &[], &mut none, &mut sink), 2);
-    Ok(())
-}
-
-#[test]
-fn settings_in_no_form_are_found(rt: HostRuntime) -> Result<(), Fail> {
-    let table = [
-        "",
-        "\n",
-        "up 1048576\n",
-        "config 2048 check _INBOX MUX1\n",
-        "config 2048 65536 skip _INBOX MUX1\n",
-        "config 2048 65536 check %FF MUX1\n",
-        "config 2048 65536 check _INBOX MUX-1\n",
-    ];
-    for text in table {
-        let read = read_script(rt.alloc(), text.as_bytes())?;
-        assert!(rt; matches!(read, Script::Bad(1)), "{text:?}");
-    }
-    Ok(())
-}
-
-#[test]
-fn the_first_line_in_no_form_is_found(rt: HostRuntime) -> Result<(), Fail> {
-    let table = [
-        "up 5",
-        "up 01048576",
-        "sub a..b ~",
-        "sub a q",
-        "pub a q x",
-        "pub %20 ~ x",
-        "piece %0d",
-        "piece %41",
-        "piece",
-        "",
-        "write  1",
-        "write 18446744073709551616",
-        "take 1 ",
-    ];
-    for line in table {
-        let mut text = String::from_str(
-            rt.alloc(),
-            "config 2048 65536 check _INBOX MUX1\nup 1048576\n",
-        )?;
-        text.push_str(line)?;
-        text.push_str("\nwrite 1\nbogus\n")?;
-        let read = read_script(rt.alloc(), text.as_bytes())?;
-        assert!(rt; matches!(read, Script::Bad(3)), "{line:?}");
-    }
-    Ok(())
-}
-
-#[test]
-fn turns_are_read_in_any_order(rt: HostRuntime) -> Result<(), Fail> {
-    let table = [
-        ("config 2048 65536 check _INBOX MUX1\n", 2048, 65_536, 0),
-        ("config 3 2 check _INBOX MUX1", 3, 2, 0),
-        (
-            "config 0 18446744073709551615 check _INBOX MUX1\nup 1048576\n",
-            0,
-            u64::MAX,
-            1,
-        ),
-        (
-            "config 1 1 check _INBOX MUX1\nsub a ~\nsub a.* ~\n",
-            1,
-            1,
-            2,
-        ),
-        (
-            "config 2 3 check _INBOX MUX1\ntake 7\nwrite 0\npiece %\nup 1048576\nup 1048576\n",
-            2,
-            3,
-            5,
-        ),
-    ];
-    for (text, clients, messages, count) in table {
-        let Script::Good { config, turns } = read_script(rt.alloc(), text.as_bytes())? else {
-            panic!(rt; "{text:?} has a line in no form");
-        };
-        assert_eq!(rt; config.client_capacity, clients, "{text:?}");
-        assert_eq!(rt; config.subscription_capacity, messages, "{text:?}");
-        assert_eq!(rt; turns.as_slice().len(), count, "{text:?}");
-    }
-    Ok(())
-}
-
-fn only<T: Drop>(alloc: Global, item: T) -> Result<Seq<T>, NoMemory> {
-    let mut items = Seq::new(alloc);
-    items.push(alloc, item)?;
-    Ok(items)
-}
-
-#[test]
-fn rows_of_every_kind_are_printed(rt: HostRuntime) -> Result<(), Fail> {
-    let dropped = Message {
-        subject: Subject::from_text(rt.alloc(), "a")?,
-        reply: Some(Subject::from_text(rt.alloc(), "r\u{e9} ")?),
-        payload: Bytes::copy_from_slice(rt.alloc(), &[0, b'%', b'~', b'}'])?,
-        headers: None,
-        status: None,
-        description: None,
-        length: 9,
-    };
-    let link = LinkRow {
-        end: LinkWord::Fault,
-        taken: Seq::new(rt.alloc()),
-        left: only(rt.alloc(), b'\n')?,
-    };
-    let sub = SubRow {
-        puts: Seq::new(rt.alloc()),
-        drops: only(rt.alloc(), (5, dropped))?,
-        takes: only(rt.alloc(), (6, TakeReply::Empty))?,
-    };
-    let transcript = Transcript {
-        links: only(rt.alloc(), link)?,
-        subs: only(rt.alloc(), sub)?,
-        events: only(rt.alloc(), (5, Event::SlowConsumer(1)))?,
-        calls: only(rt.alloc(), (2, CallReply::Full))?,
-    };
-    let want = "link 1 fault\nout %\nleft %0A\nsub 1\n\
-drop 5 a r%C3%A9%20 %00%25%7E} ~ ~ 9 ~\ntake 6 empty\n\
-event 5 slow%20consumers%20for%20subscription%201\ncall 2 full\n";
-    let text = print_transcript(rt.alloc(), &transcript)?;
-    assert_eq!(rt; text.as_slice(), want.as_bytes());
     Ok(())
 }

@@ -1,42 +1,67 @@
 //! The top call: what the program does.
-ghost use Rattle.std.specs.Prelude.{◌≡◌, ◌≢◌, ◌≤◌, ◌<◌, ◌⊎◌, suc, map, length, None, IsTrue, List, IfSome, MatchBool};
+ghost use Rattle.std.specs.Prelude.{◌≡◌, ◌≢◌, ◌≤◌, ◌<◌, ◌⊎◌, suc, map, length, None, IsTrue, List, IfOk, IfSome, MatchBool};
 ghost use Rattle.std.specs.String.{string_bytes};
 ghost use Rattle.std.specs.Io.KnownBytes.{Appends};
 ghost use Rattle.nats_history.specs.declared.config.Config.{Config};
 ghost use Rattle.nats_history.specs.declared.turn.Turn.{Turn};
 ghost use Rattle.nats_history.specs.Schedule.{out_of_turn};
 ghost use Rattle.nats_history.specs.Transcripts.{transcript};
-ghost use Rattle.nats_replay.specs.declared.script.Script.TheVariants.{Good};
-ghost use Rattle.nats_replay.specs.Script.{script};
-ghost use Rattle.nats_replay.specs.Printed.{printed};
+ghost use Rattle.nats_script.specs.declared.script.Script.TheVariants.{Good};
+ghost use Rattle.nats_replay.specs.declared.top.Ending.{Ending};
+ghost use Rattle.nats_script.specs.Script.{script};
+ghost use Rattle.nats_script.specs.Printed.{printed};
 ghost use Rattle.nats_replay.specs.Outside.{Rose, RoseBy, Still, AppendsFront};
-ghost use Rattle.nats_replay.specs.Words.{run_words, unknown_command, is_status, IsTranscript, IsUnreadable, IsOutOfTurn, IsPlayable};
-ghost use Rattle.nats_replay.specs.Played.{Comes, Played, status_of};
+ghost use Rattle.nats_replay.specs.Words.{run_words, unknown_command, unreadable_text, out_of_turn_text, is_status, IsUnreadable, IsOutOfTurn, Prints, IsPlayable};
+ghost use Rattle.nats_replay.specs.Played.{Comes, Played, status_of_ending, status_of};
 
 use crate::outside::{Sink, Source};
-use crate::print::print_transcript;
-use crate::read::read_script;
-use crate::script::Script;
+use nats_script::{Script, print_transcript, push_number, read_script};
 use crate::whole::{ReadRefusal, SCRIPT_LIMIT, read_all, write_all};
+use nats_names::NoMemory;
 use nats_session::{Config, RunError, Seq, Turn, run};
 use std::alloc::Global;
 
 /// What is printed of words that are no command.
 const UNKNOWN_COMMAND: &[u8] = b"unknown command\n";
 
-/// Why a script has no transcript.
+/// How the bytes of a script end that were read whole.
 #[derive(Clone, Copy, Debug, PartialEq, Eq)]
-pub enum Refusal {
-    /// The source failed.
-    ReadFault,
+pub enum Ending {
+    /// They are played, and have a transcript.
+    Transcript,
     /// A line cannot be read.
     Unreadable,
     /// A turn may not come where it stands.
     OutOfTurn,
+}
+
+/// What is printed of a script.
+#[derive(Drop)]
+pub struct Output {
+    pub ending: Ending,
+    pub text: Vec<u8>,
+}
+
+/// Why nothing is printed of a script.
+#[derive(Clone, Copy, Debug, PartialEq, Eq)]
+pub enum Refusal {
+    /// The source failed.
+    ReadFault,
     /// Want of memory.
     NoMemory,
     /// The source gave more bytes than a script may have.
     TooLong,
+}
+
+impl From<NoMemory> for Refusal {
+    ghost use Rattle.std.specs.Prelude.{◌≡◌};
+    ghost use Rattle.nats_replay.specs.declared.top.Refusal.TheVariants as refusal;
+
+    ghost from_gives = { λ _ e. e ≡ refusal.NoMemory };
+
+    fn from(_refused: NoMemory) -> Refusal {
+        Refusal::NoMemory
+    }
 }
 
 /// The transcript was printed.
@@ -56,30 +81,53 @@ pub const NO_MEMORY: u8 = 7;
 /// The script is too long.
 const TOO_LONG: u8 = 8;
 
-fn play_turns(alloc: Global, config: Config, turns: &[Turn]) -> Result<Vec<u8>, Refusal>
+fn unreadable_text(alloc: Global, line: u64) -> Result<Vec<u8>, NoMemory>
+    ensures { IfOk result (λ text. text.items ≡ unreadable_text line) }
+{
+    let mut text = Vec::from_slice(alloc, b"script line ".as_slice())?;
+    push_number(&mut text, line)?;
+    text.push(b'\n')?;
+    Ok(text)
+}
+
+fn out_of_turn_text(alloc: Global, place: u64) -> Result<Vec<u8>, NoMemory>
+    ensures { IfOk result (λ text. text.items ≡ out_of_turn_text place) }
+{
+    let mut text = Vec::from_slice(alloc, b"turn ".as_slice())?;
+    push_number(&mut text, place)?;
+    text.extend_from_slice(b" out of turn\n".as_slice())?;
+    Ok(text)
+}
+
+fn play_turns(alloc: Global, config: Config, turns: &[Turn]) -> Result<Output, Refusal>
     ensures { (bytes : List _) → script bytes ≡ Good config turns.now → Comes bytes result }
 {
     match run(alloc, config, turns) {
-        Ok(transcript) => match print_transcript(alloc, &transcript) {
-            Ok(text) => Ok(text),
-            Err(_) => Err(Refusal::NoMemory),
-        },
-        Err(RunError::OutOfTurn { place: _ }) => Err(Refusal::OutOfTurn),
+        Ok(transcript) => Ok(Output {
+            ending: Ending::Transcript,
+            text: print_transcript(alloc, &transcript)?,
+        }),
+        Err(RunError::OutOfTurn { place }) => Ok(Output {
+            ending: Ending::OutOfTurn,
+            text: out_of_turn_text(alloc, place)?,
+        }),
         Err(RunError::NoMemory) => Err(Refusal::NoMemory),
     }
 }
 
-fn play_script(alloc: Global, bytes: &[u8]) -> Result<Vec<u8>, Refusal>
+fn play_script(alloc: Global, bytes: &[u8]) -> Result<Output, Refusal>
     ensures { Comes bytes.now result }
 {
-    match read_script(alloc, bytes) {
-        Ok(Script::Good { config, turns }) => play_turns(alloc, config, turns.as_slice()),
-        Ok(Script::Bad(_)) => Err(Refusal::Unreadable),
-        Err(_) => Err(Refusal::NoMemory),
+    match read_script(alloc, bytes)? {
+        Script::Good { config, turns } => play_turns(alloc, config, turns.as_slice()),
+        Script::Bad(line) => Ok(Output {
+            ending: Ending::Unreadable,
+            text: unreadable_text(alloc, line)?,
+        }),
     }
 }
 
-fn play<S: Source>(alloc: Global, source: &mut S) -> Result<Vec<u8>, Refusal>
+fn play<S: Source>(alloc: Global, source: &mut S) -> Result<Output, Refusal>
     ensures { Played (S.left source.old)
         (record { given = S.given source.old; ends = S.ends source.old; faults = S.faults source.old })
         (record { given = S.given source.new; ends = S.ends source.new; faults = S.faults source.new }) result }
@@ -101,13 +149,21 @@ fn are_run(words: &[String]) -> bool
     }
 }
 
+fn status_of_ending(ending: Ending) -> u8
+    ensures { result ≡ status_of_ending ending }
+{
+    match ending {
+        Ending::Transcript => DONE,
+        Ending::Unreadable => UNREADABLE,
+        Ending::OutOfTurn => OUT_OF_TURN,
+    }
+}
+
 fn status_of(refusal: Refusal) -> u8
     ensures { result ≡ status_of refusal }
 {
     match refusal {
         Refusal::ReadFault => READ_FAULT,
-        Refusal::Unreadable => UNREADABLE,
-        Refusal::OutOfTurn => OUT_OF_TURN,
         Refusal::NoMemory => NO_MEMORY,
         Refusal::TooLong => TOO_LONG,
     }
@@ -115,9 +171,10 @@ fn status_of(refusal: Refusal) -> u8
 
 /// What the program does: where the words are the one word `run`, it reads the source whole as a script, plays its turns
 /// and prints their transcript into the sink. It answers the status to exit with: 0, the transcript is printed; 2, other
-/// words, which are called unknown; 3, the source failed; 4, the sink failed; 5, a line of the script cannot be read; 6, a
-/// turn may not come where it stands; 7, want of memory; 8, more than 16,777,216 bytes. With 3, 5, 6, 7 and 8 nothing is
-/// printed. The words, the statuses and their order are our own choice.
+/// words, which are called unknown; 3, the source failed; 4, the sink failed; 5, a line of the script cannot be read, and
+/// `script line k` says which is the first; 6, a turn may not come where it stands, and `turn k out of turn` says which is the
+/// first; 7, want of memory; 8, more than 16,777,216 bytes. With 3, 7 and 8 nothing is printed. The words, the statuses and
+/// their order are our own choice.
 pub fn replay<S: Source, K: Sink>(
     alloc: Global,
     words: &[String],
@@ -143,13 +200,16 @@ pub fn replay<S: Source, K: Sink>(
     // 4: the sink failed, behind a first part of the text.
     ensures write_fault { result ≡ 4 → Rose (K.faults sink.old) (K.faults sink.new) }
     ensures cut_short { result ≡ 4 → map string_bytes words.now ≡ run_words → IfSome (S.left source.old) (λ bytes.
-        (text : List _) × IsTranscript bytes text × AppendsFront (K.written sink.old) (K.written sink.new) text) }
+        (ending : Ending) × (text : List _) × Prints ending bytes text
+        × AppendsFront (K.written sink.old) (K.written sink.new) text) }
     ensures unknown_cut_short { result ≡ 4 → map string_bytes words.now ≢ run_words →
         AppendsFront (K.written sink.old) (K.written sink.new) unknown_command }
-    // 5: a line cannot be read.
-    ensures unreadable { result ≡ 5 → IfSome (S.left source.old) IsUnreadable }
-    // 6: every line can be read, and a turn may not come where it stands.
-    ensures out_of_turn { result ≡ 6 → IfSome (S.left source.old) IsOutOfTurn }
+    // 5: a line cannot be read, and the text says which is the first.
+    ensures unreadable { result ≡ 5 → IfSome (S.left source.old) (λ bytes. (text : List _) × IsUnreadable bytes text
+        × Appends (K.written sink.old) (K.written sink.new) text) }
+    // 6: every line can be read, a turn may not come where it stands, and the text says which is the first.
+    ensures out_of_turn { result ≡ 6 → IfSome (S.left source.old) (λ bytes. (text : List _) × IsOutOfTurn bytes text
+        × Appends (K.written sink.old) (K.written sink.new) text) }
     // 8: the source held more than a script may have, and gave more.
     ensures too_long { result ≡ 8 → IfSome (S.left source.old) (λ bytes. SCRIPT_LIMIT < length bytes) }
     ensures too_much { result ≡ 8 → RoseBy (suc SCRIPT_LIMIT) (S.given source.old) (S.given source.new) }
@@ -163,7 +223,7 @@ pub fn replay<S: Source, K: Sink>(
         Still (S.faults source.old) (S.faults source.new) → Still (K.faults sink.old) (K.faults sink.new) →
         (result ≡ 0) ⊎ (result ≡ 7)) }
     // Nothing else is printed.
-    ensures silent { result ≢ 0 → result ≢ 2 → result ≢ 4 → sink.new ≡ sink.old }
+    ensures silent { result ≢ 0 → result ≢ 2 → result ≢ 4 → result ≢ 5 → result ≢ 6 → sink.new ≡ sink.old }
 {
     if !are_run(words) {
         return match write_all(UNKNOWN_COMMAND, sink) {
@@ -172,8 +232,8 @@ pub fn replay<S: Source, K: Sink>(
         };
     }
     match play(alloc, source) {
-        Ok(text) => match write_all(text.as_slice(), sink) {
-            Ok(()) => DONE,
+        Ok(output) => match write_all(output.text.as_slice(), sink) {
+            Ok(()) => status_of_ending(output.ending),
             Err(_) => WRITE_FAULT,
         },
         Err(refusal) => status_of(refusal),

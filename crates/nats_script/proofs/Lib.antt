@@ -1,0 +1,4 @@
+mod Cuts
+mod Numbering
+mod Scripts
+mod Spelled

@@ -1,0 +1,4 @@
+pub mod Cut
+pub mod Printed
+pub mod Script
+pub mod Spelling
