@@ -5,3 +5,4 @@ pub mod Options
 pub mod Pools
 pub mod Rounds
 pub mod Servers
+pub mod Discovery

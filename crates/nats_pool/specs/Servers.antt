@@ -16,6 +16,10 @@ abbrev pub new_server : Parts → Server
 new_server addr =
     record { addr = addr; failed_attempts = 0; did_connect = false; is_discovered = false; last_error = None }
 
+-- a server that another server told of
+abbrev pub discovered_server : Parts → Server
+discovered_server addr = record (new_server addr) { is_discovered = true }
+
 -- some server has the address
 unfoldable pub has_server : List Server → Parts → Bool
 has_server servers addr = list_any (λ s. same_addr s.addr addr) servers

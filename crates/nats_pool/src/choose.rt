@@ -148,7 +148,7 @@ pub(crate) fn place_of(servers: &[Server], addr: &ServerAddr) -> Option<usize>
 }
 
 #[tactic(auto, unfolding(crate::specs::Servers::has_server))]
-fn has_server(servers: &[Server], addr: &ServerAddr) -> bool
+pub(crate) fn has_server(servers: &[Server], addr: &ServerAddr) -> bool
     ensures { result ≡ has_server servers.now addr.now }
 {
     servers.iter().any(|server| server.is_at(addr))

@@ -7,6 +7,7 @@ mod callbacks;
 mod choose;
 mod connect_options;
 mod delay;
+mod discover;
 mod pool;
 mod pool_error;
 mod pool_options;

@@ -19,7 +19,7 @@ use rand::rngs::SmallRng;
 use rand_core::SeedableRng;
 use std::alloc::Global;
 
-fn copy_servers(alloc: Global, servers: &[Server]) -> Result<Vec<Server>, NoMemory>
+pub(crate) fn copy_servers(alloc: Global, servers: &[Server]) -> Result<Vec<Server>, NoMemory>
     ensures { IfOk result (λ copies. copies.items ≡ servers.now) }
 {
     let mut copies = Vec::new(alloc);

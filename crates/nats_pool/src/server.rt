@@ -1,7 +1,7 @@
 //! A server of the pool, and the choice of one.
 ghost use Rattle.std.specs.Prelude.{◌≡◌, IfOk, Some};
 ghost use Rattle.url.specs.Parts.{serialize};
-ghost use Rattle.nats_pool.specs.Servers.{new_server, same_addr};
+ghost use Rattle.nats_pool.specs.Servers.{new_server, discovered_server, same_addr};
 
 use nats_addr::ServerAddr;
 use nats_names::{NoMemory, Text};
@@ -33,6 +33,16 @@ impl Server {
             did_connect: false,
             is_discovered: false,
             last_error: None,
+        }
+    }
+
+    /// One that another server told of.
+    pub(crate) fn discovered(addr: ServerAddr) -> Server
+        ensures { result ≡ discovered_server addr }
+    {
+        Server {
+            is_discovered: true,
+            ..Server::new(addr)
         }
     }
 
