@@ -1,6 +1,6 @@
 -- The fields of some lines, read one after another.
-use Rattle.std.proofs.Common.{◌≡◌, ℕ, ◌≤◌, Bool, true, false, List, [], ◌∷◌, ◌++◌, length, Option, Some, None, option_map, refl, ap, sym, ◌∙◌, arith, append_assoc}
-use Rattle.std.specs.Prelude.{◌==◌, ◌&&◌, if◌then◌else◌}
+use Rattle.std.proofs.Common.{◌≡◌, ℕ, ◌≤◌, Bool, true, false, List, [], ◌∷◌, length, Option, Some, None, option_map, refl, ap, ◌∙◌, arith}
+use Rattle.std.specs.Prelude.{◌==◌, if◌then◌else◌}
 use Rattle.std.specs.Str.{chars}
 use Rattle.std.proofs.lemmas.Bool.{eqb-true}
 use Rattle.nats_header.specs.Headers.{Headers}
@@ -28,10 +28,7 @@ pub past_open : (lines : List (List ℕ)) → fields_from true lines ≡ fields_
 past_open [] = refl
 past_open (line ∷ lines) = past_step (length line == 0) (goes_on line) line lines refl refl (past_open lines)
 
--- an empty line says nothing
-pub fields_skip : (line : List ℕ) (lines : List (List ℕ)) → (length line == 0) ≡ true → fields_of (line ∷ lines) ≡ fields_of lines
-fields_skip line lines empty = rw empty refl
-
+-- a line that isn't empty begins a field
 fields_first : (line : List ℕ) (lines : List (List ℕ)) → (length line == 0) ≡ false
     → fields_of (line ∷ lines) ≡ onto_fields (field_of line (joined lines)) (fields_of (past_joined lines))
 fields_first line lines some =
@@ -53,17 +50,7 @@ fields_read headers new line lines some is =
     ap (option_map (all_appended headers)) (fields_first line lines some)
     ∙ onto_step headers new (field_of line (joined lines)) (fields_of (past_joined lines)) is
 
-bad_step : (headers : Headers) (field : Option Pair) (fields : Option (List Pair)) → option_map (with_field headers) field ≡ None
-    → onto_fields field fields ≡ None
-bad_step headers None fields is = refl
-bad_step headers (Some field) fields is = cc
-
--- a bad field spoils all
-pub fields_bad : (headers : Headers) (line : List ℕ) (lines : List (List ℕ)) → (length line == 0) ≡ false
-    → option_map (with_field headers) (field_of line (joined lines)) ≡ None → fields_of (line ∷ lines) ≡ None
-fields_bad headers line lines some is =
-    fields_first line lines some ∙ bad_step headers (field_of line (joined lines)) (fields_of (past_joined lines)) is
-
+-- no more lines are left behind those that go on
 length_step : (on : Bool) (line : List ℕ) (lines : List (List ℕ)) → length (past_joined lines) ≤ length lines
     → length (if on then past_joined lines else line ∷ lines) ≤ length (line ∷ lines)
 length_step true line lines rest = omega arith
@@ -72,12 +59,3 @@ length_step false line lines rest = omega arith
 pub length-past_joined : (lines : List (List ℕ)) → length (past_joined lines) ≤ length lines
 length-past_joined [] = omega arith
 length-past_joined (line ∷ lines) = length_step (goes_on line) line lines (length-past_joined lines)
-
--- one more line is joined
-pub joined_on : (text line : List ℕ) (rest lines : List (List ℕ)) → rest ≡ line ∷ lines → goes_on line ≡ true
-    → (text ++ line) ++ joined lines ≡ text ++ joined rest
-joined_on text line rest lines is on = rw (is, on) (append_assoc text line (joined lines))
-
-pub past_on : (line : List ℕ) (rest lines : List (List ℕ)) → rest ≡ line ∷ lines → goes_on line ≡ true
-    → past_joined lines ≡ past_joined rest
-past_on line rest lines is on = rw (is, on) refl

@@ -1,5 +1,5 @@
 -- What the reader's values say, in the words of the block's rules.
-use Rattle.std.specs.Prelude.{◌≡◌, ℕ, true, List, [], ◌∷◌, ◌++◌, Option, Some, None, if◌then◌else◌, string_bytes}
+use Rattle.std.specs.Prelude.{◌≡◌, ℕ, true, List, [], ◌∷◌, Option, Some, None, if◌then◌else◌}
 use Rattle.std.specs.Str.Lines.{lines}
 use Rattle.nats_block.specs.Lines.{goes_on, joined}
 use Rattle.nats_block.specs.declared.lines.Line.{Line}

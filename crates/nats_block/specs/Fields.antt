@@ -1,5 +1,5 @@
 -- The lines behind the first of a header block: the fields.
-use Rattle.std.specs.Prelude.{ℕ, ◌==◌, ◌&&◌, Bool, true, false, not, List, [], ◌∷◌, ◌++◌, length, fold, Option, Some, None, option_map, if◌then◌else◌}
+use Rattle.std.specs.Prelude.{ℕ, ◌==◌, ◌&&◌, Bool, true, false, List, [], ◌∷◌, ◌++◌, length, fold, Option, Some, None, option_map, if◌then◌else◌}
 use Rattle.std.specs.Str.{trim_start, trim_end}
 use Rattle.nats_header.specs.Names.{is_header_name, is_header_value}
 use Rattle.nats_header.specs.Headers.{Headers, appended}

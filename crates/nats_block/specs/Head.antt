@@ -1,5 +1,5 @@
 -- The first line of a header block: the version, and then a status and a description.
-use Rattle.std.specs.Prelude.{ℕ, nat_eq, List, drop, length, Option, Some, None, option_map, if◌then◌else◌, codes}
+use Rattle.std.specs.Prelude.{ℕ, nat_eq, List, drop, Option, Some, None, option_map, if◌then◌else◌, codes}
 use Rattle.std.specs.List.{starts_with}
 use Rattle.std.specs.Str.{trim}
 use Rattle.nats_names.specs.Status.{status_of}

@@ -12,12 +12,7 @@ use nats_header::{HeaderError, HeaderMap};
 use std::alloc::Global;
 
 // Puts a field last among those of its name.
-fn put(
-    headers: &mut HeaderMap,
-    alloc: Global,
-    name: &str,
-    value: &str,
-) -> Result<(), BlockError>
+fn put(headers: &mut HeaderMap, alloc: Global, name: &str, value: &str) -> Result<(), BlockError>
     ensures { Puts (option_map (with_field headers.old) (tested (name.now, value.now))) result headers.new }
 {
     match headers.append(alloc, name, value) {

@@ -1,5 +1,5 @@
 -- The INFO that a text spells: a JSON object, and the table of its fields. The NATS client protocol names the fields.
-use Rattle.std.specs.Prelude.{ℕ, ◌^◌, ◌&&◌, ℤ, pos, negsuc, Bool, true, false, nat_lt, nat_le, List, [], ◌∷◌, Option, Some, None, option_map, option_and_then, is_some, if◌then◌else◌, codes}
+use Rattle.std.specs.Prelude.{ℕ, ◌^◌, ℤ, pos, negsuc, Bool, false, nat_lt, List, [], ◌∷◌, Option, Some, None, option_and_then, is_some, if◌then◌else◌, codes}
 use Prim.Native.String.{String}
 use Rattle.std.specs.Str.{is_utf8}
 use Rattle.serde_json.specs.Data.{Data, null, boolean, number, string, array, object, Items, no_items, item}

@@ -22,11 +22,7 @@ pub fn text(alloc: Global, object: &Value, key: &str) -> Result<Text, InfoError>
 }
 
 /// The text under a key, `None` where the key is missing or has null.
-pub fn text_or_null(
-    alloc: Global,
-    object: &Value,
-    key: &str,
-) -> Result<Option<Text>, InfoError>
+pub fn text_or_null(alloc: Global, object: &Value, key: &str) -> Result<Option<Text>, InfoError>
     ensures { Gives (field text_or_null None (get key.now (view object.now))) result }
 {
     match object.get(key) {

@@ -4,7 +4,7 @@ use Rattle.std.specs.Option.{option_map}
 use Rattle.std.specs.List.{slice_split}
 use Rattle.std.specs.Str.{bytes_eq}
 use Rattle.nats_names.specs.Names.{is_valid, is_publishable}
-use Rattle.nats_wire.specs.Info.{default_info}
+use Rattle.nats_info.specs.Info.{default_info}
 use Rattle.nats_history.specs.declared.config.Config.{Config}
 use Rattle.nats_history.specs.declared.call.Call.TheVariants.{Publish, Subscribe}
 use Rattle.nats_history.specs.declared.turn.Turn.{Turn}

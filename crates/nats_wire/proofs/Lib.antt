@@ -1,6 +1,9 @@
 pub mod Fronts
-mod Infos
 mod Lines
 mod Numbers
 mod Pieces
+mod Quotes
 pub mod Reading
+mod Sights
+mod Texts
+mod Words

@@ -37,7 +37,7 @@ pieces_whole text never some =
     kept_step (length text == 0) text [] some ∙ ap (filter (λ piece. not (length piece == 0))) (sym (split_whole text never))
 
 -- the bytes of some texts
-abbrev total : List (List ℕ) → ℕ
+abbrev pub total : List (List ℕ) → ℕ
 total [] = 0
 total (text ∷ texts) = length text + total texts
 
@@ -63,7 +63,7 @@ total_filter : (p : List ℕ → Bool) (texts : List (List ℕ)) → total (filt
 total_filter p [] = omega arith
 total_filter p (text ∷ texts) = filter_step (p text) text (filter p texts) texts (total_filter p texts)
 
-with_short : (subject : List ℕ) (reply : Option (List ℕ)) (sid count : Option ℕ) (head : Head)
+pub with_short : (subject : List ℕ) (reply : Option (List ℕ)) (sid count : Option ℕ) (head : Head)
     → head_with subject reply sid count ≡ Some head → length head.subject + length_or_0 head.reply ≡ length subject + length_or_0 reply
 with_short subject reply None count head is = cc
 with_short subject reply (Some sid) None head is = cc

@@ -29,10 +29,6 @@ space_and_number (Some n) = codes " " ++ decimal n
 abbrev pub unsubscription_text : ℕ → Option ℕ → List ℕ
 unsubscription_text sid max = codes "UNSUB " ++ decimal sid ++ space_and_number max ++ crlf
 
--- the words of a publication that name its subject, and where an answer is to go
-abbrev pub subject_words : List ℕ → Option (List ℕ) → List ℕ
-subject_words subject respond = subject ++ codes " " ++ word_and_space respond
-
 -- the block that is sent for some headers: none where no name is there
 abbrev pub sent_block : Option Headers → Option (List ℕ)
 sent_block None = None
@@ -43,9 +39,9 @@ sent_block (Some (field ∷ fields)) = Some (block_text (field ∷ fields))
 -- payload, which have t bytes together
 abbrev pub publication_text : List ℕ → Option (List ℕ) → Option (List ℕ) → List ℕ → List ℕ
 publication_text subject respond None payload =
-    codes "PUB " ++ subject_words subject respond ++ decimal (length payload) ++ crlf ++ payload ++ crlf
+    codes "PUB " ++ subject ++ codes " " ++ word_and_space respond ++ decimal (length payload) ++ crlf ++ payload ++ crlf
 publication_text subject respond (Some block) payload =
-    codes "HPUB " ++ subject_words subject respond ++ decimal (length block) ++ codes " "
+    codes "HPUB " ++ subject ++ codes " " ++ word_and_space respond ++ decimal (length block) ++ codes " "
     ++ decimal (length block + length payload) ++ crlf ++ block ++ payload ++ crlf
 
 -- what the client writes for an operation

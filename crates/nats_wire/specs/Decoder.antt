@@ -1,17 +1,27 @@
 -- What the decoder's values say, in the grammar's words.
 use Rattle.std.specs.Prelude.{ℕ, List, [], ◌∷◌, Option, Some, None}
+use Rattle.std.specs.Borrow.{Bor}
 use Rattle.std.specs.Option.{option_map}
+use Rattle.nats_names.specs.declared.server_error.ServerError.{ServerError}
+use Rattle.nats_names.specs.declared.server_error.ServerError.TheVariants as server_error
 use Rattle.nats_wire.specs.declared.message.Message.{Message}
-use Rattle.nats_wire.specs.declared.decode.Front.{Front}
-use Rattle.nats_wire.specs.declared.decode.Front.TheVariants as front
+use Rattle.nats_wire.specs.declared.decode.Sight.{Sight}
+use Rattle.nats_wire.specs.declared.decode.Sight.TheVariants as sight
 use Rattle.nats_wire.specs.declared.decode.OpText.{OpText}
 use Rattle.nats_wire.specs.declared.decode.OpText.TheVariants as op
 use Rattle.nats_wire.specs.declared.decode.MessageText.{MessageText}
 use Rattle.nats_wire.specs.declared.decode.Line.{Line}
-use Rattle.nats_wire.specs.declared.decode.Piece.{Piece}
-use Rattle.nats_wire.specs.declared.decode.Head.{Head}
+use Rattle.nats_wire.specs.declared.decode.Word.{Word}
+use Rattle.nats_wire.specs.declared.decode.Word.TheVariants as word
+use Rattle.nats_wire.specs.declared.front.Front.{Front}
+use Rattle.nats_wire.specs.declared.front.Front.TheVariants as front
+use Rattle.nats_wire.specs.declared.error_line.ErrorText.{ErrorText}
+use Rattle.nats_wire.specs.declared.error_line.ErrorText.TheVariants as error
+use Rattle.nats_wire.specs.declared.head.Piece.{Piece}
+use Rattle.nats_wire.specs.declared.head.Head.{Head}
+use Rattle.nats_wire.specs.declared.head.HeaderHead.{HeaderHead}
 use Rattle.nats_wire.specs.Operations as grammar
-use Rattle.nats_wire.specs.Operations.{Operation, message, ok_op, ping_op, pong_op, unfinished, got, fault, Cut, pieces_of}
+use Rattle.nats_wire.specs.Operations.{op_view, unfinished, got, fault, message, error_op, ok_op, ping_op, pong_op, plain, info_text, headed, less, whole, bad, Cut, pieces_of, words_of}
 
 abbrev pub message_view : MessageText → Message
 message_view m = record {
@@ -24,16 +34,34 @@ message_view m = record {
   length = m.length;
 }
 
-abbrev pub op_text_view : OpText → Operation
-op_text_view op.Ok = ok_op
-op_text_view op.Ping = ping_op
-op_text_view op.Pong = pong_op
-op_text_view (op.Message sid m) = message sid (message_view m)
+abbrev pub error_view : ErrorText → ServerError
+error_view error.AuthorizationViolation = server_error.AuthorizationViolation
+error_view (error.Other text) = server_error.Other text.now
+
+abbrev pub op_text_view : OpText → grammar.OpText
+op_text_view op.Ok = plain ok_op
+op_text_view op.Ping = plain ping_op
+op_text_view op.Pong = plain pong_op
+op_text_view (op.Info text) = info_text text.now
+op_text_view (op.Error e) = plain (error_op (error_view e))
+op_text_view (op.Message sid m) = plain (message sid (message_view m))
+op_text_view (op.HeaderMessage sid m block) = headed sid (message_view m) block.now
+
+abbrev pub sight_view : Sight → grammar.Sight
+sight_view sight.Unfinished = less
+sight_view (sight.Whole text n) = whole (op_text_view text) n
+sight_view (sight.Fault n) = bad n
 
 abbrev pub front_view : Front → grammar.Front
 front_view front.Unfinished = unfinished
-front_view (front.Got text n) = got (op_text_view text) n
+front_view (front.Got op n) = got (op_view op) n
 front_view (front.Fault n) = fault n
+
+-- how many bytes it takes
+abbrev pub taken_by : Front → ℕ
+taken_by front.Unfinished = 0
+taken_by (front.Got op n) = n
+taken_by (front.Fault n) = n
 
 abbrev pub line_view : Line → Cut
 line_view line = record { line = line.text.now; rest = line.rest.now }
@@ -43,6 +71,11 @@ abbrev pub pieces_from : Option Piece → List (List ℕ)
 pieces_from None = []
 pieces_from (Some piece) = piece.text.now ∷ pieces_of piece.rest.now
 
+-- the words of a text whose first word, if it has one, is taken off what is left
+abbrev pub words_from : Option (Bor (List ℕ)) → List ℕ → List (List ℕ)
+words_from None left = []
+words_from (Some word) left = word.now ∷ words_of left
+
 abbrev pub head_view : Head → grammar.Head
 head_view head = record {
   subject = head.subject.now;
@@ -50,3 +83,13 @@ head_view head = record {
   reply = option_map (λ text. text.now) head.reply;
   count = head.count;
 }
+
+abbrev pub header_head_view : HeaderHead → grammar.HeaderHead
+header_head_view h = record { head = head_view h.head; block_len = h.block_len }
+
+-- the least length of a line that begins with the word
+abbrev pub word_len : Word → ℕ
+word_len word.Message = 4
+word_len word.Info = 5
+word_len word.HeaderMessage = 5
+word_len word = 0

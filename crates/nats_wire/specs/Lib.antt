@@ -1,7 +1,6 @@
 pub mod Commands
 pub mod Connection
 pub mod Decoder
-pub mod Info
 pub mod Laws
 pub mod Operations
 pub mod Wire

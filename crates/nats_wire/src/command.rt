@@ -1,13 +1,12 @@
 //! The texts of client operations, by the NATS client protocol.
-ghost use Rattle.std.specs.Prelude.{◌≡◌, ◌++◌, IfOk, OnOk, OnErr};
-ghost use Rattle.std.specs.Option.{option_map};
+ghost use Rattle.std.specs.Prelude.{◌≡◌, ◌++◌, length, Some, None, IfOk, IfSome, OnOk, OnErr};
 ghost use Rattle.nats_wire.specs.Commands.{word_and_space, sent_block, publication_text, subscription_text, unsubscription_text, command_text, command_texts, joined};
 
 use crate::op::ClientOp;
 use bytes::BytesMut;
 use itoa::Buffer;
 use nats_header::HeaderMap;
-use nats_names::{NoMemory, Subject};
+use nats_names::{Bytes, NoMemory, Subject};
 use std::alloc::Global;
 
 /// Appends what the client writes for an operation, whole or not at all.
@@ -27,10 +26,7 @@ pub fn append(alloc: Global, op: &ClientOp, out: &mut BytesMut) -> Result<(), No
             payload,
             respond,
             headers,
-        } => {
-            let block = sent_block(alloc, headers)?;
-            append_publication(subject, respond, &block, payload.as_slice(), out)
-        }
+        } => append_publication(alloc, subject, respond, headers, payload, out),
         ClientOp::Ping => append_all(&[b"PING\r\n".as_slice()], out),
         ClientOp::Pong => append_all(&[b"PONG\r\n".as_slice()], out),
     }
@@ -61,30 +57,20 @@ fn word_and_space(word: &Option<Subject>) -> (&[u8], &[u8])
     }
 }
 
-fn append_subscription(
+fn append_subscription<'a>(
     sid: u64,
-    subject: &Subject,
-    queue_group: &Option<Subject>,
+    subject: &'a Subject,
+    queue_group: &'a Option<Subject>,
     out: &mut BytesMut,
 ) -> Result<(), NoMemory>
     ensures ok { OnOk result (out.new.items ≡ out.old.items ++ subscription_text sid subject.now queue_group.now) }
     ensures err { OnErr result (out.new.items ≡ out.old.items) }
 {
+    let subject = subject.as_str().as_bytes();
     let (group, space) = word_and_space(queue_group);
     let mut number = Buffer::new();
     let sid = number.format(sid).as_bytes();
-    append_all(
-        &[
-            b"SUB ",
-            subject.as_str().as_bytes(),
-            b" ",
-            group,
-            space,
-            sid,
-            b"\r\n",
-        ],
-        out,
-    )
+    append_all(&[b"SUB ", subject, b" ", group, space, sid, b"\r\n"], out)
 }
 
 fn append_unsubscription(sid: u64, max: Option<u64>, out: &mut BytesMut) -> Result<(), NoMemory>
@@ -101,46 +87,75 @@ fn append_unsubscription(sid: u64, max: Option<u64>, out: &mut BytesMut) -> Resu
     append_all(&[b"UNSUB ", sid, b" ", max, b"\r\n"], out)
 }
 
-// The header block that is sent before a payload.
-fn sent_block(alloc: Global, headers: &Option<HeaderMap>) -> Result<Option<Vec<u8>>, NoMemory>
-    ensures { IfOk result (λ block. option_map (λ block. block.items) block ≡ sent_block headers.now) }
-{
-    match headers {
-        Some(headers) if !headers.is_empty() => Ok(Some(headers.to_bytes(alloc)?)),
-        _ => Ok(None),
-    }
-}
-
 fn append_publication(
+    alloc: Global,
     subject: &Subject,
     respond: &Option<Subject>,
-    block: &Option<Vec<u8>>,
-    payload: &[u8],
+    headers: &Option<HeaderMap>,
+    payload: &Bytes,
     out: &mut BytesMut,
 ) -> Result<(), NoMemory>
     ensures ok { OnOk result (out.new.items ≡ out.old.items
-        ++ publication_text subject.now respond.now (option_map (λ block. block.items) block.now) payload.now) }
+        ++ publication_text subject.now respond.now (sent_block headers.now) payload.now) }
     ensures err { OnErr result (out.new.items ≡ out.old.items) }
 {
-    let subject = subject.as_str().as_bytes();
+    match headers {
+        Some(headers) if !headers.is_empty() => {
+            let block = headers.to_bytes(alloc)?;
+            append_hpub(subject, respond, block.as_slice(), payload, out)
+        }
+        _ => append_pub(subject, respond, payload, out),
+    }
+}
+
+fn append_pub<'a>(
+    subject: &'a Subject,
+    respond: &'a Option<Subject>,
+    payload: &'a Bytes,
+    out: &mut BytesMut,
+) -> Result<(), NoMemory>
+    ensures ok { OnOk result (out.new.items ≡ out.old.items ++ publication_text subject.now respond.now None payload.now) }
+    ensures err { OnErr result (out.new.items ≡ out.old.items) }
+{
     let (respond, space) = word_and_space(respond);
     let mut number = Buffer::new();
-    let Some(block) = block else {
-        let count = number.format(payload.len()).as_bytes();
-        return append_all(
-            &[
-                b"PUB ", subject, b" ", respond, space, count, b"\r\n", payload, b"\r\n",
-            ],
-            out,
-        );
-    };
+    let count = number.format(payload.len()).as_bytes();
+    append_all(
+        &[
+            b"PUB ",
+            subject.as_str().as_bytes(),
+            b" ",
+            respond,
+            space,
+            count,
+            b"\r\n",
+            payload.as_slice(),
+            b"\r\n",
+        ],
+        out,
+    )
+}
+
+fn append_hpub<'a>(
+    subject: &'a Subject,
+    respond: &'a Option<Subject>,
+    block: &'a [u8],
+    payload: &'a Bytes,
+    out: &mut BytesMut,
+) -> Result<(), NoMemory>
+    ensures ok { OnOk result (out.new.items ≡ out.old.items
+        ++ publication_text subject.now respond.now (Some block.now) payload.now) }
+    ensures err { OnErr result (out.new.items ≡ out.old.items) }
+{
+    let (respond, space) = word_and_space(respond);
+    let mut number = Buffer::new();
     let header_len = number.format(block.len()).as_bytes();
     let mut sum = Buffer::new();
     let total = sum.format(block.len() + payload.len()).as_bytes();
     append_all(
         &[
             b"HPUB ",
-            subject,
+            subject.as_str().as_bytes(),
             b" ",
             respond,
             space,
@@ -148,8 +163,8 @@ fn append_publication(
             b" ",
             total,
             b"\r\n",
-            block.as_slice(),
-            payload,
+            block,
+            payload.as_slice(),
             b"\r\n",
         ],
         out,
@@ -158,6 +173,7 @@ fn append_publication(
 
 // The bytes of all parts together, where that is a length.
 fn length_of(parts: &[&[u8]]) -> Option<usize>
+    ensures { IfSome result (λ n. n ≡ length (joined parts.now)) }
 {
     let mut length: usize = 0;
     for part in parts {

@@ -1,13 +1,14 @@
 //! A connection to a server: bytes in, operations out; commands in, bytes out. It reads and writes nothing itself.
 ghost use Rattle.std.specs.Prelude.{◌≡◌, ◌<◌, ◌≤◌, ◌++◌, [], length, drop, OnOk, OnErr, IfOk, IfSome, nat_le};
 ghost use Rattle.nats_wire.specs.Wire.{fresh};
-ghost use Rattle.nats_wire.specs.Operations.{front, is_unfinished};
-ghost use Rattle.nats_wire.specs.Commands.{command_text, one_piece};
+ghost use Rattle.nats_wire.specs.Operations.{front, takes_memory, is_unfinished};
+ghost use Rattle.nats_wire.specs.Commands.{command_text, command_texts, one_piece};
 ghost use Rattle.nats_wire.specs.Connection.{Looks, Reads};
 
-use crate::decode::{self, Front};
+use crate::command;
+use crate::decode::{self, Sight};
+use crate::front::{Front, front_of};
 use crate::op::{ClientOp, ServerOp, WireError};
-use crate::{command, copies};
 use bytes::BytesMut;
 use nats_names::{Bytes, NoMemory};
 use std::alloc::Global;
@@ -64,19 +65,18 @@ impl Connection {
     ///
     /// # Errors
     ///
-    /// `ReadFault` exactly where the bytes at the front are no operation that is known. `NoMemory` only where an operation
-    /// stands there: a fault and an unfinished rest are told without taking memory.
+    /// `ReadFault` exactly where the bytes at the front are no operation. `NoMemory` only where an operation stands there, or
+    /// the whole line of an INFO or the whole of a message with headers, which are faults only once they are read: any other
+    /// fault and an unfinished rest are told without taking memory.
     pub fn peek_op(&self, alloc: Global) -> Result<Option<Peeked>, WireError>
-        ensures looks { Looks (front self.now.unread) result }
+        ensures looks { Looks (front self.now.unread) (takes_memory self.now.unread) result }
         ensures fits { IfOk result (λ peeked. IfSome peeked (λ p. p.len ≤ length self.now.unread)) }
     {
-        match decode::front_of(self.read_buf.as_slice()) {
-            Front::Unfinished => Ok(None),
-            Front::Got(text, len) => {
-                let op = copies::operation(alloc, &text)?;
-                Ok(Some(Peeked { op, len }))
-            }
-            Front::Fault(_) => Err(WireError::ReadFault),
+        match front_of(alloc, self.read_buf.as_slice()) {
+            Ok(Front::Unfinished) => Ok(None),
+            Ok(Front::Got(op, len)) => Ok(Some(Peeked { op, len })),
+            Ok(Front::Fault(_)) => Err(WireError::ReadFault),
+            Err(NoMemory) => Err(WireError::NoMemory),
         }
     }
 
@@ -84,8 +84,8 @@ impl Connection {
     pub fn is_unfinished(&self) -> bool
         ensures { result ≡ is_unfinished (front self.now.unread) }
     {
-        let front = decode::front_of(self.read_buf.as_slice());
-        matches!(front, Front::Unfinished)
+        let sight = decode::sight_of(self.read_buf.as_slice());
+        matches!(sight, Sight::Unfinished)
     }
 
     /// The number of unread bytes. Own call.
@@ -108,22 +108,23 @@ impl Connection {
     ///
     /// # Errors
     ///
-    /// `ReadFault` exactly where the bytes at the front are no operation that is known: a line that begins with no word of
-    /// the protocol is taken away, and else nothing is. `NoMemory` only where an operation stands there, and nothing is taken.
+    /// `ReadFault` exactly where the bytes at the front are no operation: a line that begins with no word of the protocol is
+    /// taken away, so is a message with a bad header block, and else nothing is. `NoMemory` as in `peek_op`, and nothing is
+    /// taken.
     pub fn try_read_op(&mut self, alloc: Global) -> Result<Option<ServerOp>, WireError>
-        ensures { Reads (front self.old.unread) self.old result self.new }
+        ensures { Reads (front self.old.unread) (takes_memory self.old.unread) self.old result self.new }
     {
-        match decode::front_of(self.read_buf.as_slice()) {
-            Front::Unfinished => Ok(None),
-            Front::Got(text, len) => {
-                let op = copies::operation(alloc, &text)?;
+        match front_of(alloc, self.read_buf.as_slice()) {
+            Ok(Front::Unfinished) => Ok(None),
+            Ok(Front::Got(op, len)) => {
                 self.consume(len);
                 Ok(Some(op))
             }
-            Front::Fault(n) => {
+            Ok(Front::Fault(n)) => {
                 self.consume(n);
                 Err(WireError::ReadFault)
             }
+            Err(NoMemory) => Err(WireError::NoMemory),
         }
     }
 
@@ -134,6 +135,14 @@ impl Connection {
         ensures err { OnErr result (self.new ≡ self.old) }
     {
         command::append(alloc, op, &mut self.write_buf)
+    }
+
+    /// Puts the texts of some operations in order behind the bytes that wait to be written, all of them or none. Own call.
+    pub fn enqueue_write_ops(&mut self, alloc: Global, ops: &[ClientOp]) -> Result<(), NoMemory>
+        ensures ok { OnOk result (self.new ≡ record self.old { waiting = self.old.waiting ++ command_texts ops.now }) }
+        ensures err { OnErr result (self.new ≡ self.old) }
+    {
+        command::append_each(alloc, ops, &mut self.write_buf)
     }
 
     /// The number of bytes that wait to be written.

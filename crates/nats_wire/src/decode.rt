@@ -1,18 +1,18 @@
-//! Reads what stands at the front of a text: the grammar of server operations, in code. It takes no memory.
+//! Finds what stands at the front of a text: the grammar of server operations, in code. It takes no memory.
 ghost use Rattle.std.specs.Prelude.{◌≡◌, ◌+◌, ◌^◌, ◌<◌, ◌≤◌, length, take, drop, Some, None, IfSome, codes, option_map, nat_lt, if◌then◌else◌};
-ghost use Rattle.std.specs.List.{starts_with};
-ghost use Rattle.nats_wire.specs.Operations.{cut_line, word_of, number_of, pieces_of, head_with, head_of_pieces, head_of, length_or_0, message_of, message_or_fault, front_of_word, front};
-ghost use Rattle.nats_wire.specs.Decoder.{front_view, message_view, line_view, head_view, pieces_from};
+ghost use Rattle.nats_wire.specs.Operations.{cut_line, word_of, head_of, header_head_of, length_or_0, message_of, message_or_bad, headed_or_bad, error_of, error_or_bad, sight_of_word, sight, lost_at};
+ghost use Rattle.nats_wire.specs.Decoder.{word_len, sight_view, op_text_view, message_view, line_view, head_view};
 
+use crate::error_line::{ErrorText, read_error};
+use crate::head::{Head, HeaderHead, read_head, read_header_head};
 use memchr::memmem;
-use std::str;
 
-/// What stands at the front of a text: less than an operation, an operation and the number of its bytes, or a fault
-/// that takes some bytes.
+/// What stands at the front of a text: less than an operation, the text of one and the number of its bytes, or a fault that
+/// takes some bytes.
 #[derive(Clone, Copy)]
-pub enum Front<'a> {
+pub enum Sight<'a> {
     Unfinished,
-    Got(OpText<'a>, usize),
+    Whole(OpText<'a>, usize),
     Fault(usize),
 }
 
@@ -22,7 +22,36 @@ pub enum OpText<'a> {
     Ok,
     Ping,
     Pong,
-    Message { sid: u64, message: MessageText<'a> },
+    /// What is still to be read as an INFO.
+    Info(&'a [u8]),
+    Error(ErrorText<'a>),
+    Message {
+        sid: u64,
+        message: MessageText<'a>,
+    },
+    /// A message whose header block is still to be read.
+    HeaderMessage {
+        sid: u64,
+        message: MessageText<'a>,
+        block: &'a [u8],
+    },
+}
+
+impl<'a> OpText<'a> {
+    /// How many of its `len` bytes the text takes where it turns out to be no operation: a message goes whole, an INFO stays.
+    pub fn lost_at(&self, len: usize) -> usize
+        ensures { result ≡ lost_at (op_text_view self.now) len }
+    {
+        match self {
+            OpText::HeaderMessage { .. } => len,
+            OpText::Info(_)
+            | OpText::Error(_)
+            | OpText::Message { .. }
+            | OpText::Ok
+            | OpText::Ping
+            | OpText::Pong => 0,
+        }
+    }
 }
 
 /// A `Message` in the text that it is read from.
@@ -57,24 +86,6 @@ pub struct Line<'a> {
     pub rest: &'a [u8],
 }
 
-/// A text cut behind its first piece that isn't empty, where pieces stand between spaces.
-#[derive(Clone, Copy)]
-pub struct Piece<'a> {
-    pub text: &'a str,
-    /// What follows the piece, and the space behind it.
-    pub rest: &'a str,
-}
-
-/// What the line of a message says.
-#[derive(Clone, Copy)]
-pub struct Head<'a> {
-    pub subject: &'a str,
-    pub sid: u64,
-    pub reply: Option<&'a str>,
-    /// The length of the payload in bytes.
-    pub count: usize,
-}
-
 fn cut(bytes: &[u8]) -> Option<Line<'_>>
     ensures cut { option_map line_view result ≡ cut_line bytes.now }
     ensures whole { IfSome result (λ line. length line.text.now + 2 + length line.rest.now ≡ length bytes.now) }
@@ -88,7 +99,7 @@ fn cut(bytes: &[u8]) -> Option<Line<'_>>
 
 fn first_word(line: &[u8]) -> Word
     ensures word { result ≡ word_of line.now }
-    ensures long { result ≡ Word.Message → 4 ≤ length line.now }
+    ensures long { word_len result ≤ length line.now }
 {
     if line.starts_with(b"+OK") {
         Word::Ok
@@ -106,73 +117,6 @@ fn first_word(line: &[u8]) -> Word
         Word::HeaderMessage
     } else {
         Word::Other
-    }
-}
-
-fn number(text: &str) -> Option<u64>
-    ensures { result ≡ number_of text.now }
-{
-    text.parse().ok()
-}
-
-fn next_piece(text: &str) -> Option<Piece<'_>>
-    ensures { pieces_from result ≡ pieces_of text.now }
-{
-    let mut left = text;
-    while let Some((piece, rest)) = left.split_once(' ') {
-        if !piece.is_empty() {
-            return Some(Piece { text: piece, rest });
-        }
-        left = rest;
-    }
-    if left.is_empty() {
-        None
-    } else {
-        Some(Piece {
-            text: left,
-            rest: "",
-        })
-    }
-}
-
-fn head_with<'a>(
-    subject: &'a str,
-    reply: Option<&'a str>,
-    sid: &str,
-    count: &str,
-) -> Option<Head<'a>>
-    ensures { option_map head_view result
-        ≡ head_with subject.now (option_map (λ text. text.now) reply.entry) (number_of sid.now) (number_of count.now) }
-{
-    Some(Head {
-        subject,
-        sid: number(sid)?,
-        reply,
-        count: number(count)? as usize,
-    })
-}
-
-fn head_of_text(text: &str) -> Option<Head<'_>>
-    ensures { option_map head_view result ≡ head_of_pieces (pieces_of text.now) }
-{
-    let subject = next_piece(text)?;
-    let sid = next_piece(subject.rest)?;
-    let third = next_piece(sid.rest)?;
-    let Some(fourth) = next_piece(third.rest) else {
-        return head_with(subject.text, None, sid.text, third.text);
-    };
-    if next_piece(fourth.rest).is_some() {
-        return None;
-    }
-    head_with(subject.text, Some(third.text), sid.text, fourth.text)
-}
-
-fn read_head(text: &[u8]) -> Option<Head<'_>>
-    ensures { option_map head_view result ≡ head_of text.now }
-{
-    match str::from_utf8(text) {
-        Ok(text) => head_of_text(text),
-        Err(_) => None,
     }
 }
 
@@ -203,48 +147,80 @@ fn message_text<'a>(head: &Head<'a>, payload: &'a [u8]) -> MessageText<'a>
     }
 }
 
-fn front_of_message<'a>(line: &Line<'a>) -> Front<'a>
+fn sight_of_message<'a>(line: &Line<'a>) -> Sight<'a>
     requires long { 4 ≤ length line.now.text.now }
     requires fits { length line.now.text.now + 2 + length line.now.rest.now < 2 ^ 63 }
-    ensures { front_view result
-        ≡ message_or_fault (length line.now.text.now) line.now.rest.now (head_of (drop 4 line.now.text.now)) }
+    ensures { sight_view result
+        ≡ message_or_bad (length line.now.text.now) line.now.rest.now (head_of (drop 4 line.now.text.now)) }
 {
     let Some(head) = read_head(&line.text[4..]) else {
-        return Front::Fault(0);
+        return Sight::Fault(0);
     };
     let Some(payload) = payload_of(line.rest, head.count) else {
-        return Front::Unfinished;
+        return Sight::Unfinished;
     };
     let message = message_text(&head, payload);
     let op = OpText::Message {
         sid: head.sid,
         message,
     };
-    Front::Got(op, line.text.len() + head.count + 4)
+    Sight::Whole(op, line.text.len() + head.count + 4)
 }
 
-fn front_of_line<'a>(line: &Line<'a>) -> Front<'a>
+fn sight_of_header_message<'a>(line: &Line<'a>) -> Sight<'a>
+    requires long { 5 ≤ length line.now.text.now }
+    requires fits { length line.now.text.now + 2 + length line.now.rest.now < 2 ^ 63 }
+    ensures { sight_view result
+        ≡ headed_or_bad (length line.now.text.now) line.now.rest.now (header_head_of (drop 5 line.now.text.now)) }
+{
+    let Some(HeaderHead { head, block_len }) = read_header_head(&line.text[5..]) else {
+        return Sight::Fault(0);
+    };
+    let Some(body) = payload_of(line.rest, head.count) else {
+        return Sight::Unfinished;
+    };
+    let message = message_text(&head, &body[block_len..]);
+    let op = OpText::HeaderMessage {
+        sid: head.sid,
+        message,
+        block: &body[..block_len],
+    };
+    Sight::Whole(op, line.text.len() + head.count + 4)
+}
+
+fn sight_of_error(line: &[u8]) -> Sight<'_>
+    requires { length line.now + 2 < 2 ^ 63 }
+    ensures { sight_view result ≡ error_or_bad (length line.now + 2) (error_of line.now) }
+{
+    match read_error(line) {
+        Some(error) => Sight::Whole(OpText::Error(error), line.len() + 2),
+        None => Sight::Fault(0),
+    }
+}
+
+fn sight_of_line<'a>(line: &Line<'a>) -> Sight<'a>
     requires { length line.now.text.now + 2 + length line.now.rest.now < 2 ^ 63 }
-    ensures { front_view result
-        ≡ front_of_word (word_of line.now.text.now) line.now.text.now line.now.rest.now }
+    ensures { sight_view result
+        ≡ sight_of_word (word_of line.now.text.now) line.now.text.now line.now.rest.now }
 {
     match first_word(line.text) {
-        Word::Message => front_of_message(line),
-        Word::Ok => Front::Got(OpText::Ok, line.text.len() + 2),
-        Word::Ping => Front::Got(OpText::Ping, line.text.len() + 2),
-        Word::Pong => Front::Got(OpText::Pong, line.text.len() + 2),
-        Word::Other => Front::Fault(line.text.len() + 2),
-        // Words of the protocol whose operations are not read.
-        Word::Error | Word::Info | Word::HeaderMessage => Front::Fault(0),
+        Word::Message => sight_of_message(line),
+        Word::HeaderMessage => sight_of_header_message(line),
+        Word::Info => Sight::Whole(OpText::Info(&line.text[4..]), line.text.len() + 2),
+        Word::Error => sight_of_error(line.text),
+        Word::Ok => Sight::Whole(OpText::Ok, line.text.len() + 2),
+        Word::Ping => Sight::Whole(OpText::Ping, line.text.len() + 2),
+        Word::Pong => Sight::Whole(OpText::Pong, line.text.len() + 2),
+        Word::Other => Sight::Fault(line.text.len() + 2),
     }
 }
 
 /// What stands at the front of `bytes`.
-pub fn front_of(bytes: &[u8]) -> Front<'_>
-    ensures { front_view result ≡ front bytes.now }
+pub fn sight_of(bytes: &[u8]) -> Sight<'_>
+    ensures { sight_view result ≡ sight bytes.now }
 {
     match cut(bytes) {
-        Some(line) => front_of_line(&line),
-        None => Front::Unfinished,
+        Some(line) => sight_of_line(&line),
+        None => Sight::Unfinished,
     }
 }

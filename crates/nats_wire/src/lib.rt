@@ -5,15 +5,18 @@ mod command;
 mod connection;
 mod copies;
 mod decode;
-mod info;
+mod error_line;
+mod front;
+mod head;
 pub mod laws;
 mod message;
 mod op;
 
 pub use connection::{Connection, Peeked, SOFT_WRITE_BUF_LIMIT};
-pub use info::ServerInfo;
 pub use message::{Message, OutboundMessage, PublishMessage, copy_headers, copy_subject};
+pub use nats_block::Block;
 pub use nats_header::{HeaderError, HeaderMap, HeaderName, HeaderValue};
+pub use nats_info::ServerInfo;
 pub use nats_names::{Bytes, Event, NoMemory, Seq, ServerError, StatusCode, Subject, Text, Token};
 pub use op::{ClientOp, ServerOp, WireError};
 

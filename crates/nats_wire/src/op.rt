@@ -3,9 +3,9 @@ ghost use Rattle.std.specs.Prelude.{◌≡◌, Some};
 ghost use Rattle.nats_wire.specs.Wire.{wire_error_text};
 ghost use Rattle.nats_wire.specs.declared.op.WireError.TheVariants as refused;
 
-use crate::info::ServerInfo;
 use crate::message::Message;
 use nats_header::HeaderMap;
+use nats_info::ServerInfo;
 use nats_names::{Bytes, NoMemory, ServerError, Subject};
 use std::error::Error;
 use std::fmt;
@@ -37,7 +37,10 @@ pub enum ClientOp {
         queue_group: Option<Subject>,
     },
     /// The protocol's `UNSUB`: ends the subscription of the number `sid`, at once or once `max` messages were delivered to it.
-    Unsubscribe { sid: u64, max: Option<u64> },
+    Unsubscribe {
+        sid: u64,
+        max: Option<u64>,
+    },
     /// The protocol's `PUB`, and `HPUB` where headers are there and not empty: sends a payload to the subscribers of `subject`,
     /// and says where an answer is asked to go.
     Publish {

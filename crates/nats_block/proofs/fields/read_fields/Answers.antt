@@ -18,5 +18,5 @@ loop-line-preserved c =
     let read = fields_read headers new line more (sym c.is_empty.ensures ∙ c.if-is_empty.false) c.in_ok-left.ensures.0 in (
       search rules,
       ap (λ rest. option_map (all_appended new) (fields_of rest)) c.in_ok-left.ensures.1 ∙ sym read
-      ∙ ap (λ lines. option_map (all_appended headers) (fields_of lines)) c.in-Some.ensures ∙ c.loop-line.invariant.1,
+          ∙ ap (λ lines. option_map (all_appended headers) (fields_of lines)) c.in-Some.ensures ∙ c.loop-line.invariant.1,
     )

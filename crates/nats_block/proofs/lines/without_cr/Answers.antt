@@ -1,7 +1,7 @@
 -- A CR at the end goes, and a line without one stays.
-use Rattle.std.proofs.Common.{Some, None, lit<, sym}
+use Rattle.std.proofs.Common.{None, lit<}
 use Rattle.std.proofs.lemmas.Str.Pattern.{strip_suffix_char}
-use Rattle.nats_block.proofs.Cuts.{cr_stripped, no_cr}
+use Rattle.nats_block.proofs.Cuts.{no_cr}
 use Rattle.nats_block.proofs.lines.without_cr.Goals as goal
 
 pub returns-in-None : goal.returns-in-None

@@ -1,5 +1,4 @@
 -- The text is UTF-8, or spells nothing.
-use Rattle.std.proofs.Common.{◌∙◌}
 use Rattle.nats_info.proofs.Reading.{spelled_by_text, no_text}
 use Rattle.nats_info.proofs.read.read_info.Goals as goal
 

@@ -1,11 +1,11 @@
--- An operation at the front takes no more bytes than there are.
-use Rattle.std.proofs.Common.{◌≡◌, ap, sym, ◌∙◌, rules}
-use Rattle.nats_wire.specs.Operations.{front}
-use Rattle.nats_wire.specs.Decoder.{op_text_view}
-use Rattle.nats_wire.proofs.Fronts.{front_fits}
+-- Memory is wanting only where it is taken.
+use Rattle.std.proofs.Common.{◌≡◌, subst, rules}
+use Rattle.std.specs.Prelude.{IsTrue}
+use Rattle.nats_wire.specs.Operations.{takes_memory}
+use Rattle.nats_wire.proofs.Sights.{looks_without_memory}
 use Rattle.nats_wire.proofs.connection.Connection.peek_op.Goals as goal
 
-pub returns-in_ok-op-in-Got-clause-fits : goal.returns-in_ok-op-in-Got-clause-fits
-returns-in_ok-op-in-Got-clause-fits c =
+pub returns-in-Err-clause-looks : goal.returns-in-Err-clause-looks
+returns-in-Err-clause-looks c =
     let same : c.as_slice.result.now ≡ c.args.self.now.unread = search rules in
-    front_fits c.args.self.now.unread (op_text_view c.in-Got.text) c.in-Got.len (ap front (sym same) ∙ sym c.in-Got.ensures)
+    looks_without_memory c.args.self.now.unread (subst (λ bytes. IsTrue (takes_memory bytes)) same c.in-Err.ensures.memory)

@@ -1,0 +1,78 @@
+-- What stands at the front of a text, by what is seen there.
+use Rattle.std.proofs.Common.{◌≡◌, ◌≢◌, ℕ, ◌≤◌, Bool, true, false, List, length, Option, Some, None, Err, refl, ap, sym, ◌∙◌}
+use Rattle.std.specs.Prelude.{IsTrue}
+use Rattle.nats_wire.specs.declared.decode.Sight as code
+use Rattle.nats_wire.specs.declared.decode.Sight.TheVariants as sees
+use Rattle.nats_wire.specs.Operations.{Operation, OpText, Sight, less, whole, bad, sight, op_of, lost_at, got_or_fault, front_of_sight, unfinished, got, fault, is_unfinished, is_whole, takes_memory, front}
+use Rattle.nats_wire.specs.Decoder.{sight_view}
+use Rattle.nats_wire.specs.Connection.{Looks, Reads}
+use Rattle.nats_wire.specs.Wire.{Wire}
+use Rattle.nats_wire.specs.declared.op.WireError.TheVariants.{NoMemory}
+use Rattle.nats_wire.proofs.Fronts.{front_by_sight, front_fits, fault_fits}
+
+-- an operation that is read from its text stands there
+pub got_whole : (bytes : List ℕ) (text : OpText) (n : ℕ) (op : Operation) → whole text n ≡ sight bytes → Some op ≡ op_of text
+    → got op n ≡ front bytes
+got_whole bytes text n op sees is =
+    ap (got_or_fault n (lost_at text n)) is ∙ sym (front_by_sight bytes (whole text n) sees)
+
+-- a text that is no operation is a fault
+pub lost_whole : (bytes : List ℕ) (text : OpText) (n : ℕ) → whole text n ≡ sight bytes → None ≡ op_of text
+    → fault (lost_at text n) ≡ front bytes
+lost_whole bytes text n sees is =
+    ap (got_or_fault n (lost_at text n)) is ∙ sym (front_by_sight bytes (whole text n) sees)
+
+pub less_seen : (bytes : List ℕ) → less ≡ sight bytes → unfinished ≡ front bytes
+less_seen bytes sees = sym (front_by_sight bytes less sees)
+
+pub bad_seen : (bytes : List ℕ) (n : ℕ) → bad n ≡ sight bytes → fault n ≡ front bytes
+bad_seen bytes n sees = sym (front_by_sight bytes (bad n) sees)
+
+pub whole_takes : (bytes : List ℕ) (text : OpText) (n : ℕ) → whole text n ≡ sight bytes → IsTrue (takes_memory bytes)
+whole_takes bytes text n sees = sym (ap is_whole sees)
+
+pub got_fits : (bytes : List ℕ) (n : ℕ) (op : Operation) → got op n ≡ front bytes → n ≤ length bytes
+got_fits bytes n op is = front_fits bytes op n (sym is)
+
+pub lost_fits : (bytes : List ℕ) (n : ℕ) → fault n ≡ front bytes → n ≤ length bytes
+lost_fits bytes n is = fault_fits bytes n (sym is)
+
+got_or_fault_is : (n lost : ℕ) (found : Option Operation) → is_unfinished (got_or_fault n lost found) ≡ false
+got_or_fault_is n lost None = refl
+got_or_fault_is n lost (Some op) = refl
+
+-- what isn't seen as less isn't unfinished
+pub not_less : (seen : code.Sight) (bytes : List ℕ) → sight_view seen ≡ sight bytes → seen ≢ sees.Unfinished
+    → false ≡ is_unfinished (front bytes)
+not_less sees.Unfinished bytes is never = absurd (never refl)
+not_less (sees.Whole text n) bytes is never =
+    sym (ap is_unfinished (front_by_sight bytes (sight_view (sees.Whole text n)) is) ∙ got_or_fault_is n _ _)
+not_less (sees.Fault n) bytes is never = ap is_unfinished (bad_seen bytes n is)
+
+looks_by : (found : Option Operation) (n lost : ℕ) (takes : Bool) → IsTrue takes → Looks (got_or_fault n lost found) takes (Err NoMemory)
+looks_by (Some op) n lost takes is = tt
+looks_by None n lost takes is = is
+
+looks_seen : (seen : Sight) → IsTrue (is_whole seen) → Looks (front_of_sight seen) (is_whole seen) (Err NoMemory)
+looks_seen less takes = cc
+looks_seen (bad n) takes = cc
+looks_seen (whole text n) takes = looks_by (op_of text) n (lost_at text n) true takes
+
+-- where memory is taken, a look may find none
+pub looks_without_memory : (bytes : List ℕ) → IsTrue (takes_memory bytes) → Looks (front bytes) (takes_memory bytes) (Err NoMemory)
+looks_without_memory bytes takes = rw (front_by_sight bytes (sight bytes) refl) (looks_seen (sight bytes) takes)
+
+reads_by : (found : Option Operation) (n lost : ℕ) (takes : Bool) (wire : Wire) → IsTrue takes
+    → Reads (got_or_fault n lost found) takes wire (Err NoMemory) wire
+reads_by (Some op) n lost takes wire is = refl
+reads_by None n lost takes wire is = (is, refl)
+
+reads_seen : (seen : Sight) (wire : Wire) → IsTrue (is_whole seen) → Reads (front_of_sight seen) (is_whole seen) wire (Err NoMemory) wire
+reads_seen less wire takes = cc
+reads_seen (bad n) wire takes = cc
+reads_seen (whole text n) wire takes = reads_by (op_of text) n (lost_at text n) true wire takes
+
+-- and so may a read, which takes nothing then
+pub reads_without_memory : (bytes : List ℕ) (wire : Wire) → IsTrue (takes_memory bytes)
+    → Reads (front bytes) (takes_memory bytes) wire (Err NoMemory) wire
+reads_without_memory bytes wire takes = rw (front_by_sight bytes (sight bytes) refl) (reads_seen (sight bytes) wire takes)

@@ -1,6 +1,0 @@
--- the texts so far are copied
-use Rattle.std.proofs.Common.{◌≡◌, take}
-use Rattle.nats_wire.proofs.info.copy_texts.Given as goal
-
-abbrev pub invariant-loop-text : goal.invariant-loop-text
-invariant-loop-text l = l.copies ≡ take l.text-index l.texts
