@@ -33,6 +33,8 @@ enum Step<'a> {
     Sets(&'a [&'a str], Option<SetServerPoolErrorKind>),
     // The pool has two servers with these failures.
     Counts(usize, usize),
+    // A server tells of this address, and the pool has so many servers then.
+    Discovers(&'a str, usize),
 }
 
 fn fails_at(alloc: Global, pool: &mut Pool, text: &str) -> bool {
@@ -82,6 +84,18 @@ fn counts(alloc: Global, pool: &Pool, first: usize, second: usize) -> bool {
     }
 }
 
+fn discovers(alloc: Global, pool: &mut Pool, text: &str, count: usize) -> bool {
+    let Ok(url) = Text::from_text(alloc, text) else {
+        return false;
+    };
+    let urls = [url];
+    let is_done = pool.discover(alloc, &urls).is_ok();
+    match pool.server_pool(alloc) {
+        Ok(servers) => is_done && servers.len() == count,
+        Err(_) => false,
+    }
+}
+
 fn goes(alloc: Global, pool: &mut Pool, step: &Step) -> bool {
     match step {
         Step::Fails(text) => fails_at(alloc, pool, text),
@@ -92,6 +106,7 @@ fn goes(alloc: Global, pool: &mut Pool, step: &Step) -> bool {
         Step::Limit => matches!(pool.next_attempt(), Next::MaxReconnects),
         Step::Sets(texts, why) => sets(alloc, pool, texts, *why),
         Step::Counts(first, second) => counts(alloc, pool, *first, *second),
+        Step::Discovers(text, count) => discovers(alloc, pool, text, *count),
     }
 }
 
@@ -145,6 +160,8 @@ fn a_pool_goes_through_its_rounds(rt: HostRuntime) {
                 Step::Sets(&["ws://a", "nats://b"], mixed),
                 Step::Sets(&["a", "d"], None),
                 Step::Counts(2, 0),
+                Step::Discovers("d", 2),
+                Step::Discovers("e", 3),
             ]
         )
     );
