@@ -56,7 +56,11 @@ impl Reader {
 
     /// Appends the line of the end: how many bytes no operation took.
     fn finish(self, alloc: Global, out: &mut String) -> io::Result<()> {
-        let word = if self.is_faulty { "fault" } else { "unfinished" };
+        let word = if self.is_faulty {
+            "fault"
+        } else {
+            "unfinished"
+        };
         let left = self.connection.unread().saturating_add(self.to_come);
         let line = format!(in alloc; "end {word} {left}\n")?;
         out.push_str(line.as_str())?;

@@ -46,7 +46,8 @@ fn push_info(alloc: Global, out: &mut String, info: &ServerInfo) -> Result<(), A
         ],
     )?;
     let switches = format!(in alloc;
-        " headers={} ldm={} jetstream={}", info.headers, info.lame_duck_mode, info.jetstream
+        " headers={} ldm={} jetstream={}",
+        info.headers, info.lame_duck_mode, info.jetstream
     )?;
     out.push_str(switches.as_str())?;
     push_key(out, "cluster")?;

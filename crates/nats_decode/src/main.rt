@@ -8,10 +8,10 @@ mod lines;
 mod spell;
 
 use crate::cases::{Cuts, push_answer, push_answers};
+use std::env;
 use std::io::{self, Read};
 use std::process::ExitCode;
 use std::rt::Env;
-use std::env;
 
 /// The words are no command.
 const UNKNOWN: u8 = 2;
