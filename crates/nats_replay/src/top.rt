@@ -15,9 +15,9 @@ ghost use Rattle.nats_replay.specs.Words.{run_words, unknown_command, unreadable
 ghost use Rattle.nats_replay.specs.Played.{Comes, Played, status_of_ending, status_of};
 
 use crate::outside::{Sink, Source};
-use nats_script::{Script, print_transcript, push_number, read_script};
 use crate::whole::{ReadRefusal, SCRIPT_LIMIT, read_all, write_all};
 use nats_names::NoMemory;
+use nats_script::{Script, print_transcript, push_number, read_script};
 use nats_session::{Config, RunError, Seq, Turn, run};
 use std::alloc::Global;
 

@@ -248,7 +248,7 @@ pub submitted : (old mid seen : Seen) (call : Call) (reply : CallReply) (subs : 
 submitted old mid seen call reply subs taken_in same is = (
   taken_in.0,
   ap (λ x. record seen { parts = record seen.parts { subs = x } }) is
-  ∙ (go_seen seen (lets_go call) ∙ (ap (λ s. seen_all s (gone_step (lets_go call))) (same ∙ taken_in.1) ∙ sym (seen_append old (accepted_step (refusal old.parts call) call) (gone_step (lets_go call))))),
+      ∙ (go_seen seen (lets_go call) ∙ (ap (λ s. seen_all s (gone_step (lets_go call))) (same ∙ taken_in.1) ∙ sym (seen_append old (accepted_step (refusal old.parts call) call) (gone_step (lets_go call))))),
 )
 
 -- ---- turns that leave no event

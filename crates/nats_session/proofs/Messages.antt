@@ -227,7 +227,7 @@ unwanted_one seen old sid m wire before subs same a is b d =
     let kept_subs = a ∙ left_subs seen sid m Unwanted is refl in
     ap (λ x. with_wire seen x subs) b
     ∙ (ap (with_wire seen (record seen.parts.link.wire { waiting = seen.parts.link.wire.waiting ++ command_text (client.Unsubscribe sid None) }))
-      (d ∙ ap (λ (x : Subs). with_rows (rows_with sid alterations.End x.rows) x) kept_subs)
+    (d ∙ ap (λ (x : Subs). with_rows (rows_with sid alterations.End x.rows) x) kept_subs)
     ∙ (sym (ap (λ e. after_message sid m e seen) is) ∙ ap (read_seen sid m) same))
 
 -- want of memory for the text leaves all as it was

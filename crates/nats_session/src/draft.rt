@@ -126,12 +126,7 @@ impl Draft {
     }
 
     /// A call was answered; where the reply has a number, a subscription was given it.
-    pub fn note_call(
-        &mut self,
-        alloc: Global,
-        place: u64,
-        reply: CallReply,
-    ) -> Result<(), NoMemory>
+    pub fn note_call(&mut self, alloc: Global, place: u64, reply: CallReply) -> Result<(), NoMemory>
         ensures { OnOk result (self.new
             ≡ record self.old { subs = added reply self.old.subs; calls = self.old.calls ++ (place, reply) ∷ [] }) }
     {

@@ -9,9 +9,7 @@ ghost use Rattle.nats_history.specs.declared.transcript.RunError.TheVariants as 
 
 use crate::draft::{Draft, Note};
 use crate::handler::{ConnectionHandler, Look};
-use nats_history::{
-    Call, Config, LinkWord, NoMemory, RunError, ServerInfo, Transcript, Turn,
-};
+use nats_history::{Call, Config, LinkWord, NoMemory, RunError, ServerInfo, Transcript, Turn};
 use std::alloc::Global;
 
 fn play_up(

@@ -75,7 +75,8 @@ pub fn has_group(call: &Call) -> bool
             ..
         } => group.is_publishable(),
         Call::Subscribe {
-            queue_group: None, ..
+            queue_group: None,
+            ..
         }
         | Call::Publish(_)
         | Call::Unsubscribe(_)

@@ -285,12 +285,7 @@ fn publish_word(
         payload: Bytes::from_static(b"hi"),
         headers: None,
     };
-    Ok(word_of(&submit(
-        alloc,
-        rt,
-        &mut handler,
-        Call::Publish(message),
-    )?))
+    Ok(word_of(&submit(alloc, rt, &mut handler, Call::Publish(message))?))
 }
 
 #[test]
@@ -346,9 +341,7 @@ fn sized(alloc: Global, rt: &impl Abort, max: u64) -> Result<CallReply, NoMemory
     assert!(rt; handler.check(&Turn::Up(info.copy(alloc)?)));
     handler.up(alloc, info)?;
     let mut headers = HeaderMap::new(alloc);
-    headers
-        .insert(alloc, "Header", "X")
-        .map_err(|_| NoMemory)?;
+    headers.insert(alloc, "Header", "X").map_err(|_| NoMemory)?;
     let message = OutboundMessage {
         subject: Subject::from_text(alloc, "FOO.BAR")?,
         reply: None,
@@ -385,11 +378,7 @@ fn handled(
 }
 
 /// A message comes, and is read.
-fn read(
-    alloc: Global,
-    rt: &impl Abort,
-    handler: &mut ConnectionHandler,
-) -> Result<Due, NoMemory> {
+fn read(alloc: Global, rt: &impl Abort, handler: &mut ConnectionHandler) -> Result<Due, NoMemory> {
     piece(alloc, rt, handler, MESSAGE)?;
     handler.advance(alloc)
 }
@@ -423,11 +412,7 @@ fn limited(
     Ok(())
 }
 
-fn let_go(
-    alloc: Global,
-    rt: &impl Abort,
-    handler: &mut ConnectionHandler,
-) -> Result<(), NoMemory> {
+fn let_go(alloc: Global, rt: &impl Abort, handler: &mut ConnectionHandler) -> Result<(), NoMemory> {
     subscribe_on(alloc, rt, handler)?;
     handled(alloc, rt, handler, Call::DropSub(1))?;
     assert!(rt; !handler.check(&Turn::Take(1)));
@@ -446,7 +431,11 @@ fn a_subscription_ends(rt: HostRuntime) -> Result<(), Fail> {
 
 // ---- events
 
-fn last_event(alloc: Global, rt: &impl Abort, bytes: &'static [u8]) -> Result<Option<Event>, NoMemory> {
+fn last_event(
+    alloc: Global,
+    rt: &impl Abort,
+    bytes: &'static [u8],
+) -> Result<Option<Event>, NoMemory> {
     let mut handler = session(alloc, rt)?;
     up(alloc, rt, &mut handler)?;
     let _ = handler.next_event();

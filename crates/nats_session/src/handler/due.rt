@@ -124,7 +124,8 @@ fn unsubscribe(
 ) -> Result<(), NoMemory>
     ensures text { OnOk result (connection.new
         ≡ record connection.old {
-          waiting = written true (unsubscribe_command (is_open_at (item_of sid subs.old.rows)) sid max) connection.old.waiting }) }
+          waiting = written true (unsubscribe_command (is_open_at (item_of sid subs.old.rows)) sid max) connection.old.waiting;
+        }) }
     ensures subs { OnOk result (subs.new ≡ with_rows (rows_with sid alteration subs.old.rows) subs.old) }
     ensures err { OnErr result ((connection.new ≡ connection.old) × (subs.new ≡ subs.old)) }
 {
@@ -144,7 +145,8 @@ fn handle_call(
 ) -> Result<(), NoMemory>
     ensures text { OnOk result (connection.new
         ≡ record connection.old {
-          waiting = written true (commands _config.now (at_in subs.old) subs.old.rows (handled call.now)) connection.old.waiting }) }
+          waiting = written true (commands _config.now (at_in subs.old) subs.old.rows (handled call.now)) connection.old.waiting;
+        }) }
     ensures subs { OnOk result (subs.new ≡ subs_after _config.now (handled call.now) subs.old) }
     ensures err { OnErr result ((connection.new ≡ connection.old) × (subs.new ≡ subs.old)) }
 {

@@ -31,7 +31,12 @@ impl Model for Subscription {
     ghost Value = { Sub };
 
     ghost view = { λ s. record {
-      stage = s.stage; is_shut = s.is_shut; is_gone = s.is_gone; limit = s.limit; puts = s.puts; waiting = s.waiting;
+      stage = s.stage;
+      is_shut = s.is_shut;
+      is_gone = s.is_gone;
+      limit = s.limit;
+      puts = s.puts;
+      waiting = s.waiting;
     } };
 }
 

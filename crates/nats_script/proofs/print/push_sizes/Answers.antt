@@ -8,4 +8,4 @@ use Rattle.nats_script.proofs.print.push_sizes.Goals as goal
 pub returns : goal.returns
 returns c =
     appends_two c.push_number.result c.args.out.now.items (opening (codes "max-payload") c.args.limit) (decimal c.args.size) _ _
-        c.in_ok-open_line.ensures c.push_number.ensures
+    c.in_ok-open_line.ensures c.push_number.ensures
