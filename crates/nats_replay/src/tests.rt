@@ -50,79 +50,117 @@ fn the_plain_path_prints_its_transcript(rt: HostRuntime) -> Result<(), Fail> {
     Ok(())
 }
 
-#[test]
-fn a_turn_out_of_turn_is_refused(rt: HostRuntime) -> Result<(), Fail> {
-    let text = "config 2048 65536 check _INBOX MUX1\nup 1048576\nsub a ~\npiece a%0D%0A\npiece a\n";
-    let (status, sink) = played(rt.alloc(), text)?;
-    assert_eq!(rt; status, 6);
-    assert_eq!(rt; sink.bytes(), b"turn 4 out of turn\n".as_slice());
-    Ok(())
+/// Turns under the usual settings, the status that they end with, and what is printed.
+const PLAYED: [(&str, u8, &str); 17] = [
+    ("", 0, ""),
+    ("take 1", 6, "turn 1 out of turn\n"),
+    ("up 1048576\nup 1048576", 6, "turn 2 out of turn\n"),
+    (
+        "up 1048576\nsub a ~\npiece a%0D%0A\npiece a",
+        6,
+        "turn 4 out of turn\n",
+    ),
+    ("bogus", 5, "script line 2\n"),
+    ("hpub a ~ % K v%0D%0Aw", 5, "script line 2\n"),
+    (
+        "sub FOO.BAR ~\nup 1048576\nwrite 100",
+        0,
+        "link 1 up\nout SUB%20FOO.BAR%201%0D%0A\nleft %\nsub 1\nevent 2 connected\ncall 1 numbered 1\n",
+    ),
+    (
+        "up 1048576\npiece ONE%0D%0APING%0D%0A",
+        0,
+        "link 1 fault\nout %\nleft %\nevent 1 connected\nevent 2 disconnected\n",
+    ),
+    (
+        "up 1048576\nsub a ~\nsub b ~\npiece PING%0D%0AMSG%20b%202%202%0D%0Ahi%0D%0A\nwrite 9\ntake 1\ntake 2",
+        0,
+        "link 1 up\nout SUB%20a%201%0D%0A\nleft SUB%20b%202%0D%0APONG%0D%0A\nsub 1\ntake 6 empty\nsub 2\n\
+put 4 b ~ hi ~ ~ 3 ~\ntake 7 message b ~ hi ~ ~ 3 ~\nevent 1 connected\ncall 2 numbered 1\ncall 3 numbered 2\n",
+    ),
+    (
+        "up 1048576\npiece -ERR%20'x'%0D%0AINFO%20{\"ldm\":true}%0D%0A",
+        0,
+        "link 1 up\nout %\nleft %\nevent 1 connected\nevent 2 server%20error:%20nats:%20x\n\
+event 2 lame%20duck%20mode%20detected\n",
+    ),
+    (
+        "up 1048576\nsub a ~\npiece HMSG%20a%201%2023%2025%0D%0ANATS/1.0%20404%20N%0D%0Ak:v%0D%0A%0D%0Ahi%0D%0A",
+        0,
+        "link 1 up\nout %\nleft SUB%20a%201%0D%0A\nsub 1\nput 3 a ~ hi 404 N 26 1 k v\nevent 1 connected\ncall 2 numbered 1\n",
+    ),
+    ("pub a%0D%0APUB%20b%200 ~ %", 0, "call 1 invalid-subject\n"),
+    ("sub .a ~", 0, "call 1 invalid-subject\n"),
+    ("sub a g%20h", 0, "call 1 invalid-queue-name\n"),
+    (
+        "up 33\nhpub FOO.BAR INBOX.67 Hello%20World Header X",
+        0,
+        "link 1 up\nout %\nleft %\nevent 1 connected\ncall 2 max-payload 33 34\n",
+    ),
+    (
+        "open {\"max_payload\":34}\nhpub FOO.BAR INBOX.67 Hello%20World Header X",
+        0,
+        "link 1 up\nout %\nleft HPUB%20FOO.BAR%20INBOX.67%2023%2034%0D%0ANATS/1.0%0D%0AHeader:%20X%0D%0A%0D%0AHello%20World%0D%0A\n\
+event 1 connected\ncall 2 accepted\n",
+    ),
+    (
+        "up 1048576\nsub a ~\nunsub 1\nunsub 1\ntake 1",
+        0,
+        "link 1 up\nout %\nleft SUB%20a%201%0D%0AUNSUB%201%0D%0A\nsub 1\ntake 5 ended\nevent 1 connected\n\
+call 2 numbered 1\ncall 3 accepted\ncall 4 accepted\n",
+    ),
+];
+
+/// The script of these turns under settings.
+fn under(alloc: Global, settings: &str, turns: &str) -> Result<String, NoMemory> {
+    let mut text = String::from_str(alloc, settings)?;
+    text.push_str(turns)?;
+    Ok(text)
 }
 
 #[test]
-fn a_second_link_is_out_of_turn(rt: HostRuntime) -> Result<(), Fail> {
-    let text = "config 2048 65536 check P X\nup 1048576\nup 1048576\n";
-    let (status, sink) = played(rt.alloc(), text)?;
-    assert_eq!(rt; status, 6);
-    assert_eq!(rt; sink.bytes(), b"turn 2 out of turn\n".as_slice());
+fn turns_print_what_they_show(rt: HostRuntime) -> Result<(), Fail> {
+    for (turns, status, want) in PLAYED {
+        let text = under(rt.alloc(), "config 2048 65536 check _INBOX MUX1\n", turns)?;
+        let (answer, sink) = played(rt.alloc(), text.as_str())?;
+        assert_eq!(rt; answer, status, "{turns:?}");
+        assert_eq!(rt; sink.bytes(), want.as_bytes(), "{turns:?}");
+    }
     Ok(())
 }
 
-#[test]
-fn the_first_line_in_no_form_is_named(rt: HostRuntime) -> Result<(), Fail> {
-    let (status, sink) = played(rt.alloc(), "config 2048 65536 check P X\nbogus\n")?;
-    assert_eq!(rt; status, 5);
-    assert_eq!(rt; sink.bytes(), b"script line 2\n".as_slice());
-    Ok(())
-}
-
-#[test]
-fn a_call_before_any_link_waits_for_it(rt: HostRuntime) -> Result<(), Fail> {
-    let text = "config 2048 65536 check _INBOX MUX1\nsub FOO.BAR ~\nup 1048576\nwrite 100\n";
-    let want = "link 1 up\nout SUB%20FOO.BAR%201%0D%0A\nleft %\nsub 1\n\
-event 2 connected\ncall 1 numbered 1\n";
-    let (status, sink) = played(rt.alloc(), text)?;
-    assert_eq!(rt; status, 0);
-    assert_eq!(rt; sink.bytes(), want.as_bytes());
-    Ok(())
-}
-
-#[test]
-fn a_full_queue_drops_what_comes_and_takes_again_after_a_take(rt: HostRuntime) -> Result<(), Fail> {
-    let text = "config 2048 1 check _INBOX MUX1\nup 1048576\nsub a ~\n\
+/// Scripts under other settings, and what is printed of them.
+const SETTINGS: [(&str, u8, &str); 4] = [
+    ("", 5, "script line 1\n"),
+    (
+        "config 0 65536 check _INBOX MUX1\nsub a ~",
+        0,
+        "call 1 full\n",
+    ),
+    (
+        "config 1 1 skip _INBOX MUX1\npub a%0D%0APUB%20b%200 ~ %",
+        0,
+        "call 1 accepted\n",
+    ),
+    (
+        "config 2048 1 check _INBOX MUX1\nup 1048576\nsub a ~\n\
 piece MSG%20a%201%201%0D%0A1%0D%0AMSG%20a%201%201%0D%0A2%0D%0AMSG%20a%201%201%0D%0A3%0D%0A\n\
-take 1\npiece MSG%20a%201%201%0D%0A4%0D%0A\n";
-    let want =
+take 1\npiece MSG%20a%201%201%0D%0A4%0D%0A",
+        0,
         "link 1 up\nout %\nleft SUB%20a%201%0D%0A\nsub 1\nput 3 a ~ 1 ~ ~ 2 ~\nput 5 a ~ 4 ~ ~ 2 ~\n\
 drop 3 a ~ 2 ~ ~ 2 ~\ndrop 3 a ~ 3 ~ ~ 2 ~\ntake 4 message a ~ 1 ~ ~ 2 ~\nevent 1 connected\n\
 event 3 slow%20consumers%20for%20subscription%201\nevent 3 slow%20consumers%20for%20subscription%201\n\
-call 2 numbered 1\n";
-    let (status, sink) = played(rt.alloc(), text)?;
-    assert_eq!(rt; status, 0);
-    assert_eq!(rt; sink.bytes(), want.as_bytes());
-    Ok(())
-}
+call 2 numbered 1\n",
+    ),
+];
 
 #[test]
-fn a_line_that_is_no_operation_ends_the_link(rt: HostRuntime) -> Result<(), Fail> {
-    let text = "config 2048 65536 check _INBOX MUX1\nup 1048576\npiece ONE%0D%0APING%0D%0A\n";
-    let want = "link 1 fault\nout %\nleft %\nevent 1 connected\nevent 2 disconnected\n";
-    let (status, sink) = played(rt.alloc(), text)?;
-    assert_eq!(rt; status, 0);
-    assert_eq!(rt; sink.bytes(), want.as_bytes());
-    Ok(())
-}
-
-#[test]
-fn a_ping_is_answered_and_two_subscriptions_keep_apart(rt: HostRuntime) -> Result<(), Fail> {
-    let text = "config 2048 65536 check _INBOX MUX1\nup 1048576\nsub a ~\nsub b ~\n\
-piece PING%0D%0AMSG%20b%202%202%0D%0Ahi%0D%0A\nwrite 9\ntake 1\ntake 2\n";
-    let want = "link 1 up\nout SUB%20a%201%0D%0A\nleft SUB%20b%202%0D%0APONG%0D%0A\n\
-sub 1\ntake 6 empty\nsub 2\nput 4 b ~ hi ~ ~ 3 ~\ntake 7 message b ~ hi ~ ~ 3 ~\n\
-event 1 connected\ncall 2 numbered 1\ncall 3 numbered 2\n";
-    let (status, sink) = played(rt.alloc(), text)?;
-    assert_eq!(rt; status, 0);
-    assert_eq!(rt; sink.bytes(), want.as_bytes());
+fn settings_are_kept_to(rt: HostRuntime) -> Result<(), Fail> {
+    for (text, status, want) in SETTINGS {
+        let (answer, sink) = played(rt.alloc(), text)?;
+        assert_eq!(rt; answer, status, "{text:?}");
+        assert_eq!(rt; sink.bytes(), want.as_bytes(), "{text:?}");
+    }
     Ok(())
 }
 
