@@ -3,9 +3,9 @@ use Rattle.std.proofs.Common.{◌≡◌, ℕ, zero, suc, List, [], ◌∷◌, �
 use Rattle.nats_history.specs.declared.config.Config.{Config}
 use Rattle.nats_history.specs.declared.turn.Turn.{Turn}
 use Rattle.nats_history.specs.History.{Step, History}
-use Rattle.nats_history.specs.Parts.{Parts, parts_of}
+use Rattle.nats_history.specs.Parts.{parts_of}
 use Rattle.nats_history.specs.Schedule.{chain, own_steps, due, most_due, put_steps, settled_within, settled, after_turn}
-use Rattle.nats_history.specs.After.{after, after_all, due_steps_within, due_steps}
+use Rattle.nats_history.specs.After.{after_all, due_steps_within, due_steps}
 use Rattle.nats_history.proofs.Refines.{parts_after}
 use Rattle.nats_history.proofs.Dues.{none_left}
 

@@ -1,14 +1,13 @@
 -- The parts after one more step: what the words on the longer history give is what the step makes of the parts.
-use Rattle.std.proofs.Common.{◌≡◌, ℕ, zero, suc, ◌+◌, Bool, true, false, cond, min, List, [], ◌∷◌, ◌++◌, length, drop, refl, sym, ◌∙◌, ap}
+use Rattle.std.proofs.Common.{◌≡◌, ℕ, suc, ◌+◌, Bool, true, false, cond, min, List, [], ◌∷◌, ◌++◌, length, drop, refl, sym, ◌∙◌, ap}
 use Rattle.std.proofs.lemmas.List.{append-nil, length-map}
 use Rattle.std.proofs.Math.Seq.{drop-nil}
 use Rattle.nats_wire.specs.declared.op.ClientOp.{ClientOp}
-use Rattle.nats_wire.specs.Operations.{message, ping_op, Front, got, unfinished, fault, front, past, behind}
+use Rattle.nats_wire.specs.Operations.{Front, got, unfinished, fault, front, past, behind}
 use Rattle.nats_history.specs.declared.config.Config.{Config}
-use Rattle.nats_history.specs.declared.call.Call.{Call}
-use Rattle.nats_history.specs.History.{Step, opened, fed, read, taken, accepted, handled, took, gone, link_end, History, is_up, joined, is_got, reads, unread, calls, handled_count, waiting_calls, at_of, given, numbers, told, sub_of, kept, rows_of, commands, texts, text_by, link_text, taken_count, waiting_bytes}
-use Rattle.nats_history.specs.Parts.{Parts, parts_of}
-use Rattle.nats_history.specs.After.{write_all, written, bytes_after, unread_after, calls_after, commands_of, after}
+use Rattle.nats_history.specs.History.{Step, opened, fed, read, taken, accepted, handled, link_end, History, is_up, joined, is_got, reads, unread, calls, handled_count, waiting_calls, at_of, given, numbers, told, sub_of, kept, rows_of, commands, texts, text_by, link_text, taken_count, waiting_bytes}
+use Rattle.nats_history.specs.Parts.{parts_of}
+use Rattle.nats_history.specs.After.{written, bytes_after, unread_after, calls_after, after}
 use Rattle.nats_history.proofs.Words.{drop_one_more, drop_more_of, calls_accepted, unread_read, unread_fed, waiting_more, written_all}
 use Rattle.nats_tables.proofs.Numbers.{length-count_from}
 use Rattle.nats_history.proofs.Rows.{rows_told}

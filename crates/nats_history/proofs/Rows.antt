@@ -1,16 +1,15 @@
 -- The subscriptions after one more step: what is told of them on the longer history is what the step makes of them.
-use Rattle.std.proofs.Common.{◌≡◌, ℕ, zero, suc, ◌+◌, ◌<◌, ◌≤◌, Bool, true, false, cond, ltb, ◌&&◌, min, List, [], ◌∷◌, ◌++◌, length, drop, map, refl, sym, ◌∙◌, ap, arith}
-use Rattle.std.proofs.lemmas.List.{append-nil, map-append, length-map, length-append, drop-append-le, drop_all}
-use Rattle.std.proofs.lemmas.Bool.{ltb-true, ltb-false, lt-ltb, le-ltb, false≢true}
+use Rattle.std.proofs.Common.{◌≡◌, ℕ, zero, suc, ◌≤◌, Bool, true, false, cond, ◌&&◌, min, List, [], ◌∷◌, ◌++◌, length, drop, map, refl, sym, ◌∙◌, ap, arith}
+use Rattle.std.proofs.lemmas.List.{append-nil, map-append, length-append, drop-append-le, drop_all}
+use Rattle.std.proofs.lemmas.Bool.{ltb-false, lt-ltb, le-ltb, false≢true}
 use Rattle.std.proofs.Math.Nat.{min-le_right}
 use Rattle.nats_wire.specs.declared.message.Message.{Message}
 use Rattle.nats_wire.specs.Operations.{message}
 use Rattle.nats_history.specs.declared.config.Config.{Config}
-use Rattle.nats_history.specs.declared.call.Call.{Call}
-use Rattle.nats_history.specs.History.{Step, opened, fed, read, taken, accepted, handled, took, gone, link_end, History, cut, subscribes, At, given_after, at_after, at_of, given, numbers, about, is_given, concerns, Told, nothing_told, second, Sub, sub_of, is_ended, puts, opens, ends, open_if, end_if, stage_after, gone_after, puts_by, takes_after, told_after, told, is_over, forgotten, kept, rows_of}
+use Rattle.nats_history.specs.History.{Step, read, accepted, took, gone, History, cut, subscribes, At, given_after, at_after, at_of, given, about, is_given, concerns, Told, nothing_told, second, Sub, sub_of, is_ended, puts, opens, ends, open_if, end_if, stage_after, gone_after, puts_by, told_after, told, is_over, forgotten, kept, rows_of}
 use Rattle.nats_history.specs.declared.stage.Stage.{Stage}
 use Rattle.nats_history.specs.declared.stage.Stage.TheVariants.{Asked, Open, Ended}
-use Rattle.nats_tables.specs.Numbers.{count_from, About, is_about, change}
+use Rattle.nats_tables.specs.Numbers.{count_from, is_about, change}
 use Rattle.nats_history.specs.After.{new_sub, changed_sub, sub_after, grown, rows_after}
 use Rattle.nats_history.proofs.Words.{drop_one_more}
 use Rattle.nats_tables.proofs.Numbers.{changed, same_up_to, one_more}

@@ -1,5 +1,5 @@
 -- Sentences about the words on histories and what steps make of parts.
-use Rattle.std.specs.Prelude.{◌≡◌, ℕ, List, ◌∷◌, None}
+use Rattle.std.specs.Prelude.{◌≡◌, ℕ, ◌∷◌, None}
 use Rattle.nats_history.specs.declared.config.Config.{Config}
 use Rattle.nats_history.specs.declared.turn.Turn.{Turn}
 use Rattle.nats_history.specs.History.{Step, History}

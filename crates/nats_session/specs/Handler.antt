@@ -77,7 +77,8 @@ can_play p turn = is_valid_turn p turn && not (is_some (due p))
 -- the steps
 abbrev pub LeadTo : Seen → List Step → Seen → Type 0
 LeadTo old steps new =
-    (c : Config) (out : HandedOut) (h : History) (place : ℕ) → StandsFor c out h old → StandsFor c out (put_steps place steps h) new
+    (c : Config) (out : HandedOut) (h : History) (place : ℕ) → StandsFor c out h old
+    → StandsFor c out (put_steps place steps h) new
 
 -- ---- due steps
 
@@ -86,6 +87,10 @@ delivery_name sid Put = due_names.Put sid
 delivery_name sid (Dropped m) = due_names.Dropped sid m
 delivery_name sid Unwanted = due_names.Read
 delivery_name sid Ignored = due_names.Read
+
+-- what becomes of a message that comes for the subscription of a number
+abbrev pub delivery_of : Parts → ℕ → Message → Delivery
+delivery_of p sid m = delivery_at p.config m (item_of sid p.subs.rows)
 
 -- what is seen after a message that comes for a subscription, by what became of it
 abbrev pub delivered_seen : ℕ → Message → Seen → Seen
@@ -117,7 +122,7 @@ end_in (link_end word ∷ steps) = Some word
 end_in (step ∷ steps) = end_in steps
 
 abbrev pub own_name : Parts → Step → Due
-own_name p (read (message sid m)) = delivery_name sid (delivery_at p.config m (item_of sid p.subs.rows))
+own_name p (read (message sid m)) = delivery_name sid (delivery_of p sid m)
 own_name p (read operation) = due_names.Read
 own_name p (handled call) = due_names.Handled
 own_name p step = due_names.Nothing
@@ -142,7 +147,9 @@ handled_first p = option_map handled (first p.calls)
 -- a look at the parts tells which step is due
 abbrev pub Sees : Parts → Look → Type 0
 Sees p looks.Nothing = due p ≡ None
-Sees p (looks.Read peeked) = (due p ≡ Some (read (op_view peeked.op))) × (front p.link.wire.unread ≡ got (op_view peeked.op) peeked.len)
+Sees p (looks.Read peeked) =
+    (due p ≡ Some (read (op_view peeked.op)))
+    × (front p.link.wire.unread ≡ got (op_view peeked.op) peeked.len)
     × (peeked.len ≤ length p.link.wire.unread) × (p.link.is_up ≡ true)
 Sees p looks.Fault = due p ≡ Some (link_end word.Fault)
 Sees p looks.Command = (due p ≡ handled_first p) × (is_some (first p.calls) ≡ true) × (p.link.is_up ≡ true)
@@ -203,4 +210,5 @@ handed (Some event) out = record out { events = suc out.events }
 -- one stands for the history with one more handed out
 abbrev pub HandsOut : Seen → Option Event → Seen → Type 0
 HandsOut old event new =
-    (c : Config) (out : HandedOut) (h : History) → StandsFor c out h old → (event ≡ next_of c out h) × StandsFor c (handed event out) h new
+    (c : Config) (out : HandedOut) (h : History) → StandsFor c out h old
+    → (event ≡ next_of c out h) × StandsFor c (handed event out) h new

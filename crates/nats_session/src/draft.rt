@@ -30,7 +30,13 @@ impl Model for Draft {
 
     ghost Value = { Sheet };
 
-    ghost view = { λ d. record { links = d.links.items; taken = d.taken.items; subs = d.subs.items; events = d.events.items; calls = d.calls.items } };
+    ghost view = { λ d. record {
+      links = d.links.items;
+      taken = d.taken.items;
+      subs = d.subs.items;
+      events = d.events.items;
+      calls = d.calls.items;
+    } };
 }
 
 impl Draft {
@@ -64,7 +70,8 @@ impl Draft {
 
     /// The link ended, and left these bytes.
     pub fn end_link(&mut self, alloc: Global, end: LinkWord, left: &[u8]) -> Result<(), NoMemory>
-        ensures { OnOk result (self.new ≡ record self.old { links = self.old.links ++ row_with end self.old.taken left.now ∷ []; taken = [] }) }
+        ensures { OnOk result (self.new
+            ≡ record self.old { links = self.old.links ++ row_with end self.old.taken left.now ∷ []; taken = [] }) }
     {
         let left = Seq::from_vec(Vec::from_slice(alloc, left)?);
         let taken = Seq::from_vec(mem::replace(&mut self.taken, Vec::new(alloc)));
@@ -86,7 +93,8 @@ impl Draft {
 
     /// Something happened to subscription `sid`.
     pub fn note(&mut self, alloc: Global, place: u64, sid: u64, note: Note) -> Result<(), NoMemory>
-        ensures { OnOk result (self.new ≡ record self.old { subs = at_number sid (write_note place note) self.old.subs }) }
+        ensures { OnOk result
+            (self.new ≡ record self.old { subs = at_number sid (write_note place note) self.old.subs }) }
     {
         note_in(&mut self.subs, alloc, place, sid, note)
     }

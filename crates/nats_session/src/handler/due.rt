@@ -10,8 +10,8 @@ ghost use Rattle.nats_history.specs.History.{link_end, read, handled, unsubscrib
 ghost use Rattle.nats_history.specs.Parts.{at_in};
 ghost use Rattle.nats_history.specs.Schedule.{due, due_chain};
 ghost use Rattle.nats_history.specs.After.{written, subs_after};
-ghost use Rattle.nats_session.specs.Delivery.{delivery_at, with_rows, rows_with};
-ghost use Rattle.nats_session.specs.Handler.{Advances, Sees, is_nothing, look_message, handled_first, seen_after, own_name, delivery_name, after_message, end_in, push_all};
+ghost use Rattle.nats_session.specs.Delivery.{with_rows, rows_with};
+ghost use Rattle.nats_session.specs.Handler.{Advances, Sees, is_nothing, look_message, handled_first, seen_after, own_name, delivery_of, delivery_name, after_message, end_in, push_all};
 
 use super::ConnectionHandler;
 use crate::subs::{Alteration, Delivery, Subscriptions};
@@ -65,7 +65,10 @@ fn write_publish(
     alloc: Global,
     message: &OutboundMessage,
 ) -> Result<(), NoMemory>
-    ensures ok { OnOk result (connection.new ≡ record connection.old { waiting = connection.old.waiting ++ command_text (client.Publish message.now.subject message.now.payload message.now.reply message.now.headers) }) }
+    ensures ok { OnOk result (connection.new ≡ record connection.old {
+      waiting = connection.old.waiting
+          ++ command_text (client.Publish message.now.subject message.now.payload message.now.reply message.now.headers);
+    }) }
     ensures err { OnErr result (connection.new ≡ connection.old) }
 {
     let op = ClientOp::Publish {
@@ -84,7 +87,10 @@ fn write_subscribe(
     subject: &Subject,
     queue_group: &Option<Subject>,
 ) -> Result<(), NoMemory>
-    ensures ok { OnOk result (connection.new ≡ record connection.old { waiting = connection.old.waiting ++ command_text (client.Subscribe sid subject.now queue_group.now) }) }
+    ensures ok { OnOk result (connection.new ≡ record connection.old {
+      waiting = connection.old.waiting
+          ++ command_text (client.Subscribe sid subject.now queue_group.now);
+    }) }
     ensures err { OnErr result (connection.new ≡ connection.old) }
 {
     let op = ClientOp::Subscribe {
@@ -103,8 +109,9 @@ fn write_unsubscribe(
     sid: u64,
     max: Option<u64>,
 ) -> Result<(), NoMemory>
-    ensures ok { OnOk result (connection.new
-        ≡ record connection.old { waiting = written true (unsubscribe_command is_open sid max) connection.old.waiting }) }
+    ensures ok { OnOk result (connection.new ≡ record connection.old {
+      waiting = written true (unsubscribe_command is_open sid max) connection.old.waiting;
+    }) }
     ensures err { OnErr result (connection.new ≡ connection.old) }
 {
     if !is_open {
@@ -122,10 +129,10 @@ fn unsubscribe(
     max: Option<u64>,
     alteration: Alteration,
 ) -> Result<(), NoMemory>
-    ensures text { OnOk result (connection.new
-        ≡ record connection.old {
-          waiting = written true (unsubscribe_command (is_open_at (item_of sid subs.old.rows)) sid max) connection.old.waiting;
-        }) }
+    ensures text { OnOk result (connection.new ≡ record connection.old {
+      waiting
+          = written true (unsubscribe_command (is_open_at (item_of sid subs.old.rows)) sid max) connection.old.waiting;
+    }) }
     ensures subs { OnOk result (subs.new ≡ with_rows (rows_with sid alteration subs.old.rows) subs.old) }
     ensures err { OnErr result ((connection.new ≡ connection.old) × (subs.new ≡ subs.old)) }
 {
@@ -143,10 +150,10 @@ fn handle_call(
     _config: &Config,
     call: &Call,
 ) -> Result<(), NoMemory>
-    ensures text { OnOk result (connection.new
-        ≡ record connection.old {
-          waiting = written true (commands _config.now (at_in subs.old) subs.old.rows (handled call.now)) connection.old.waiting;
-        }) }
+    ensures text { OnOk result (connection.new ≡ record connection.old {
+      waiting
+          = written true (commands _config.now (at_in subs.old) subs.old.rows (handled call.now)) connection.old.waiting;
+    }) }
     ensures subs { OnOk result (subs.new ≡ subs_after _config.now (handled call.now) subs.old) }
     ensures err { OnErr result ((connection.new ≡ connection.old) × (subs.new ≡ subs.old)) }
 {
@@ -277,7 +284,8 @@ impl ConnectionHandler {
     }
 
     fn note_info(&mut self, is_lame_duck: bool) -> Result<(), NoMemory>
-        ensures ok { OnOk result (self.new ≡ record self.old { events = push_all (info_events is_lame_duck) self.old.events }) }
+        ensures ok { OnOk result
+            (self.new ≡ record self.old { events = push_all (info_events is_lame_duck) self.old.events }) }
         ensures err { OnErr result (self.new ≡ self.old) }
     {
         if is_lame_duck {
@@ -288,10 +296,8 @@ impl ConnectionHandler {
 
     /// Brings a message to its subscription.
     fn read_message(&mut self, alloc: Global, sid: u64, message: Message) -> Result<Due, NoMemory>
-        ensures ok { OnOk result (self.new
-            ≡ after_message sid message (delivery_at self.old.parts.config message (item_of sid self.old.parts.subs.rows)) self.old) }
-        ensures name { IfOk result
-            (λ name. name ≡ delivery_name sid (delivery_at self.old.parts.config message (item_of sid self.old.parts.subs.rows))) }
+        ensures ok { OnOk result (self.new ≡ after_message sid message (delivery_of self.old.parts sid message) self.old) }
+        ensures name { IfOk result (λ name. name ≡ delivery_name sid (delivery_of self.old.parts sid message)) }
         ensures err { OnErr result (self.new ≡ self.old) }
     {
         match self.subs.deliver(&self.config, sid, message)? {
