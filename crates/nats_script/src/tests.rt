@@ -65,15 +65,22 @@ fn the_first_line_in_no_form_is_found(rt: HostRuntime) -> Result<(), Fail> {
     Ok(())
 }
 
-/// How many values the headers of a publish have under `K`, where the line is a publish with headers.
+/// How many values some headers have under `K`.
+fn under_k(headers: &Option<HeaderMap>) -> Option<usize> {
+    let headers = headers.as_ref()?;
+    let mut count = 0usize;
+    for _value in headers.get_all("K") {
+        count = count.saturating_add(1);
+    }
+    Some(count)
+}
+
+/// The same of the headers of a line's publish, where it is one.
 fn values_under_k(alloc: Global, line: &str) -> Result<Option<usize>, NoMemory> {
-    let Some(Turn::Do(Call::Publish(message))) = last_turn(alloc, line)? else {
-        return Ok(None);
-    };
-    let Some(headers) = message.headers else {
-        return Ok(None);
-    };
-    Ok(Some(headers.get_all("K").count() as usize))
+    match last_turn(alloc, line)? {
+        Some(Turn::Do(Call::Publish(message))) => Ok(under_k(&message.headers)),
+        _ => Ok(None),
+    }
 }
 
 #[test]
