@@ -1,5 +1,5 @@
 use crate::{
-    Bytes, Call, CallReply, Config, ConnectionHandler, Due, Event, HeaderMap, LinkWord, NoMemory,
+    Bytes, Call, CallReply, Config, ConnectionHandler, Due, Event, LinkWord, NoMemory,
     OutboundMessage, RunError, ServerInfo, Subject, TakeReply, Token, Turn, run,
 };
 use std::alloc::Global;
@@ -96,166 +96,6 @@ fn a_refusal_prints_itself(rt: HostRuntime) -> Result<(), Fail> {
 
 // ---- turn by turn
 
-fn up(alloc: Global, rt: &impl Abort, handler: &mut ConnectionHandler) -> Result<(), NoMemory> {
-    let info = ServerInfo::default(alloc);
-    let turn = Turn::Up(info.copy(alloc)?);
-    assert!(rt; handler.check(&turn));
-    handler.up(alloc, info)
-}
-
-fn submit(
-    alloc: Global,
-    rt: &impl Abort,
-    handler: &mut ConnectionHandler,
-    call: Call,
-) -> Result<CallReply, NoMemory> {
-    let turn = Turn::Do(call.copy(alloc)?);
-    assert!(rt; handler.check(&turn));
-    handler.submit(alloc, call).map_err(|_| NoMemory)
-}
-
-fn piece(
-    alloc: Global,
-    rt: &impl Abort,
-    handler: &mut ConnectionHandler,
-    bytes: &'static [u8],
-) -> Result<(), NoMemory> {
-    let turn = Turn::Piece(Bytes::from_static(bytes));
-    assert!(rt; handler.check(&turn));
-    handler.piece(alloc, bytes)
-}
-
-fn take(rt: &impl Abort, handler: &mut ConnectionHandler, s: u64) -> TakeReply {
-    assert!(rt; handler.check(&Turn::Take(s)));
-    handler.take(s)
-}
-
-fn written(rt: &impl Abort, handler: &mut ConnectionHandler, n: u64) {
-    assert!(rt; handler.check(&Turn::Write(n)));
-    handler.written(n);
-}
-
-fn session(alloc: Global, rt: &impl Abort) -> Result<ConnectionHandler, NoMemory> {
-    ConnectionHandler::new(alloc, settings(alloc, rt)?)
-}
-
-/// A link comes up, and a subscribe is taken in and handled.
-fn subscribe_on(
-    alloc: Global,
-    rt: &impl Abort,
-    handler: &mut ConnectionHandler,
-) -> Result<(), NoMemory> {
-    up(alloc, rt, handler)?;
-    submit(alloc, rt, handler, subscribe(alloc)?)?;
-    handler.advance(alloc)?;
-    Ok(())
-}
-
-fn written_in_part(
-    alloc: Global,
-    rt: &impl Abort,
-    handler: &mut ConnectionHandler,
-) -> Result<(), NoMemory> {
-    subscribe_on(alloc, rt, handler)?;
-    assert!(rt; handler.is_up() && handler.link() == 1 && !handler.is_due());
-    assert!(rt; handler.next_event().is_some());
-    assert_eq!(rt; handler.pending_pieces(alloc)?.as_slice().len(), 1);
-    written(rt, handler, 4);
-    assert_eq!(rt; handler.pending(), 11);
-    Ok(())
-}
-
-#[test]
-fn a_link_takes_what_was_written(rt: HostRuntime) -> Result<(), Fail> {
-    written_in_part(rt.alloc(), &rt, &mut session(rt.alloc(), &rt)?)?;
-    Ok(())
-}
-
-fn put_and_taken(
-    alloc: Global,
-    rt: &impl Abort,
-    handler: &mut ConnectionHandler,
-) -> Result<(), NoMemory> {
-    subscribe_on(alloc, rt, handler)?;
-    piece(alloc, rt, handler, MESSAGE)?;
-    assert!(rt; handler.is_due());
-    assert!(rt; matches!(handler.advance(alloc)?, Due::Put(1)));
-    assert!(rt; handler.last_put(1).is_some());
-    assert!(rt; matches!(take(rt, handler, 1), TakeReply::Message(_)));
-    assert!(rt; handler.last_put(1).is_none());
-    Ok(())
-}
-
-#[test]
-fn a_message_is_put_and_taken(rt: HostRuntime) -> Result<(), Fail> {
-    put_and_taken(rt.alloc(), &rt, &mut session(rt.alloc(), &rt)?)?;
-    Ok(())
-}
-
-fn fills_up(
-    alloc: Global,
-    rt: &impl Abort,
-    handler: &mut ConnectionHandler,
-) -> Result<(), NoMemory> {
-    let first = submit(alloc, rt, handler, publish(alloc)?)?;
-    assert!(rt; matches!(first, CallReply::Accepted));
-    let second = submit(alloc, rt, handler, publish(alloc)?)?;
-    assert!(rt; matches!(second, CallReply::Full));
-    up(alloc, rt, handler)?;
-    assert!(rt; matches!(handler.advance(alloc)?, Due::Handled));
-    assert!(rt; matches!(handler.advance(alloc)?, Due::Nothing));
-    Ok(())
-}
-
-#[test]
-fn a_call_past_the_capacity_is_refused(rt: HostRuntime) -> Result<(), Fail> {
-    let mut config = settings(rt.alloc(), &rt)?;
-    config.client_capacity = 1;
-    let mut handler = ConnectionHandler::new(rt.alloc(), config)?;
-    fills_up(rt.alloc(), &rt, &mut handler)?;
-    Ok(())
-}
-
-fn waits_for_a_link(
-    alloc: Global,
-    rt: &impl Abort,
-    handler: &mut ConnectionHandler,
-) -> Result<(), NoMemory> {
-    let reply = submit(alloc, rt, handler, publish(alloc)?)?;
-    assert!(rt; matches!(reply, CallReply::Accepted) && !handler.is_due());
-    assert!(rt; handler.pending_pieces(alloc)?.is_empty());
-    up(alloc, rt, handler)?;
-    assert!(rt; matches!(handler.advance(alloc)?, Due::Handled));
-    assert_eq!(rt; handler.pending(), 13);
-    Ok(())
-}
-
-#[test]
-fn a_call_waits_for_a_link(rt: HostRuntime) -> Result<(), Fail> {
-    waits_for_a_link(rt.alloc(), &rt, &mut session(rt.alloc(), &rt)?)?;
-    Ok(())
-}
-
-fn answered(
-    alloc: Global,
-    rt: &impl Abort,
-    handler: &mut ConnectionHandler,
-) -> Result<(), NoMemory> {
-    up(alloc, rt, handler)?;
-    piece(alloc, rt, handler, b"PING\r\n")?;
-    assert!(rt; matches!(handler.advance(alloc)?, Due::Read));
-    assert_eq!(rt; handler.pending(), 6);
-    Ok(())
-}
-
-#[test]
-fn a_ping_is_answered(rt: HostRuntime) -> Result<(), Fail> {
-    answered(rt.alloc(), &rt, &mut session(rt.alloc(), &rt)?)?;
-    Ok(())
-}
-
-// ---- refusals
-
 fn word_of(reply: &CallReply) -> &'static str {
     match reply {
         CallReply::Accepted => "accepted",
@@ -268,187 +108,172 @@ fn word_of(reply: &CallReply) -> &'static str {
     }
 }
 
-/// What a session answers to a publish.
-fn publish_word(
-    alloc: Global,
-    rt: &impl Abort,
-    skip: bool,
-    subject: &str,
-    reply: &str,
-) -> Result<&'static str, NoMemory> {
-    let mut config = settings(alloc, rt)?;
-    config.skip_subject_validation = skip;
-    let mut handler = ConnectionHandler::new(alloc, config)?;
-    let message = OutboundMessage {
-        subject: Subject::from_text(alloc, subject)?,
-        reply: Some(Subject::from_text(alloc, reply)?),
-        payload: Bytes::from_static(b"hi"),
-        headers: None,
-    };
-    Ok(word_of(&submit(alloc, rt, &mut handler, Call::Publish(message))?))
-}
-
-#[test]
-fn what_is_published_to_is_tested(rt: HostRuntime) -> Result<(), Fail> {
-    for (skip, subject, reply, word) in [
-        (false, "a", "r", "accepted"),
-        (false, "", "r", "invalid-subject"),
-        (false, "a\r\nPUB b 2", "r", "invalid-subject"),
-        (false, "a", "r r", "invalid-subject"),
-        (true, "a\r\nPUB b 2", "r r", "accepted"),
-        (true, "", "r", "invalid-subject"),
-        (true, "a", "", "invalid-subject"),
-    ] {
-        assert_eq!(rt; publish_word(rt.alloc(), &rt, skip, subject, reply)?, word);
+fn due_word(due: &Due) -> &'static str {
+    match due {
+        Due::Nothing => "nothing",
+        Due::Read => "read",
+        Due::Put(_) => "put",
+        Due::Dropped(..) => "dropped",
+        Due::Handled => "handled",
+        Due::Ended => "ended",
     }
-    Ok(())
 }
 
-/// What a session answers to a subscribe.
-fn subscribe_word(
-    alloc: Global,
-    rt: &impl Abort,
-    subject: &str,
-    group: &str,
-) -> Result<&'static str, NoMemory> {
-    let mut handler = session(alloc, rt)?;
-    let call = Call::Subscribe {
-        subject: Subject::from_text(alloc, subject)?,
-        queue_group: Some(Subject::from_text(alloc, group)?),
-    };
-    Ok(word_of(&submit(alloc, rt, &mut handler, call)?))
-}
-
-#[test]
-fn what_is_subscribed_to_is_tested(rt: HostRuntime) -> Result<(), Fail> {
-    for (subject, group, word) in [
-        ("a.*", "g", "numbered"),
-        (".a", "g h", "invalid-subject"),
-        ("a b", "g", "invalid-subject"),
-        ("a", "g h", "invalid-queue-name"),
-        ("a", "", "invalid-queue-name"),
-    ] {
-        assert_eq!(rt; subscribe_word(rt.alloc(), &rt, subject, group)?, word);
+fn take_word(reply: &TakeReply) -> &'static str {
+    match reply {
+        TakeReply::Message(_) => "message",
+        TakeReply::Empty => "empty",
+        TakeReply::Ended => "ended",
     }
-    Ok(())
 }
 
-/// What a session whose server takes `max` bytes answers to a publish of 11 bytes with a header block of 23.
-fn sized(alloc: Global, rt: &impl Abort, max: u64) -> Result<CallReply, NoMemory> {
-    let mut handler = session(alloc, rt)?;
-    let mut info = ServerInfo::default(alloc);
-    info.max_payload = max;
-    assert!(rt; handler.check(&Turn::Up(info.copy(alloc)?)));
-    handler.up(alloc, info)?;
-    let mut headers = HeaderMap::new(alloc);
-    headers.insert(alloc, "Header", "X").map_err(|_| NoMemory)?;
-    let message = OutboundMessage {
-        subject: Subject::from_text(alloc, "FOO.BAR")?,
-        reply: None,
-        payload: Bytes::from_static(b"Hello World"),
-        headers: Some(headers),
-    };
-    submit(alloc, rt, &mut handler, Call::Publish(message))
+/// The call of a word.
+fn call_of(alloc: Global, word: &str) -> Result<Call, NoMemory> {
+    Ok(match word {
+        "sub" => subscribe(alloc)?,
+        "unsub" => Call::Unsubscribe(1),
+        "limit" => Call::Limit(1, 1),
+        "drop" => Call::DropSub(1),
+        _ => publish(alloc)?,
+    })
 }
 
-#[test]
-fn a_size_counts_the_header_block(rt: HostRuntime) -> Result<(), Fail> {
-    let exceeded = CallReply::MaxPayloadExceeded {
-        limit: 33,
-        size: 34,
-    };
-    assert_eq!(rt; sized(rt.alloc(), &rt, 33)?, exceeded);
-    assert_eq!(rt; sized(rt.alloc(), &rt, 34)?, CallReply::Accepted);
-    Ok(())
-}
-
-// ---- ends
-
-/// A call is accepted and handled.
-fn handled(
+fn submitted(
     alloc: Global,
-    rt: &impl Abort,
     handler: &mut ConnectionHandler,
     call: Call,
-) -> Result<(), NoMemory> {
-    let reply = submit(alloc, rt, handler, call)?;
-    assert!(rt; matches!(reply, CallReply::Accepted));
-    assert!(rt; matches!(handler.advance(alloc)?, Due::Handled));
-    Ok(())
+) -> Result<&'static str, NoMemory> {
+    let turn = Turn::Do(call.copy(alloc)?);
+    if !handler.check(&turn) {
+        return Ok("out-of-turn");
+    }
+    match handler.submit(alloc, call) {
+        Ok(reply) => Ok(word_of(&reply)),
+        Err(_) => Err(NoMemory),
+    }
 }
 
-/// A message comes, and is read.
-fn read(alloc: Global, rt: &impl Abort, handler: &mut ConnectionHandler) -> Result<Due, NoMemory> {
-    piece(alloc, rt, handler, MESSAGE)?;
-    handler.advance(alloc)
-}
-
-fn unsubscribed(
+fn fed(
     alloc: Global,
-    rt: &impl Abort,
     handler: &mut ConnectionHandler,
-) -> Result<(), NoMemory> {
-    subscribe_on(alloc, rt, handler)?;
-    assert!(rt; matches!(read(alloc, rt, handler)?, Due::Put(1)));
-    handled(alloc, rt, handler, Call::Unsubscribe(1))?;
-    assert_eq!(rt; handler.pending(), 24);
-    assert!(rt; matches!(read(alloc, rt, handler)?, Due::Read));
-    assert!(rt; matches!(take(rt, handler, 1), TakeReply::Message(_)));
-    assert!(rt; matches!(take(rt, handler, 1), TakeReply::Ended));
-    Ok(())
-}
-
-fn limited(
-    alloc: Global,
-    rt: &impl Abort,
-    handler: &mut ConnectionHandler,
-) -> Result<(), NoMemory> {
-    subscribe_on(alloc, rt, handler)?;
-    handled(alloc, rt, handler, Call::Limit(1, 1))?;
-    assert_eq!(rt; handler.pending(), 26);
-    assert!(rt; matches!(take(rt, handler, 1), TakeReply::Empty));
-    assert!(rt; matches!(read(alloc, rt, handler)?, Due::Put(1)));
-    assert!(rt; matches!(read(alloc, rt, handler)?, Due::Read));
-    Ok(())
-}
-
-fn let_go(alloc: Global, rt: &impl Abort, handler: &mut ConnectionHandler) -> Result<(), NoMemory> {
-    subscribe_on(alloc, rt, handler)?;
-    handled(alloc, rt, handler, Call::DropSub(1))?;
-    assert!(rt; !handler.check(&Turn::Take(1)));
-    assert!(rt; !handler.check(&Turn::Do(Call::DropSub(1))));
-    assert!(rt; matches!(read(alloc, rt, handler)?, Due::Read));
-    Ok(())
-}
-
-#[test]
-fn a_subscription_ends(rt: HostRuntime) -> Result<(), Fail> {
-    unsubscribed(rt.alloc(), &rt, &mut session(rt.alloc(), &rt)?)?;
-    limited(rt.alloc(), &rt, &mut session(rt.alloc(), &rt)?)?;
-    let_go(rt.alloc(), &rt, &mut session(rt.alloc(), &rt)?)?;
-    Ok(())
-}
-
-// ---- events
-
-fn last_event(
-    alloc: Global,
-    rt: &impl Abort,
     bytes: &'static [u8],
-) -> Result<Option<Event>, NoMemory> {
-    let mut handler = session(alloc, rt)?;
-    up(alloc, rt, &mut handler)?;
-    let _ = handler.next_event();
-    piece(alloc, rt, &mut handler, bytes)?;
-    handler.advance(alloc)?;
-    Ok(handler.next_event())
+) -> Result<&'static str, NoMemory> {
+    if !handler.check(&Turn::Piece(Bytes::from_static(bytes))) {
+        return Ok("out-of-turn");
+    }
+    handler.piece(alloc, bytes)?;
+    Ok("fed")
+}
+
+fn opened(alloc: Global, handler: &mut ConnectionHandler) -> Result<&'static str, NoMemory> {
+    let info = ServerInfo::default(alloc);
+    if !handler.check(&Turn::Up(info.copy(alloc)?)) {
+        return Ok("out-of-turn");
+    }
+    handler.up(alloc, info)?;
+    Ok("up")
+}
+
+fn taken(handler: &mut ConnectionHandler) -> &'static str {
+    if !handler.check(&Turn::Take(1)) {
+        return "out-of-turn";
+    }
+    take_word(&handler.take(1))
+}
+
+fn written(handler: &mut ConnectionHandler) -> &'static str {
+    if !handler.check(&Turn::Write(4)) {
+        return "out-of-turn";
+    }
+    handler.written(4);
+    "written"
+}
+
+fn event_word(event: &Option<Event>) -> &'static str {
+    match event {
+        Some(Event::Connected) => "connected",
+        Some(Event::LameDuckMode) => "lame-duck",
+        Some(Event::ServerError(_)) => "server-error",
+        Some(_) => "other",
+        None => "none",
+    }
+}
+
+/// What a handler answers to a word.
+fn answer_to(
+    alloc: Global,
+    handler: &mut ConnectionHandler,
+    word: &str,
+) -> Result<&'static str, NoMemory> {
+    match word {
+        "up" => opened(alloc, handler),
+        "message" => fed(alloc, handler, MESSAGE),
+        "ping" => fed(alloc, handler, b"PING\r\n"),
+        "lame" => fed(alloc, handler, b"INFO {\"ldm\":true}\r\n"),
+        "error" => fed(alloc, handler, b"-ERR 'x'\r\n"),
+        "advance" => Ok(due_word(&handler.advance(alloc)?)),
+        "take" => Ok(taken(handler)),
+        "write" => Ok(written(handler)),
+        "event" => Ok(event_word(&handler.next_event())),
+        _ => {
+            let call = call_of(alloc, word)?;
+            submitted(alloc, handler, call)
+        }
+    }
+}
+
+/// What is done to a session whose capacity is one call, and what it answers.
+const ROWS: &str =
+    "pub:accepted pub:full up:up event:connected event:none advance:handled advance:nothing up:out-of-turn\
+|sub:numbered up:up advance:handled message:fed advance:put take:message take:empty write:written\
+|up:up ping:fed advance:read lame:fed advance:read error:fed advance:read event:connected event:lame-duck event:server-error\
+|sub:numbered up:up advance:handled message:fed advance:put unsub:accepted advance:handled take:message take:ended\
+|sub:numbered up:up advance:handled limit:accepted advance:handled take:empty message:fed advance:put message:fed advance:read\
+|sub:numbered drop:full drop:out-of-turn take:out-of-turn";
+
+/// Whether a session answers as a row says.
+fn answers_so(alloc: Global, handler: &mut ConnectionHandler, row: &str) -> Result<bool, NoMemory> {
+    for step in row.split(' ') {
+        let Some((word, expected)) = step.split_once(':') else {
+            return Ok(false);
+        };
+        if answer_to(alloc, handler, word)? != expected {
+            return Ok(false);
+        }
+    }
+    Ok(true)
+}
+
+fn session(alloc: Global, rt: &impl Abort) -> Result<ConnectionHandler, NoMemory> {
+    let mut config = settings(alloc, rt)?;
+    config.client_capacity = 1;
+    ConnectionHandler::new(alloc, config)
 }
 
 #[test]
-fn a_server_tells_of_itself(rt: HostRuntime) -> Result<(), Fail> {
-    let lame = last_event(rt.alloc(), &rt, b"INFO {\"ldm\":true}\r\n")?;
-    assert_eq!(rt; lame, Some(Event::LameDuckMode));
-    let error = last_event(rt.alloc(), &rt, b"-ERR 'x'\r\n")?;
-    assert!(rt; matches!(error, Some(Event::ServerError(_))));
+fn each_turn_is_answered(rt: HostRuntime) -> Result<(), Fail> {
+    for row in ROWS.split('|') {
+        let mut handler = session(rt.alloc(), &rt)?;
+        assert!(rt; answers_so(rt.alloc(), &mut handler, row)?, "{row:?}");
+    }
+    Ok(())
+}
+
+/// The lengths of what waits for a link, in all and as pieces, and whether a message waits to be taken.
+fn looked_at(
+    alloc: Global,
+    handler: &mut ConnectionHandler,
+) -> Result<(u64, usize, bool), NoMemory> {
+    let pieces = handler.pending_pieces(alloc)?.len();
+    Ok((handler.pending(), pieces, handler.last_put(1).is_some()))
+}
+
+#[test]
+fn what_waits_is_told(rt: HostRuntime) -> Result<(), Fail> {
+    let mut handler = session(rt.alloc(), &rt)?;
+    let row = "sub:numbered up:up advance:handled message:fed advance:put";
+    assert!(rt; answers_so(rt.alloc(), &mut handler, row)?);
+    assert!(rt; handler.is_up() && handler.link() == 1 && !handler.is_due());
+    assert_eq!(rt; looked_at(rt.alloc(), &mut handler)?, (15, 1, true));
     Ok(())
 }
