@@ -109,23 +109,43 @@ fn words<R: Env + AllocGlobal>(rt: &R) -> Result<Vec<String>> {
     Ok(words)
 }
 
+fn count_turns<R: Print + Clock + AllocGlobal>(rt: &R, count: usize) -> Result<()> {
+    let (counts, _) = play(rt, count)?;
+    print!(rt; "{counts}")?;
+    Ok(())
+}
+
+fn count_churn<R: Print + Clock + AllocGlobal>(rt: &R, count: usize) -> Result<()> {
+    let (last, _) = play_churn(rt, count)?;
+    println!(rt; "subscriptions {last}")?;
+    Ok(())
+}
+
+fn time_turns<R: Print + Clock + AllocGlobal>(rt: &R, count: usize) -> Result<()> {
+    let (_, elapsed) = play(rt, count)?;
+    let millis = elapsed.as_millis();
+    let rate = per_second(count, elapsed);
+    println!(rt; "{count} turns in {millis} ms, {rate} turns per second")?;
+    Ok(())
+}
+
+fn time_churn<R: Print + Clock + AllocGlobal>(rt: &R, count: usize) -> Result<()> {
+    let (last, elapsed) = play_churn(rt, count)?;
+    let millis = elapsed.as_millis();
+    println!(rt; "{last} subscriptions made and dropped in {millis} ms")?;
+    Ok(())
+}
+
 fn measure<R: Print + Eprint + Clock + Env + AllocGlobal>(rt: &R) -> Result<u8> {
     let words = words(rt)?;
     match command_of(words.as_slice()) {
         Some(Command::Count(count)) => {
-            let (counts, _) = play(rt, count)?;
-            let (last, _) = play_churn(rt, count)?;
-            print!(rt; "{counts}")?;
-            println!(rt; "subscriptions {last}")?;
+            count_turns(rt, count)?;
+            count_churn(rt, count)?;
         }
         Some(Command::Time(count)) => {
-            let (_, elapsed) = play(rt, count)?;
-            let millis = elapsed.as_millis();
-            let rate = per_second(count, elapsed);
-            println!(rt; "{count} turns in {millis} ms, {rate} turns per second")?;
-            let (last, elapsed) = play_churn(rt, count)?;
-            let millis = elapsed.as_millis();
-            println!(rt; "{last} subscriptions made and dropped in {millis} ms")?;
+            time_turns(rt, count)?;
+            time_churn(rt, count)?;
         }
         None => {
             eprintln!(rt; "usage: nats_bench count N, or time N; N is at most {TURN_LIMIT}")?;
