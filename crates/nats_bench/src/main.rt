@@ -1,15 +1,13 @@
 //! Measures the session: a mixed list of turns is made in memory and played. `count N` prints what N turns showed, and
-//! `time N` how long they took; both also make and drop N subscriptions, one after another.
+//! `time N` how long they took.
 #![tactic(auto)]
 
 ghost use Rattle.std.specs.Prelude.{◌≡◌, ◌≤◌, ◌*◌, ◌/◌, max, IfSome};
 ghost use Rattle.std.specs.Duration.{as_nanos};
 
-mod churn;
 mod counts;
 mod mix;
 
-use crate::churn::churn;
 use crate::counts::{Counts, counts_of};
 use crate::mix::mixed_turns;
 use anyhow::{Result, anyhow};
@@ -88,14 +86,6 @@ fn play<R: Clock + AllocGlobal>(rt: &R, count: usize) -> Result<(Counts, Duratio
     }
 }
 
-/// Makes and drops `count` subscriptions: the last number, and how long it took.
-fn play_churn<R: Clock + AllocGlobal>(rt: &R, count: usize) -> Result<(u64, Duration)> {
-    let config = settings(rt.alloc())?;
-    let start = Instant::now(rt)?;
-    let last = churn(rt.alloc(), config, count)?;
-    Ok((last, start.elapsed(rt)?))
-}
-
 /// How many of `count` are a second's share; a time of nothing is taken as one nanosecond.
 fn per_second(count: usize, elapsed: Duration) -> u128
     ensures { result ≡ count * 1000000000 / max 1 (as_nanos elapsed) }
@@ -109,43 +99,18 @@ fn words<R: Env + AllocGlobal>(rt: &R) -> Result<Vec<String>> {
     Ok(words)
 }
 
-fn count_turns<R: Print + Clock + AllocGlobal>(rt: &R, count: usize) -> Result<()> {
-    let (counts, _) = play(rt, count)?;
-    print!(rt; "{counts}")?;
-    Ok(())
-}
-
-fn count_churn<R: Print + Clock + AllocGlobal>(rt: &R, count: usize) -> Result<()> {
-    let (last, _) = play_churn(rt, count)?;
-    println!(rt; "subscriptions {last}")?;
-    Ok(())
-}
-
-fn time_turns<R: Print + Clock + AllocGlobal>(rt: &R, count: usize) -> Result<()> {
-    let (_, elapsed) = play(rt, count)?;
-    let millis = elapsed.as_millis();
-    let rate = per_second(count, elapsed);
-    println!(rt; "{count} turns in {millis} ms, {rate} turns per second")?;
-    Ok(())
-}
-
-fn time_churn<R: Print + Clock + AllocGlobal>(rt: &R, count: usize) -> Result<()> {
-    let (last, elapsed) = play_churn(rt, count)?;
-    let millis = elapsed.as_millis();
-    println!(rt; "{last} subscriptions made and dropped in {millis} ms")?;
-    Ok(())
-}
-
 fn measure<R: Print + Eprint + Clock + Env + AllocGlobal>(rt: &R) -> Result<u8> {
     let words = words(rt)?;
     match command_of(words.as_slice()) {
         Some(Command::Count(count)) => {
-            count_turns(rt, count)?;
-            count_churn(rt, count)?;
+            let (counts, _) = play(rt, count)?;
+            print!(rt; "{counts}")?;
         }
         Some(Command::Time(count)) => {
-            time_turns(rt, count)?;
-            time_churn(rt, count)?;
+            let (_, elapsed) = play(rt, count)?;
+            let millis = elapsed.as_millis();
+            let rate = per_second(count, elapsed);
+            println!(rt; "{count} turns in {millis} ms, {rate} turns per second")?;
         }
         None => {
             eprintln!(rt; "usage: nats_bench count N, or time N; N is at most {TURN_LIMIT}")?;
