@@ -1,3 +1,4 @@
+pub mod Empty
 pub mod Entries
 pub mod Laws
 pub mod Texts

@@ -8,12 +8,11 @@ ghost use Rattle.nats_header.specs.Equality.{same_headers-per, same_headers-equi
 ghost use Rattle.nats_header.specs.Block.{block_text};
 ghost use Rattle.nats_header.specs.Answers.{FieldAnswer, PairAnswer};
 
-use crate::fields::{Fields, put_alone, put_last, values_at, values_under};
+use crate::fields::Fields;
 use crate::lines::{line_len, lines_len, write_lines};
 use crate::{
     GetAll, HeaderError, HeaderIter, HeaderName, HeaderValue, IntoHeaderName, IntoHeaderValue,
 };
-use indexmap::IndexMap;
 use nats_names::NoMemory;
 use std::alloc::Global;
 use std::fmt;
@@ -42,12 +41,12 @@ impl Model for HeaderMap {
 
     ghost Value = { Headers };
 
-    ghost view = { λ m. m.fields.entries };
+    ghost view = { λ m. m.fields };
 
     ghost invariant = { λ m. record {
-      len : m.wire_len ≡ length (block_text m.fields.entries);
+      len : m.wire_len ≡ length (block_text m.fields);
       fits : m.wire_len < 2 ^ 63;
-      fields : IsTrue (are_fields m.fields.entries);
+      fields : IsTrue (are_fields m.fields);
     } };
 }
 
@@ -71,11 +70,11 @@ fn made<K: IntoHeaderName, V: IntoHeaderValue>(
 
 impl HeaderMap {
     /// The empty map. It takes no memory. The crate's call.
-    pub fn new(alloc: Global) -> HeaderMap
+    pub fn new(_alloc: Global) -> HeaderMap
         ensures { result ≡ [] }
     {
         HeaderMap {
-            fields: IndexMap::new(alloc),
+            fields: Fields::new(),
             wire_len: EMPTY_LEN,
         }
     }
@@ -89,13 +88,13 @@ impl HeaderMap {
         ensures ok { OnOk result (self.new ≡ inserted self.old name value) }
         ensures err { OnErr result (self.new ≡ self.old) }
     {
-        let gone = lines_len(&name, values_at(&self.fields, &name));
+        let gone = lines_len(&name, self.fields.values_at(&name));
         let rest = self.wire_len - gone;
         let added = line_len(&name, &value);
         if added >= LEN_LIMIT - rest {
             return Err(NoMemory);
         }
-        put_alone(&mut self.fields, alloc, name, value)?;
+        self.fields.put_alone(alloc, name, value)?;
         self.wire_len = rest + added;
         Ok(())
     }
@@ -113,7 +112,7 @@ impl HeaderMap {
         if added >= LEN_LIMIT - self.wire_len {
             return Err(NoMemory);
         }
-        put_last(&mut self.fields, alloc, name, value)?;
+        self.fields.put_last(alloc, name, value)?;
         self.wire_len += added;
         Ok(())
     }
@@ -169,7 +168,7 @@ impl HeaderMap {
         ensures first { option_copied result ≡ slice_get (values_of self.now key.now) 0 }
         ensures there { is_some result ≡ has_name self.now key.now }
     {
-        values_under(&self.fields, key).first()
+        self.fields.values_under(key).first()
     }
 
     /// The last value of the name, `None` exactly where the name isn't there. The crate's call, which panics at a text that is no
@@ -179,14 +178,14 @@ impl HeaderMap {
             ≡ slice_get (values_of self.now key.now) (length (values_of self.now key.now) - 1) }
         ensures there { is_some result ≡ has_name self.now key.now }
     {
-        values_under(&self.fields, key).last()
+        self.fields.values_under(key).last()
     }
 
     /// All values of the name in order, none where the name isn't there. The crate's call, which panics at a text that is no name.
     pub fn get_all(&self, key: &str) -> GetAll<'_, HeaderValue>
         ensures { result ≡ values_of self.now key.now }
     {
-        GetAll::over(values_under(&self.fields, key))
+        GetAll::over(self.fields.values_under(key))
     }
 
     /// The names in order, each with its values in order. No name stands twice, and each has a value. The crate's call.
@@ -195,21 +194,21 @@ impl HeaderMap {
         ensures valid { IsTrue (are_fields self.now) }
         ensures distinct { AreDistinct self.now }
     {
-        HeaderIter::over(self.fields.iter())
+        HeaderIter::over(self.fields.entries().iter())
     }
 
     /// The number of names. The crate's call.
     pub fn len(&self) -> usize
         ensures { result ≡ length self.now }
     {
-        self.fields.len()
+        self.fields.entries().len()
     }
 
     /// Whether there is no name. The crate's call.
     pub fn is_empty(&self) -> bool
         ensures { result ≡ (length self.now == 0) }
     {
-        self.fields.len() == 0
+        self.fields.is_empty()
     }
 
     /// The map that inserting each pair in turn makes of the empty one. The crate's `FromIterator`.
@@ -227,12 +226,11 @@ impl HeaderMap {
     }
 
     /// An equal map, with the names in the same order. Own call of this library, for the Rust's `Clone`.
-    pub fn copy(&self, _alloc: Global) -> Result<HeaderMap, NoMemory>
+    pub fn copy(&self, alloc: Global) -> Result<HeaderMap, NoMemory>
         ensures { IfOk result (λ m. m ≡ self.now) }
     {
-        let fields = self.fields.clone()?;
         Ok(HeaderMap {
-            fields,
+            fields: self.fields.copy(alloc)?,
             wire_len: self.wire_len,
         })
     }
@@ -253,7 +251,7 @@ impl HeaderMap {
     {
         let mut bytes = Vec::with_capacity(alloc, self.wire_len)?;
         bytes.extend_from_slice(b"NATS/1.0\r\n")?;
-        for (name, values) in self.fields.iter() {
+        for (name, values) in self.fields.entries().iter() {
             write_lines(&mut bytes, name, values.as_slice())?;
         }
         bytes.extend_from_slice(b"\r\n")?;
@@ -269,7 +267,7 @@ impl PartialEq for HeaderMap {
     ghost laws = { same_headers-per };
 
     fn eq(&self, other: &HeaderMap) -> bool {
-        self.fields == other.fields
+        self.fields.same(&other.fields)
     }
 }
 

@@ -6,7 +6,7 @@ use Rattle.nats_header.proofs.map.HeaderMap.append_field.Goals as goal
 
 pub invariant_of-self-2 : goal.invariant_of-self-2
 invariant_of-self-2 c =
-    let headers = c.self.inside.fields.entries in
+    let headers = c.self.inside.fields in
     let added = c.line_len-added.ensures in
     let len = ap (λ h. length (block_text h)) c.in_ok-put_last.ensures.ok in
     record {

@@ -9,5 +9,5 @@ returns-clause-there c =
     c.last.ensures.item.0
     ∙ nat_lt-zero (length c.values_under.result.now)
     ∙ ap (λ values. not (length values == 0)) c.values_under.ensures
-    ∙ values_of-there c.self.inside.fields.entries c.args.key.now c.self.invariant.fields
+    ∙ values_of-there c.self.inside.fields c.args.key.now c.self.invariant.fields
     ∙ ap (λ headers. has_name headers c.args.key.now) c.self.view_is

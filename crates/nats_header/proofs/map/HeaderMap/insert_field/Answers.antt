@@ -6,18 +6,18 @@ use Rattle.nats_header.proofs.map.HeaderMap.insert_field.Goals as goal
 
 pub lines_len-gone-requires : goal.lines_len-gone-requires
 lines_len-gone-requires c =
-    let headers = c.self.inside.fields.entries in
+    let headers = c.self.inside.fields in
     rw c.values_at.ensures (omega (arith, length-values_of headers c.args.name, length-block_text headers, c.self.invariant.len, c.self.invariant.fits))
 
 pub overflow_sub-rest : goal.overflow_sub-rest
 overflow_sub-rest c =
-    let headers = c.self.inside.fields.entries in
+    let headers = c.self.inside.fields in
     let gone = ap (λ values. length (field_lines (c.args.name, values))) c.values_at.ensures in
     omega (arith, gone, c.lines_len-gone.ensures, length-values_of headers c.args.name, length-block_text headers, c.self.invariant.len)
 
 pub invariant_of-self-2 : goal.invariant_of-self-2
 invariant_of-self-2 c =
-    let headers = c.self.inside.fields.entries in
+    let headers = c.self.inside.fields in
     let added = c.line_len-added.ensures in
     let gone = ap (λ values. length (field_lines (c.args.name, values))) c.values_at.ensures in
     let len = ap (λ h. length (block_text h)) c.in_ok-put_alone.ensures.ok in
