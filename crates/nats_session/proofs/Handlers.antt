@@ -22,8 +22,8 @@ use Rattle.nats_history.specs.Schedule.{refusal, reply_by, accepted_reply, call_
 use Rattle.nats_history.specs.After.{new_sub, sub_after, subs_after, after, after_all, events_of}
 use Rattle.nats_history.proofs.Refines.{parts_after}
 use Rattle.nats_tables.proofs.Numbers.{at_number_same, agree_at}
-use Rattle.nats_session.specs.declared.subs.subscription.Alteration.TheVariants as alterations
-use Rattle.nats_session.specs.Delivery.{take_from, given_one, rows_named, with_rows}
+use Rattle.nats_subs.specs.declared.subs.subscription.Alteration.TheVariants as alterations
+use Rattle.nats_subs.specs.Delivery.{take_from, given_one, rows_named, with_rows}
 use Rattle.nats_session.specs.Machine.{quiet}
 use Rattle.nats_session.specs.Handler.{Seen, HandedOut, StandsFor, push_all, seen_after, seen_all, LeadTo, can_play, Advances, Answers, Submits, next_of, handed, HandsOut}
 

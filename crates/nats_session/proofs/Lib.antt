@@ -1,5 +1,4 @@
 pub mod Calls
-pub mod Ends
 pub mod Handlers
 pub mod Items
 pub mod Messages

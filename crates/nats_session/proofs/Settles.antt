@@ -15,8 +15,8 @@ use Rattle.nats_history.specs.declared.turn.Due.{Due}
 use Rattle.nats_history.specs.declared.turn.Due.TheVariants as due_names
 use Rattle.nats_session.specs.declared.handler.due.Look.{Look}
 use Rattle.nats_session.specs.declared.handler.due.Look.TheVariants as looks
-use Rattle.nats_session.specs.declared.subs.subscription.Delivery.{Delivery}
-use Rattle.nats_session.specs.declared.subs.subscription.Delivery.TheVariants.{Put, Dropped, Unwanted, Ignored}
+use Rattle.nats_subs.specs.declared.subs.subscription.Delivery.{Delivery}
+use Rattle.nats_subs.specs.declared.subs.subscription.Delivery.TheVariants.{Put, Dropped, Unwanted, Ignored}
 use Rattle.nats_history.specs.declared.transcript.LinkWord.TheVariants as word
 use Rattle.nats_history.specs.Queue.{first}
 use Rattle.nats_tables.specs.Numbers.{at_number, item_of}
@@ -27,7 +27,7 @@ use Rattle.nats_history.specs.Parts.{Parts}
 use Rattle.nats_history.specs.Schedule.{chain, due_call, due_by, due, due_chain, most_due}
 use Rattle.nats_history.specs.After.{after, after_all, events_of, due_steps}
 use Rattle.nats_history.proofs.Dues.{bound_falls, none_due, one_due, after_append}
-use Rattle.nats_session.specs.Delivery.{delivery_at}
+use Rattle.nats_subs.specs.Delivery.{delivery_at}
 use Rattle.nats_session.specs.Handler.{Seen, push_all, seen_after, delivery_name, end_in, name_of, Advances, Sees, is_nothing, look_message, step_message, message_in}
 use Rattle.nats_session.specs.Sheet.{Sheet, write_drop, write_delivery, write_step, write_events}
 use Rattle.nats_session.specs.Machine.{quiet, sheet_noted, sheet_recorded, settled_parts, settled_sheet, write_end, write_due, Notes}

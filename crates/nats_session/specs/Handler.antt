@@ -18,16 +18,16 @@ use Rattle.nats_history.specs.declared.turn.Due.{Due}
 use Rattle.nats_history.specs.declared.turn.Due.TheVariants as due_names
 use Rattle.nats_session.specs.declared.handler.due.Look.{Look}
 use Rattle.nats_session.specs.declared.handler.due.Look.TheVariants as looks
-use Rattle.nats_session.specs.declared.subs.subscription.Delivery.{Delivery}
-use Rattle.nats_session.specs.declared.subs.subscription.Delivery.TheVariants.{Put, Dropped, Unwanted, Ignored}
+use Rattle.nats_subs.specs.declared.subs.subscription.Delivery.{Delivery}
+use Rattle.nats_subs.specs.declared.subs.subscription.Delivery.TheVariants.{Put, Dropped, Unwanted, Ignored}
 use Rattle.nats_history.specs.Queue.{first}
 use Rattle.nats_tables.specs.Numbers.{at_number, item_of}
 use Rattle.nats_history.specs.History.{Step, read, accepted, handled, link_end, History, second, kept, events}
 use Rattle.nats_history.specs.Parts.{Subs, Parts, parts_of}
 use Rattle.nats_history.specs.Schedule.{is_valid_turn, refusal, call_reply, accepted_step, call_steps, due, chain, due_chain, put_steps}
 use Rattle.nats_history.specs.After.{after, events_of}
-use Rattle.nats_session.specs.Delivery.{delivery_at, deliver, with_rows, rows_with}
-use Rattle.nats_session.specs.declared.subs.subscription.Alteration.TheVariants as alterations
+use Rattle.nats_subs.specs.Delivery.{delivery_at, deliver, with_rows, rows_with}
+use Rattle.nats_subs.specs.declared.subs.subscription.Alteration.TheVariants as alterations
 
 -- ---- a handler as it is seen
 

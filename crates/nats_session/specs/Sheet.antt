@@ -1,5 +1,5 @@
 -- The transcript as it is written step by step.
-use Rattle.std.specs.Prelude.{◌≡◌, ℕ, ◌<◌, List, [], ◌∷◌, ◌++◌, take, Option, Some, None, if◌then◌else◌}
+use Rattle.std.specs.Prelude.{◌≡◌, ℕ, suc, ◌<◌, ◌⊎◌, List, [], ◌∷◌, ◌++◌, take, Option, Some, None, if◌then◌else◌}
 use Rattle.nats_names.specs.declared.event.Event.{Event}
 use Rattle.nats_wire.specs.declared.message.Message.{Message}
 use Rattle.nats_wire.specs.Operations.{message}
@@ -14,12 +14,12 @@ use Rattle.nats_history.specs.declared.transcript.SubRow.{SubRow}
 use Rattle.nats_history.specs.declared.transcript.Transcript.{Transcript}
 use Rattle.nats_session.specs.declared.draft.Note.{Note}
 use Rattle.nats_session.specs.declared.draft.Note.TheVariants as notes
-use Rattle.nats_session.specs.declared.subs.subscription.Delivery.{Delivery}
-use Rattle.nats_session.specs.declared.subs.subscription.Delivery.TheVariants.{Put, Dropped, Unwanted, Ignored}
+use Rattle.nats_subs.specs.declared.subs.subscription.Delivery.{Delivery}
+use Rattle.nats_subs.specs.declared.subs.subscription.Delivery.TheVariants.{Put, Dropped, Unwanted, Ignored}
 use Rattle.nats_history.specs.History.{Step, opened, read, taken, accepted, link_end, History, is_up, subscribes, link_text, taken_count, at_place, given, events}
 use Rattle.nats_tables.specs.Numbers.{at_number, item_of}
 use Rattle.nats_history.specs.Parts.{Parts, parts_of}
-use Rattle.nats_session.specs.Delivery.{delivery_at}
+use Rattle.nats_subs.specs.Delivery.{delivery_at}
 use Rattle.nats_history.specs.Transcripts.{Answer, nothing, called, asked, ended_links, sub_rows, take_replies, call_replies}
 
 -- what is written so far
@@ -135,3 +135,10 @@ abbrev pub write_note : ℕ → Note → SubRow → SubRow
 write_note place (notes.Put m) row = write_put place m row
 write_note place (notes.Drop m) row = write_drop place m row
 write_note place (notes.Take reply) row = write_take place reply row
+
+-- ---- a row by its number
+
+-- where the thing of a number stands in a table of that many things, if it does
+abbrev pub IsPlaceOf : ℕ → ℕ → Option ℕ → Type 0
+IsPlaceOf sid count None = (sid ≡ 0) ⊎ (count < sid)
+IsPlaceOf sid count (Some index) = (sid ≡ suc index) × (index < count)

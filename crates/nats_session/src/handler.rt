@@ -6,8 +6,8 @@ mod accessors;
 mod calls;
 mod due;
 
-use crate::queue::Queue;
-use crate::subs::Subscriptions;
+use nats_subs::Queue;
+use nats_subs::Subscriptions;
 pub use due::Look;
 use nats_history::{Call, Config, Event, NoMemory};
 use nats_wire::Connection;

@@ -6,9 +6,7 @@ mod draft;
 mod handler;
 mod places;
 mod play;
-mod queue;
 mod refusals;
-mod subs;
 #[cfg(test)]
 mod tests;
 

@@ -5,7 +5,7 @@ ghost use Rattle.nats_history.specs.Queue.{first};
 ghost use Rattle.nats_tables.specs.Numbers.{item_of};
 ghost use Rattle.nats_history.specs.History.{names};
 ghost use Rattle.nats_history.specs.Schedule.{due, refusal, may_name, is_valid_turn};
-ghost use Rattle.nats_session.specs.Delivery.{youngest};
+ghost use Rattle.nats_subs.specs.Delivery.{youngest};
 ghost use Rattle.nats_session.specs.Handler.{can_play, HandsOut};
 
 use super::ConnectionHandler;

@@ -8,7 +8,7 @@ ghost use Rattle.nats_session.specs.Handler.{LeadTo, TakesIn, Submits, Advances,
 
 use super::ConnectionHandler;
 use crate::refusals::{lets_go, shuts, subscribes};
-use crate::subs::Alteration;
+use nats_subs::Alteration;
 use nats_history::{Bytes, Call, CallReply, Due, Event, NoMemory, ServerInfo, TakeReply};
 use nats_wire::Connection;
 use std::alloc::Global;

@@ -10,11 +10,11 @@ ghost use Rattle.nats_history.specs.History.{link_end, read, handled, unsubscrib
 ghost use Rattle.nats_history.specs.Parts.{at_in};
 ghost use Rattle.nats_history.specs.Schedule.{due, due_chain};
 ghost use Rattle.nats_history.specs.After.{written, subs_after};
-ghost use Rattle.nats_session.specs.Delivery.{with_rows, rows_with};
+ghost use Rattle.nats_subs.specs.Delivery.{with_rows, rows_with};
 ghost use Rattle.nats_session.specs.Handler.{Advances, Sees, is_nothing, look_message, handled_first, seen_after, own_name, delivery_of, delivery_name, after_message, end_in, push_all};
 
 use super::ConnectionHandler;
-use crate::subs::{Alteration, Delivery, Subscriptions};
+use nats_subs::{Alteration, Delivery, Subscriptions};
 use nats_history::{
     Call, Config, Due, Event, LinkWord, Message, NoMemory, OutboundMessage, Subject,
 };

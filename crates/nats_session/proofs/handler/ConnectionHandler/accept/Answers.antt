@@ -1,7 +1,7 @@
 -- The call was taken in or refused, and its user let a subscription go.
 use Rattle.std.proofs.Common.{◌∙◌, ap}
-use Rattle.nats_session.specs.declared.subs.subscription.Alteration.TheVariants as alterations
-use Rattle.nats_session.specs.Delivery.{rows_named, with_rows}
+use Rattle.nats_subs.specs.declared.subs.subscription.Alteration.TheVariants as alterations
+use Rattle.nats_subs.specs.Delivery.{rows_named, with_rows}
 use Rattle.nats_session.proofs.Handlers.{submitted}
 use Rattle.nats_session.proofs.handler.ConnectionHandler.accept.Goals as goal
 

@@ -1,7 +1,7 @@
 -- What becomes of a message: it is put, dropped, ends its subscription, or is ignored.
 use Rattle.std.proofs.Common.{refl, sym, ◌∙◌, ap}
-use Rattle.nats_session.specs.declared.subs.subscription.Delivery.TheVariants.{Put, Dropped, Unwanted, Ignored}
-use Rattle.nats_session.specs.Delivery.{with_rows}
+use Rattle.nats_subs.specs.declared.subs.subscription.Delivery.TheVariants.{Put, Dropped, Unwanted, Ignored}
+use Rattle.nats_subs.specs.Delivery.{with_rows}
 use Rattle.nats_session.proofs.Handlers.{on_err_of, unchanged}
 use Rattle.nats_session.proofs.Messages.{left_alone, delivered, dropped_one, unwanted_one, unwritten}
 use Rattle.nats_session.proofs.handler.ConnectionHandler.read_message.Goals as goal

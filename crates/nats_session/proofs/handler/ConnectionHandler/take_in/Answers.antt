@@ -1,7 +1,7 @@
 -- One more call waits; where it is a subscribe one more number was given, and else a subscription may be shut.
 use Rattle.std.proofs.Common.{sym, ◌∙◌, ap}
-use Rattle.nats_session.specs.declared.subs.subscription.Alteration.TheVariants as alterations
-use Rattle.nats_session.specs.Delivery.{rows_named, with_rows}
+use Rattle.nats_subs.specs.declared.subs.subscription.Alteration.TheVariants as alterations
+use Rattle.nats_subs.specs.Delivery.{rows_named, with_rows}
 use Rattle.nats_session.proofs.Handlers.{numbered_by, shut_by}
 use Rattle.nats_session.proofs.handler.ConnectionHandler.take_in.Goals as goal
 

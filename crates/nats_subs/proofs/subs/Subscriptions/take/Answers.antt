@@ -3,9 +3,9 @@ use Rattle.std.proofs.Common.{◌≡◌, ◌∙◌, ap}
 use Rattle.nats_tables.specs.Numbers.{at_number}
 use Rattle.nats_history.specs.History.{Sub, kept}
 use Rattle.nats_history.specs.Parts.{Subs}
-use Rattle.nats_session.specs.Delivery.{take_from, with_rows}
-use Rattle.nats_session.proofs.Items.{row_altered}
-use Rattle.nats_session.proofs.subs.Subscriptions.take.Goals as goal
+use Rattle.nats_subs.specs.Delivery.{take_from, with_rows}
+use Rattle.nats_subs.proofs.Counted.{row_altered}
+use Rattle.nats_subs.proofs.subs.Subscriptions.take.Goals as goal
 
 pub returns-clause-rest : goal.returns-clause-rest
 returns-clause-rest c =

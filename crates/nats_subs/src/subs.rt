@@ -1,12 +1,12 @@
 //! How subscriptions are kept: this file alone knows.
 ghost use Rattle.std.specs.Prelude.{◌≡◌, [], OnOk, OnErr, IfOk};
 ghost use Rattle.std.specs.Option.{option_copied};
-ghost use Rattle.nats_session.specs.declared.subs.subscription.Alteration.TheVariants as alterations;
+ghost use Rattle.nats_subs.specs.declared.subs.subscription.Alteration.TheVariants as alterations;
 ghost use Rattle.nats_tables.specs.Numbers.{at_number, item_of};
 ghost use Rattle.nats_history.specs.History.{next_subscribed, is_open_at, kept};
 ghost use Rattle.nats_history.specs.Parts.{at_in};
 ghost use Rattle.nats_history.specs.Schedule.{take_reply_of, is_there};
-ghost use Rattle.nats_session.specs.Delivery.{deliver, take_from, delivery_at, youngest, given_one, subscribed_one, with_rows, rows_with, rows_named};
+ghost use Rattle.nats_subs.specs.Delivery.{deliver, take_from, delivery_at, youngest, given_one, subscribed_one, with_rows, rows_with, rows_named};
 
 mod subscription;
 

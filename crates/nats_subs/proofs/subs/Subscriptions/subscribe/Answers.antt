@@ -1,10 +1,10 @@
 -- The next number that was given opens.
 use Rattle.std.proofs.Common.{◌≡◌, ◌<◌, ◌∙◌, ap, length, arith, add-one}
 use Rattle.std.proofs.lemmas.Bool.{lt-ltb}
-use Rattle.nats_session.specs.declared.subs.subscription.Alteration.TheVariants as alterations
-use Rattle.nats_session.specs.Delivery.{rows_with, subscribed_one}
-use Rattle.nats_session.proofs.Items.{as_subs, next_opens}
-use Rattle.nats_session.proofs.subs.Subscriptions.subscribe.Goals as goal
+use Rattle.nats_subs.specs.declared.subs.subscription.Alteration.TheVariants as alterations
+use Rattle.nats_subs.specs.Delivery.{rows_with, subscribed_one}
+use Rattle.nats_subs.proofs.Counted.{as_subs, next_opens}
+use Rattle.nats_subs.proofs.subs.Subscriptions.subscribe.Goals as goal
 
 pub returns-then-self-len : goal.returns-then-self-len
 returns-then-self-len c =

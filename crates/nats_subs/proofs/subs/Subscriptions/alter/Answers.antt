@@ -2,9 +2,9 @@
 use Rattle.std.proofs.Common.{◌≡◌, ◌∙◌, ap}
 use Rattle.nats_history.specs.History.{Sub, kept}
 use Rattle.nats_history.specs.Parts.{Subs}
-use Rattle.nats_session.specs.Delivery.{altered, rows_with, with_rows}
-use Rattle.nats_session.proofs.Items.{row_altered}
-use Rattle.nats_session.proofs.subs.Subscriptions.alter.Goals as goal
+use Rattle.nats_subs.specs.Delivery.{altered, rows_with, with_rows}
+use Rattle.nats_subs.proofs.Counted.{row_altered}
+use Rattle.nats_subs.proofs.subs.Subscriptions.alter.Goals as goal
 
 pub returns : goal.returns
 returns c =

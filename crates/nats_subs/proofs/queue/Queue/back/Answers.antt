@@ -1,8 +1,8 @@
 -- The youngest item is the last one.
 use Rattle.std.proofs.Common.{◌∙◌, ap, arith}
 use Rattle.nats_history.specs.Queue.{last}
-use Rattle.nats_session.proofs.Ends.{back_is}
-use Rattle.nats_session.proofs.queue.Queue.back.Goals as goal
+use Rattle.nats_subs.proofs.Ends.{back_is}
+use Rattle.nats_subs.proofs.queue.Queue.back.Goals as goal
 
 pub returns : goal.returns
 returns g c =

@@ -1,13 +1,13 @@
 -- What becomes of a subscription: what is asked of it, and the messages that come for it.
-use Rattle.std.specs.Prelude.{◌≡◌, ℕ, suc, ◌<◌, ◌⊎◌, Bool, true, false, nat_lt, nat_le, List, [], ◌∷◌, ◌++◌, drop, Option, Some, None, if◌then◌else◌}
+use Rattle.std.specs.Prelude.{◌≡◌, ℕ, suc, Bool, true, false, nat_lt, nat_le, List, [], ◌∷◌, ◌++◌, drop, Option, Some, None, if◌then◌else◌}
 use Rattle.nats_names.specs.declared.event.Event.{Event}
 use Rattle.nats_names.specs.declared.event.Event.TheVariants.{SlowConsumer}
 use Rattle.nats_wire.specs.declared.message.Message.{Message}
 use Rattle.nats_history.specs.declared.config.Config.{Config}
-use Rattle.nats_session.specs.declared.subs.subscription.Delivery.{Delivery}
-use Rattle.nats_session.specs.declared.subs.subscription.Delivery.TheVariants.{Put, Dropped, Unwanted, Ignored}
-use Rattle.nats_session.specs.declared.subs.subscription.Alteration.{Alteration}
-use Rattle.nats_session.specs.declared.subs.subscription.Alteration.TheVariants as alterations
+use Rattle.nats_subs.specs.declared.subs.subscription.Delivery.{Delivery}
+use Rattle.nats_subs.specs.declared.subs.subscription.Delivery.TheVariants.{Put, Dropped, Unwanted, Ignored}
+use Rattle.nats_subs.specs.declared.subs.subscription.Alteration.{Alteration}
+use Rattle.nats_subs.specs.declared.subs.subscription.Alteration.TheVariants as alterations
 use Rattle.nats_history.specs.Queue.{last}
 use Rattle.nats_tables.specs.Numbers.{named, at_number, change}
 use Rattle.nats_history.specs.History.{cut, Sub, is_open, has_room, puts, reached, open_if, end_if, kept, next_subscribed}
@@ -68,11 +68,6 @@ youngest_of sub = if sub.is_gone then None else last sub.waiting
 abbrev pub youngest : Option Sub → Option Message
 youngest None = None
 youngest (Some sub) = youngest_of sub
-
--- where the thing of a number stands in a table of that many things, if it does
-abbrev pub IsPlaceOf : ℕ → ℕ → Option ℕ → Type 0
-IsPlaceOf sid count None = (sid ≡ 0) ⊎ (count < sid)
-IsPlaceOf sid count (Some index) = (sid ≡ suc index) × (index < count)
 
 -- ---- all subscriptions
 

@@ -3,9 +3,9 @@ use Rattle.std.proofs.Common.{◌≡◌, Bool, true, false, nat_le, Some, refl}
 use Rattle.nats_tables.specs.Rows.{tidied}
 use Rattle.nats_history.specs.declared.stage.Stage.TheVariants.{Ended}
 use Rattle.nats_history.specs.History.{Sub, is_over, forgotten, end_if}
-use Rattle.nats_session.specs.declared.subs.subscription.Alteration.{Alteration}
-use Rattle.nats_session.specs.declared.subs.subscription.Alteration.TheVariants as alterations
-use Rattle.nats_session.specs.Delivery.{altered}
+use Rattle.nats_subs.specs.declared.subs.subscription.Alteration.{Alteration}
+use Rattle.nats_subs.specs.declared.subs.subscription.Alteration.TheVariants as alterations
+use Rattle.nats_subs.specs.Delivery.{altered}
 
 -- what is forgotten stays so, whatever happens to it
 pub still : (a : Alteration) → tidied is_over forgotten (altered a forgotten) ≡ forgotten

@@ -5,8 +5,8 @@ ghost use Rattle.std.specs.Option.{option_copied};
 ghost use Rattle.nats_history.specs.History.{is_open, is_over, forgotten, open_if, end_if, reached};
 ghost use Rattle.nats_history.specs.After.{new_sub};
 ghost use Rattle.nats_history.specs.Schedule.{sub_take};
-ghost use Rattle.nats_session.specs.Delivery.{altered, deliver, take_from, delivery, youngest_of};
-ghost use Rattle.nats_session.specs.Forgetting.{still};
+ghost use Rattle.nats_subs.specs.Delivery.{altered, deliver, take_from, delivery, youngest_of};
+ghost use Rattle.nats_subs.specs.Forgetting.{still};
 
 use crate::queue::Queue;
 use nats_history::{Config, Message, NoMemory, Stage, TakeReply};

@@ -4,9 +4,9 @@ use Rattle.std.proofs.lemmas.Result.{on_ok_weaker}
 use Rattle.nats_tables.specs.Numbers.{at_number}
 use Rattle.nats_history.specs.History.{Sub, kept}
 use Rattle.nats_history.specs.Parts.{Subs}
-use Rattle.nats_session.specs.Delivery.{deliver, with_rows}
-use Rattle.nats_session.proofs.Items.{row_altered}
-use Rattle.nats_session.proofs.subs.Subscriptions.deliver.Goals as goal
+use Rattle.nats_subs.specs.Delivery.{deliver, with_rows}
+use Rattle.nats_subs.proofs.Counted.{row_altered}
+use Rattle.nats_subs.proofs.subs.Subscriptions.deliver.Goals as goal
 
 pub returns-clause-ok : goal.returns-clause-ok
 returns-clause-ok c =
