@@ -148,8 +148,8 @@ handled_first p = option_map handled (first p.calls)
 abbrev pub Sees : Parts → Look → Type 0
 Sees p looks.Nothing = due p ≡ None
 Sees p (looks.Read peeked) =
-    (due p ≡ Some (read (op_view peeked.op)))
-    × (front p.link.wire.unread ≡ got (op_view peeked.op) peeked.len)
+    (due p ≡ Some (read (op_view peeked.op.value)))
+    × (front p.link.wire.unread ≡ got (op_view peeked.op.value) peeked.len)
     × (peeked.len ≤ length p.link.wire.unread) × (p.link.is_up ≡ true)
 Sees p looks.Fault = due p ≡ Some (link_end word.Fault)
 Sees p looks.Command = (due p ≡ handled_first p) × (is_some (first p.calls) ≡ true) × (p.link.is_up ≡ true)
@@ -170,7 +170,7 @@ message_in (Some step) = step_message step
 
 -- the message that a look saw, if it saw one
 abbrev pub look_message : Look → Option Message
-look_message (looks.Read peeked) = op_message (op_view peeked.op)
+look_message (looks.Read peeked) = op_message (op_view peeked.op.value)
 look_message looks.Nothing = None
 look_message looks.Fault = None
 look_message looks.Command = None

@@ -54,7 +54,7 @@ sight_view (sight.Fault n) = bad n
 
 abbrev pub front_view : Front → grammar.Front
 front_view front.Unfinished = unfinished
-front_view (front.Got op n) = got (op_view op) n
+front_view (front.Got op n) = got (op_view op.value) n
 front_view (front.Fault n) = fault n
 
 -- how many bytes it takes

@@ -17,10 +17,11 @@ use std::marker::Model;
 /// The number of waiting bytes from which on the write buffer counts as full. The crate's limit.
 pub const SOFT_WRITE_BUF_LIMIT: usize = 65_535;
 
-/// An operation at the front of the unread bytes, and how many bytes it takes there.
+/// An operation at the front of the unread bytes, in a box of its own so that it costs little to hand on, and how many bytes
+/// it takes there.
 #[derive(Debug, Drop, PartialEq, Eq)]
 pub struct Peeked {
-    pub op: ServerOp,
+    pub op: Box<ServerOp>,
     pub len: usize,
 }
 
@@ -118,7 +119,7 @@ impl Connection {
             Ok(Front::Unfinished) => Ok(None),
             Ok(Front::Got(op, len)) => {
                 self.consume(len);
-                Ok(Some(op))
+                Ok(Some(Box::into_inner(op)))
             }
             Ok(Front::Fault(n)) => {
                 self.consume(n);

@@ -10,11 +10,11 @@ use nats_names::NoMemory;
 use std::alloc::Global;
 
 /// What stands at the front of a text: less than an operation, one and the number of its bytes, or a fault that takes some
-/// bytes.
+/// bytes. An operation is boxed, so that it costs little to hand on.
 #[derive(Drop)]
 pub enum Front {
     Unfinished,
-    Got(ServerOp, usize),
+    Got(Box<ServerOp>, usize),
     Fault(usize),
 }
 
@@ -28,7 +28,7 @@ pub fn front_of(alloc: Global, bytes: &[u8]) -> Result<Front, NoMemory>
         Sight::Unfinished => Ok(Front::Unfinished),
         Sight::Fault(n) => Ok(Front::Fault(n)),
         Sight::Whole(text, len) => match copies::operation(alloc, &text)? {
-            Some(op) => Ok(Front::Got(op, len)),
+            Some(op) => Ok(Front::Got(Box::new(alloc, op)?, len)),
             None => Ok(Front::Fault(text.lost_at(len))),
         },
     }

@@ -49,7 +49,7 @@ impl Look {
         let Look::Read(peeked) = self else {
             return Ok(None);
         };
-        match &peeked.op {
+        match &*peeked.op {
             ServerOp::Message { message, .. } => Ok(Some(message.copy(alloc)?)),
             ServerOp::Ok
             | ServerOp::Info(_)
@@ -249,13 +249,13 @@ impl ConnectionHandler {
     fn handle_server_op(&mut self, alloc: Global, peeked: Peeked) -> Result<Due, NoMemory>
         requires fits { peeked.len ≤ length self.old.parts.link.wire.unread }
         requires up { IsTrue self.old.parts.link.is_up }
-        requires front { front self.old.parts.link.wire.unread ≡ got (op_view peeked.op) peeked.len }
-        ensures ok { OnOk result (self.new ≡ seen_after self.old (read (op_view peeked.op))) }
-        ensures name { IfOk result (λ name. name ≡ own_name self.old.parts (read (op_view peeked.op))) }
+        requires front { front self.old.parts.link.wire.unread ≡ got (op_view peeked.op.value) peeked.len }
+        ensures ok { OnOk result (self.new ≡ seen_after self.old (read (op_view peeked.op.value))) }
+        ensures name { IfOk result (λ name. name ≡ own_name self.old.parts (read (op_view peeked.op.value))) }
         ensures err { OnErr result (self.new ≡ self.old) }
     {
         let Peeked { op, len } = peeked;
-        match op {
+        match Box::into_inner(op) {
             ServerOp::Message { sid, message } => {
                 let name = self.read_message(alloc, sid, message)?;
                 self.connection.consume(len);
