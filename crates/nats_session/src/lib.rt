@@ -9,8 +9,6 @@ mod play;
 mod queue;
 mod refusals;
 mod subs;
-#[cfg(test)]
-mod tests;
 
 pub use handler::ConnectionHandler;
 pub use nats_history::{
