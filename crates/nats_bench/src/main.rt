@@ -1,15 +1,18 @@
-//! Measures the session: a mixed list of turns is made in memory and played. `count N` prints what N turns showed, and
-//! `time N` how long they took.
+//! Measures the session: a mixed list of turns is made in memory and played, and as many subscriptions are made and dropped
+//! again, one after another. `count N` prints what N turns showed and what N subscriptions left, `time N` how long they took.
 #![tactic(auto)]
 
-ghost use Rattle.std.specs.Prelude.{◌≡◌, ◌≤◌, ◌*◌, ◌/◌, max, IfSome};
-ghost use Rattle.std.specs.Duration.{as_nanos};
+ghost use Rattle.std.specs.Prelude.{◌≤◌, IfSome};
 
+mod churn;
 mod counts;
 mod mix;
+mod report;
 
+use crate::churn::{Left, churn};
 use crate::counts::{Counts, counts_of};
 use crate::mix::mixed_turns;
+use crate::report::{Report, Times};
 use anyhow::{Result, anyhow};
 use nats_session::{Config, NoMemory, Subject, Token, run};
 use std::alloc::Global;
@@ -18,7 +21,7 @@ use std::process::ExitCode;
 use std::rt::{Clock, Env};
 use std::time::{Duration, Instant};
 
-/// The most turns of a list.
+/// The most turns of a list, and the most subscriptions.
 const TURN_LIMIT: usize = 10_000_000;
 
 /// Nothing was measured.
@@ -26,10 +29,10 @@ const FAILED: u8 = 1;
 /// The words are no command.
 const UNKNOWN: u8 = 2;
 
-/// What to print of a number of turns.
+/// What to print of a number of turns and of as many subscriptions.
 #[derive(Clone, Copy)]
 enum Command {
-    /// What they showed.
+    /// What they showed and left.
     Count(usize),
     /// How long they took.
     Time(usize),
@@ -86,11 +89,30 @@ fn play<R: Clock + AllocGlobal>(rt: &R, count: usize) -> Result<(Counts, Duratio
     }
 }
 
-/// How many of `count` are a second's share; a time of nothing is taken as one nanosecond.
-fn per_second(count: usize, elapsed: Duration) -> u128
-    ensures { result ≡ count * 1000000000 / max 1 (as_nanos elapsed) }
-{
-    count as u128 * 1_000_000_000 / elapsed.as_nanos().max(1)
+/// Makes and drops `count` subscriptions: what they left, and how long it took.
+fn play_churn<R: Clock + AllocGlobal>(rt: &R, count: usize) -> Result<(Left, Duration)> {
+    let config = settings(rt.alloc())?;
+    let start = Instant::now(rt)?;
+    let left = churn(rt.alloc(), config, count)?;
+    Ok((left, start.elapsed(rt)?))
+}
+
+fn counted<R: Clock + AllocGlobal>(rt: &R, count: usize) -> Result<Report> {
+    let (counts, _) = play(rt, count)?;
+    let (left, _) = play_churn(rt, count)?;
+    Ok(Report::Counted(counts, left))
+}
+
+fn timed<R: Clock + AllocGlobal>(rt: &R, count: usize) -> Result<Report> {
+    let (_, played) = play(rt, count)?;
+    let (_, dropped) = play_churn(rt, count)?;
+    let (_, dropped_twice) = play_churn(rt, count.saturating_mul(2))?;
+    Ok(Report::Timed(Times {
+        count,
+        played,
+        dropped,
+        dropped_twice,
+    }))
 }
 
 /// The words of the command line, without the program's name.
@@ -99,33 +121,40 @@ fn words<R: Env + AllocGlobal>(rt: &R) -> Result<Vec<String>> {
     Ok(words)
 }
 
-fn measure<R: Print + Eprint + Clock + Env + AllocGlobal>(rt: &R) -> Result<u8> {
+fn asked<R: Env + AllocGlobal>(rt: &R) -> Result<Option<Command>> {
     let words = words(rt)?;
-    match command_of(words.as_slice()) {
-        Some(Command::Count(count)) => {
-            let (counts, _) = play(rt, count)?;
-            print!(rt; "{counts}")?;
-        }
-        Some(Command::Time(count)) => {
-            let (_, elapsed) = play(rt, count)?;
-            let millis = elapsed.as_millis();
-            let rate = per_second(count, elapsed);
-            println!(rt; "{count} turns in {millis} ms, {rate} turns per second")?;
-        }
-        None => {
-            eprintln!(rt; "usage: nats_bench count N, or time N; N is at most {TURN_LIMIT}")?;
-            return Ok(UNKNOWN);
-        }
+    Ok(command_of(words.as_slice()))
+}
+
+/// What the words of the command line ask for; `None` where they are no command.
+fn measure<R: Clock + Env + AllocGlobal>(rt: &R) -> Result<Option<Report>> {
+    match asked(rt)? {
+        Some(Command::Count(count)) => Ok(Some(counted(rt, count)?)),
+        Some(Command::Time(count)) => Ok(Some(timed(rt, count)?)),
+        None => Ok(None),
     }
-    Ok(0)
+}
+
+fn print<R: Print>(rt: &R, report: &Report) -> u8 {
+    match print!(rt; "{report}") {
+        Ok(()) => 0,
+        Err(_) => FAILED,
+    }
 }
 
 fn main(rt: HostRuntime) -> ExitCode {
-    match measure(&rt) {
-        Ok(status) => ExitCode::from(status),
+    let status = match measure(&rt) {
+        Ok(Some(report)) => print(&rt, &report),
+        Ok(None) => {
+            let _ = eprintln!(rt;
+                "usage: nats_bench count N, or time N; N is at most {TURN_LIMIT}"
+            );
+            UNKNOWN
+        }
         Err(failure) => {
             let _ = eprintln!(rt; "{failure:?}");
-            ExitCode::from(FAILED)
+            FAILED
         }
-    }
+    };
+    ExitCode::from(status)
 }

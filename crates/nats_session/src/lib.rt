@@ -7,8 +7,6 @@ mod handler;
 mod places;
 mod play;
 mod refusals;
-#[cfg(test)]
-mod tests;
 
 pub use handler::ConnectionHandler;
 pub use nats_history::{

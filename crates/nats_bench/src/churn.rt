@@ -1,0 +1,143 @@
+//! Subscriptions that are made and dropped again, one after another, on one session.
+
+use nats_session::{
+    Call, CallReply, Config, ConnectionHandler, Due, NoMemory, ServerInfo, Subject, Turn,
+};
+use std::alloc::Global;
+use std::fmt;
+
+/// What subscriptions left that were made and dropped again.
+#[derive(Clone, Copy)]
+pub struct Left {
+    /// The number that the last one was given.
+    pub given: u64,
+    /// The calls that were handled: two for each.
+    pub handled: u64,
+    /// Of the numbers given, those that a turn may still name.
+    pub named: u64,
+    /// The bytes that wait for the link.
+    pub waiting: u64,
+}
+
+/// Prints a line for each count.
+impl fmt::Display for Left {
+    fn fmt<W: fmt::Write>(&self, f: &mut fmt::Formatter<W>) -> fmt::Result {
+        writeln!(f, "given {}", self.given)?;
+        writeln!(f, "handled {}", self.handled)?;
+        writeln!(f, "named {}", self.named)?;
+        writeln!(f, "waiting {}", self.waiting)
+    }
+}
+
+fn bring_up(alloc: Global, session: &mut ConnectionHandler) -> Result<(), NoMemory> {
+    let turn = Turn::Up(ServerInfo::default(alloc));
+    if session.check(&turn) {
+        session.up(alloc, ServerInfo::default(alloc))?;
+    }
+    Ok(())
+}
+
+/// Makes a call where it may come; the number that it gave, if it gave one.
+fn submit(
+    alloc: Global,
+    session: &mut ConnectionHandler,
+    call: &Call,
+) -> Result<Option<u64>, NoMemory> {
+    if !session.check(&Turn::Do(call.copy(alloc)?)) {
+        return Ok(None);
+    }
+    match session.submit(alloc, call.copy(alloc)?) {
+        Ok(reply) => Ok(number_of(&reply)),
+        Err(_) => Err(NoMemory),
+    }
+}
+
+fn number_of(reply: &CallReply) -> Option<u64> {
+    match reply {
+        CallReply::Numbered(number) => Some(*number),
+        CallReply::Accepted
+        | CallReply::InvalidSubject
+        | CallReply::InvalidQueueName
+        | CallReply::MaxPayloadExceeded { .. }
+        | CallReply::NoNumber
+        | CallReply::Full => None,
+    }
+}
+
+/// Plays the step that is due: how many calls it handled.
+fn handle(alloc: Global, session: &mut ConnectionHandler) -> Result<u64, NoMemory> {
+    match session.advance(alloc)? {
+        Due::Handled => Ok(1),
+        Due::Nothing | Due::Read | Due::Put(_) | Due::Dropped(..) | Due::Ended => Ok(0),
+    }
+}
+
+/// The link takes all that waits.
+fn write(session: &mut ConnectionHandler) {
+    if session.check(&Turn::Write(u64::MAX)) {
+        session.written(u64::MAX);
+    }
+}
+
+fn make(alloc: Global, session: &mut ConnectionHandler) -> Result<Option<u64>, NoMemory> {
+    let call = Call::Subscribe {
+        subject: Subject::from_static("churn"),
+        queue_group: None,
+    };
+    submit(alloc, session, &call)
+}
+
+/// A subscription is made and dropped again, and its texts are taken.
+fn make_and_drop(
+    alloc: Global,
+    session: &mut ConnectionHandler,
+    left: &mut Left,
+) -> Result<(), NoMemory> {
+    let Some(number) = make(alloc, session)? else {
+        return Ok(());
+    };
+    let made = handle(alloc, session)?;
+    submit(alloc, session, &Call::DropSub(number))?;
+    let dropped = handle(alloc, session)?;
+    write(session);
+    left.given = number;
+    left.handled = left.handled.saturating_add(made).saturating_add(dropped);
+    Ok(())
+}
+
+/// How many of the numbers up to `last` a turn may name.
+fn named(session: &ConnectionHandler, last: u64) -> u64 {
+    let mut count = 0u64;
+    for s in 1..=last {
+        if session.check(&Turn::Take(s)) {
+            count = count.saturating_add(1);
+        }
+    }
+    count
+}
+
+fn churn_on(
+    alloc: Global,
+    session: &mut ConnectionHandler,
+    count: usize,
+) -> Result<Left, NoMemory> {
+    let mut left = Left {
+        given: 0,
+        handled: 0,
+        named: 0,
+        waiting: 0,
+    };
+    bring_up(alloc, session)?;
+    for _ in 0..count {
+        make_and_drop(alloc, session, &mut left)?;
+    }
+    left.named = named(session, left.given);
+    left.waiting = session.pending();
+    Ok(left)
+}
+
+/// Makes and drops `count` subscriptions, one after another, on one session.
+pub fn churn(alloc: Global, config: Config, count: usize) -> Result<Left, NoMemory> {
+    let mut session = ConnectionHandler::new(alloc, config)?;
+    churn_on(alloc, &mut session, count)
+}

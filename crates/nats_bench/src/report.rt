@@ -1,0 +1,62 @@
+//! What a command found, as it is printed.
+ghost use Rattle.std.specs.Prelude.{◌≡◌, ◌*◌, ◌/◌, max};
+ghost use Rattle.std.specs.Duration.{as_nanos};
+
+use crate::churn::Left;
+use crate::counts::Counts;
+use std::fmt;
+use std::time::Duration;
+
+/// How long the work on a number of turns, and on as many subscriptions, took.
+#[derive(Clone, Copy)]
+pub struct Times {
+    /// How many there were of each.
+    pub count: usize,
+    /// To play the list of turns.
+    pub played: Duration,
+    /// To make and drop the subscriptions.
+    pub dropped: Duration,
+    /// To make and drop twice as many.
+    pub dropped_twice: Duration,
+}
+
+/// What a command found.
+#[derive(Clone, Copy)]
+pub enum Report {
+    /// What a list of turns showed, and what subscriptions left that were made and dropped.
+    Counted(Counts, Left),
+    /// How long both took.
+    Timed(Times),
+}
+
+/// How many of `count` are a second's share; a time of nothing is taken as one nanosecond.
+fn per_second(count: usize, elapsed: Duration) -> u128
+    ensures { result ≡ count * 1000000000 / max 1 (as_nanos elapsed) }
+{
+    count as u128 * 1_000_000_000 / elapsed.as_nanos().max(1)
+}
+
+/// Prints a line for the turns and one for the subscriptions.
+impl fmt::Display for Times {
+    fn fmt<W: fmt::Write>(&self, f: &mut fmt::Formatter<W>) -> fmt::Result {
+        let count = self.count;
+        let millis = self.played.as_millis();
+        let rate = per_second(count, self.played);
+        let once = self.dropped.as_millis();
+        let twice = self.dropped_twice.as_millis();
+        writeln!(f, "{count} turns in {millis} ms, {rate} turns per second")?;
+        writeln!(
+            f,
+            "{count} subscriptions made and dropped in {once} ms, twice as many in {twice} ms"
+        )
+    }
+}
+
+impl fmt::Display for Report {
+    fn fmt<W: fmt::Write>(&self, f: &mut fmt::Formatter<W>) -> fmt::Result {
+        match self {
+            Report::Counted(counts, left) => write!(f, "{counts}{left}"),
+            Report::Timed(times) => write!(f, "{times}"),
+        }
+    }
+}

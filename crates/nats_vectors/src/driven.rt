@@ -1,0 +1,254 @@
+//! Driving a session by its calls. The turns that are played, and the replies that are said, are copies.
+ghost use Rattle.std.specs.Prelude.{IsTrue};
+ghost use Rattle.nats_history.specs.declared.turn.Turn.TheVariants as turns;
+ghost use Rattle.nats_session.specs.Handler.{can_play};
+
+use crate::words::{say, say_due, say_event, say_last, say_number, say_reply, say_take};
+use nats_names::{Bytes, NoMemory};
+use nats_script::{Script, print_transcript, read_script};
+use nats_session::{Call, Config, ConnectionHandler, ServerInfo, Turn, run};
+use std::alloc::Global;
+
+/// The most due steps, and the most events, that are played behind one turn.
+const MOST_DUE: u64 = 1000;
+
+// ---- a turn's own step
+
+fn bring_up(
+    alloc: Global,
+    handler: &mut ConnectionHandler,
+    out: &mut Vec<u8>,
+    info: &ServerInfo,
+) -> Result<(), NoMemory>
+    requires { IsTrue (can_play handler.old.parts (turns.Up info.now)) }
+{
+    handler.up(alloc, info.copy(alloc)?)?;
+    say(out, "up")
+}
+
+fn feed(
+    alloc: Global,
+    handler: &mut ConnectionHandler,
+    out: &mut Vec<u8>,
+    bytes: &[u8],
+) -> Result<(), NoMemory>
+    requires { IsTrue (can_play handler.old.parts (turns.Piece bytes.now)) }
+{
+    handler.piece(alloc, bytes)?;
+    say(out, "fed")
+}
+
+fn write(handler: &mut ConnectionHandler, out: &mut Vec<u8>, n: u64) -> Result<(), NoMemory>
+    requires { IsTrue (can_play handler.old.parts (turns.Write n)) }
+{
+    handler.written(n);
+    say(out, "written")
+}
+
+fn submit(
+    alloc: Global,
+    handler: &mut ConnectionHandler,
+    out: &mut Vec<u8>,
+    call: &Call,
+) -> Result<(), NoMemory>
+    requires { IsTrue (can_play handler.old.parts (turns.Do call.now)) }
+{
+    match handler.submit(alloc, call.copy(alloc)?) {
+        Ok(reply) => say_reply(out, &reply.copy(alloc)?),
+        Err(_) => Err(NoMemory),
+    }
+}
+
+fn take(
+    alloc: Global,
+    handler: &mut ConnectionHandler,
+    out: &mut Vec<u8>,
+    s: u64,
+) -> Result<(), NoMemory>
+    requires { IsTrue (can_play handler.old.parts (turns.Take s)) }
+{
+    let reply = handler.take(s);
+    say_take(out, &reply.copy(alloc)?)
+}
+
+fn play_own(
+    alloc: Global,
+    handler: &mut ConnectionHandler,
+    out: &mut Vec<u8>,
+    turn: &Turn,
+) -> Result<(), NoMemory>
+    requires { IsTrue (can_play handler.old.parts turn.now) }
+{
+    match turn {
+        Turn::Up(info) => bring_up(alloc, handler, out, info),
+        Turn::Piece(bytes) => feed(alloc, handler, out, bytes.as_slice()),
+        Turn::Write(n) => write(handler, out, *n),
+        Turn::Do(call) => submit(alloc, handler, out, call),
+        Turn::Take(s) => take(alloc, handler, out, *s),
+    }
+}
+
+fn play_checked(
+    alloc: Global,
+    handler: &mut ConnectionHandler,
+    out: &mut Vec<u8>,
+    turn: &Turn,
+) -> Result<(), NoMemory> {
+    if handler.check(turn) {
+        play_own(alloc, handler, out, turn)
+    } else {
+        say(out, "out of turn")
+    }
+}
+
+// ---- what follows a turn
+
+fn advance(
+    alloc: Global,
+    handler: &mut ConnectionHandler,
+    out: &mut Vec<u8>,
+) -> Result<(), NoMemory> {
+    let due = handler.advance(alloc)?;
+    say_due(out, &due)
+}
+
+fn settle(
+    alloc: Global,
+    handler: &mut ConnectionHandler,
+    out: &mut Vec<u8>,
+) -> Result<(), NoMemory> {
+    for _ in 0..MOST_DUE {
+        if !handler.is_due() {
+            break;
+        }
+        advance(alloc, handler, out)?;
+    }
+    Ok(())
+}
+
+fn hand_out(
+    alloc: Global,
+    handler: &mut ConnectionHandler,
+    out: &mut Vec<u8>,
+) -> Result<bool, NoMemory> {
+    match handler.next_event() {
+        Some(event) => {
+            say_event(alloc, out, &event)?;
+            Ok(true)
+        }
+        None => Ok(false),
+    }
+}
+
+fn hand_out_all(
+    alloc: Global,
+    handler: &mut ConnectionHandler,
+    out: &mut Vec<u8>,
+) -> Result<(), NoMemory> {
+    for _ in 0..MOST_DUE {
+        if !hand_out(alloc, handler, out)? {
+            break;
+        }
+    }
+    Ok(())
+}
+
+fn play_turn(
+    alloc: Global,
+    handler: &mut ConnectionHandler,
+    out: &mut Vec<u8>,
+    turn: &Turn,
+) -> Result<(), NoMemory> {
+    play_checked(alloc, handler, out, turn)?;
+    settle(alloc, handler, out)?;
+    hand_out_all(alloc, handler, out)?;
+    say(out, "\n")
+}
+
+// ---- what a session tells of itself at the end
+
+fn say_link(out: &mut Vec<u8>, handler: &ConnectionHandler) -> Result<(), NoMemory> {
+    say_number(out, "link", handler.link())?;
+    say(out, if handler.is_up() { " up" } else { " down" })?;
+    say_number(out, " pending", handler.pending())
+}
+
+fn say_pieces(out: &mut Vec<u8>, pieces: &[Bytes]) -> Result<(), NoMemory> {
+    for piece in pieces {
+        say(out, " ")?;
+        out.extend_from_slice(piece.as_slice())?;
+    }
+    Ok(())
+}
+
+fn say_waiting(
+    alloc: Global,
+    handler: &mut ConnectionHandler,
+    out: &mut Vec<u8>,
+) -> Result<(), NoMemory> {
+    let pieces = handler.pending_pieces(alloc)?;
+    say_pieces(out, pieces.as_slice())
+}
+
+fn look(alloc: Global, handler: &mut ConnectionHandler, out: &mut Vec<u8>) -> Result<(), NoMemory> {
+    say_link(out, handler)?;
+    say_last(out, handler.last_put(1))?;
+    say_waiting(alloc, handler, out)
+}
+
+// ---- whole scripts
+
+fn play_all(
+    alloc: Global,
+    handler: &mut ConnectionHandler,
+    out: &mut Vec<u8>,
+    turns: &[Turn],
+) -> Result<(), NoMemory> {
+    for turn in turns {
+        play_turn(alloc, handler, out, &turn.copy(alloc)?)?;
+    }
+    look(alloc, handler, out)
+}
+
+fn drive(
+    alloc: Global,
+    out: &mut Vec<u8>,
+    config: &Config,
+    turns: &[Turn],
+) -> Result<(), NoMemory> {
+    let mut handler = ConnectionHandler::new(alloc, config.copy(alloc)?)?;
+    play_all(alloc, &mut handler, out, turns)
+}
+
+/// What a session answers to copies of the turns of a script, a line for each: the answer to the turn's own call, the due steps that
+/// `advance` then plays, and the events; `out of turn` where `check` refuses the turn, which is then not played. A last line
+/// says what the session tells of itself: its link, how much waits, the youngest message of subscription 1, the waiting bytes.
+/// Where a line cannot be read, its number alone.
+pub fn answers(alloc: Global, script: &str) -> Result<Vec<u8>, NoMemory> {
+    let mut out = Vec::new(alloc);
+    match read_script(alloc, script.as_bytes())? {
+        Script::Good { config, turns } => drive(alloc, &mut out, &config, turns.as_slice())?,
+        Script::Bad(line) => say_number(&mut out, "line", line)?,
+    }
+    Ok(out)
+}
+
+fn transcript_of(alloc: Global, config: &Config, turns: &[Turn]) -> Result<Vec<u8>, NoMemory> {
+    match run(alloc, config.copy(alloc)?, turns) {
+        Ok(transcript) => print_transcript(alloc, &transcript),
+        Err(refusal) => Ok(refusal.to_string(alloc)?.into_bytes()),
+    }
+}
+
+/// The printed transcript of a script that `run` plays, or the text of its refusal. Where a line cannot be read, its number
+/// alone.
+pub fn transcript(alloc: Global, script: &str) -> Result<Vec<u8>, NoMemory> {
+    match read_script(alloc, script.as_bytes())? {
+        Script::Good { config, turns } => transcript_of(alloc, &config, turns.as_slice()),
+        Script::Bad(line) => {
+            let mut out = Vec::new(alloc);
+            say_number(&mut out, "line", line)?;
+            Ok(out)
+        }
+    }
+}

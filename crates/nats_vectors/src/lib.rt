@@ -1,0 +1,11 @@
+//! Sessions that are driven call by call, as scripts say, and what they answer as text. Its tests are those of the session: a
+//! row of a table is a script with its answers.
+#![tactic(auto)]
+
+mod driven;
+mod words;
+
+pub use driven::{answers, transcript};
+
+#[cfg(test)]
+mod tests;

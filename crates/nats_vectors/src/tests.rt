@@ -1,0 +1,114 @@
+use crate::{answers, transcript};
+use std::test::Fail;
+
+/// Scripts, and what a session answers to each, behind a `=`.
+const SESSIONS: &str = "config 1 65536 check _INBOX MUX1
+pub a ~ hi
+pub a ~ hi
+up 1048576
+up 1048576
+take 1
+sub .a ~
+sub a g%20h
+=accepted
+full
+up handled (connected)
+out of turn
+out of turn
+invalid-subject
+invalid-queue-name
+link 1 up pending 13 none PUB a 2\r\nhi\r\n\
+|config 2048 65536 check _INBOX MUX1
+sub FOO.BAR ~
+up 33
+piece MSG%20FOO.BAR%201%2011%0D%0AHello%20World%0D%0A
+hpub FOO.BAR INBOX.67 Hello%20World Header X
+write 4
+=numbered 1
+up handled (connected)
+fed put 1
+max-payload 33 34
+written
+link 1 up pending 11 last Hello World FOO.BAR 1\r\n\
+|config 2048 1 check _INBOX MUX1
+up 1048576
+sub a ~
+piece MSG%20a%201%201%0D%0A1%0D%0AMSG%20a%201%201%0D%0A2%0D%0A
+take 1
+take 1
+unsub 1
+take 1
+drop 1
+take 1
+=up (connected)
+numbered 1 handled
+fed put 1 dropped 1 2 (slow consumers for subscription 1)
+message 1
+empty
+accepted handled
+ended
+accepted handled
+out of turn
+link 1 up pending 18 none SUB a 1\r\nUNSUB 1\r\n\
+|config 2048 1 check _INBOX MUX1
+up 1048576
+sub a ~
+limit 1 1
+piece MSG%20a%201%201%0D%0A1%0D%0AMSG%20a%201%201%0D%0A2%0D%0A
+piece INFO%20{\"ldm\":true}%0D%0A-ERR%20'x'%0D%0A
+piece NO%0D%0APING%0D%0A
+piece PING%0D%0A
+=up (connected)
+numbered 1 handled
+accepted handled
+fed put 1 read
+fed read read (lame duck mode detected) (server error: nats: x)
+fed ended (disconnected)
+out of turn
+link 1 down pending 0 last 1";
+
+#[test]
+fn sessions_answer_as_their_rows_say(rt: HostRuntime) -> Result<(), Fail> {
+    for row in SESSIONS.split('|') {
+        let (script, want) = row.split_once('=').ok_or("no answers")?;
+        assert_eq!(rt;
+            answers(rt.alloc(), script)?.as_slice(),
+            want.as_bytes(),
+            "{script}"
+        );
+    }
+    Ok(())
+}
+
+/// Lists of turns, and the transcript of each or why there is none, behind a `=`.
+const LISTS: &str = "config 2048 65536 check _INBOX MUX1
+up 1048576
+sub FOO.BAR ~
+piece MSG%20FOO.BAR%201%2011%0D%0AHello%20World%0D%0A
+take 1
+write 100
+=link 1 up
+out SUB%20FOO.BAR%201%0D%0A
+left %
+sub 1
+put 3 FOO.BAR ~ Hello%20World ~ ~ 18 ~
+take 4 message FOO.BAR ~ Hello%20World ~ ~ 18 ~
+event 1 connected
+call 2 numbered 1
+|config 2048 65536 check _INBOX MUX1
+up 1048576
+up 1048576
+=turn 2 may not come there";
+
+#[test]
+fn lists_are_played_to_their_transcripts(rt: HostRuntime) -> Result<(), Fail> {
+    for row in LISTS.split('|') {
+        let (script, want) = row.split_once('=').ok_or("no transcript")?;
+        assert_eq!(rt;
+            transcript(rt.alloc(), script)?.as_slice(),
+            want.as_bytes(),
+            "{script}"
+        );
+    }
+    Ok(())
+}
