@@ -36,6 +36,11 @@ fn per_second(count: usize, elapsed: Duration) -> u128
     count as u128 * 1_000_000_000 / elapsed.as_nanos().max(1)
 }
 
+/// How many hundredths of `whole` a time is, cut at the greatest number; a `whole` of nothing is taken as one nanosecond.
+fn percent_of(whole: Duration, time: Duration) -> u128 {
+    time.as_nanos().saturating_mul(100) / whole.as_nanos().max(1)
+}
+
 /// Prints a line for the turns and one for the subscriptions.
 impl fmt::Display for Times {
     fn fmt<W: fmt::Write>(&self, f: &mut fmt::Formatter<W>) -> fmt::Result {
@@ -43,11 +48,11 @@ impl fmt::Display for Times {
         let millis = self.played.as_millis();
         let rate = per_second(count, self.played);
         let once = self.dropped.as_millis();
-        let twice = self.dropped_twice.as_millis();
+        let twice = percent_of(self.dropped, self.dropped_twice);
         writeln!(f, "{count} turns in {millis} ms, {rate} turns per second")?;
         writeln!(
             f,
-            "{count} subscriptions made and dropped in {once} ms, twice as many in {twice} ms"
+            "{count} subscriptions made and dropped in {once} ms, twice as many in {twice} % of that"
         )
     }
 }
