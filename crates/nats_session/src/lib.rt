@@ -16,4 +16,5 @@ pub use nats_history::{
     OutboundMessage, RunError, Seq, ServerInfo, SubRow, Subject, TakeReply, Token, Transcript,
     Turn,
 };
+pub use nats_names::State;
 pub use play::run;

@@ -3,7 +3,8 @@ use Rattle.std.proofs.Common.{refl, sym, ◌∙◌, ap}
 use Rattle.nats_subs.specs.declared.subs.subscription.Delivery.TheVariants.{Put, Dropped, Unwanted, Ignored}
 use Rattle.nats_subs.specs.Delivery.{with_rows}
 use Rattle.nats_session.proofs.Handlers.{on_err_of, unchanged}
-use Rattle.nats_session.proofs.Messages.{left_alone, delivered, dropped_one, unwanted_one, unwritten}
+use Rattle.nats_subs.proofs.Deliveries.{left_alone}
+use Rattle.nats_session.proofs.Messages.{delivered, dropped_one, unwanted_one, unwritten}
 use Rattle.nats_session.proofs.handler.ConnectionHandler.read_message.Goals as goal
 
 pub returns-in_err-push-in-Dropped-clause-err : goal.returns-in_err-push-in-Dropped-clause-err
