@@ -5,10 +5,11 @@ use Rattle.std.proofs.lemmas.Option.{none-some, same_Some}
 use Rattle.nats_wire.specs.Operations.{Operation, Front, got, unfinished, fault, front, sight}
 use Rattle.nats_wire.proofs.Fronts.{front_takes, front_fits}
 use Rattle.nats_history.specs.declared.call.Call.{Call}
+use Rattle.nats_history.specs.declared.transcript.LinkWord.{LinkWord}
 use Rattle.nats_history.specs.declared.transcript.LinkWord.TheVariants as word
 use Rattle.nats_history.specs.History.{Step, read, handled, link_end}
 use Rattle.nats_history.specs.Parts.{Parts}
-use Rattle.nats_history.specs.Schedule.{chain, due_call, due_by, due, most_due}
+use Rattle.nats_history.specs.Schedule.{closes, closing, ending, ends_link, chain, due_call, due_by, due, most_due}
 use Rattle.nats_history.specs.After.{after, after_all, due_steps_within, due_steps}
 
 -- ---- each due step brings the end nearer
@@ -28,8 +29,20 @@ read_falls p operation n e =
     let fits = front_fits p.link.wire.unread operation n e in
     rw (e, length-drop) (omega (arith, some, fits))
 
+-- a link's end leaves no more
+end_falls : (q : Parts) (end : Option LinkWord) → most_due (after_all q (ending end)) ≤ most_due q
+end_falls q None = omega arith
+end_falls q (Some end) = by_closing (closes end)
+  where
+    by_closing : (b : Bool) → most_due (after_all q (link_end end ∷ closing b)) ≤ most_due q
+    by_closing true = omega arith
+    by_closing false = omega arith
+
 handled_falls : (p : Parts) (call : Call) (more : List Call) → p.calls ≡ call ∷ more → most_due (after_all p (chain p (handled call))) < most_due p
-handled_falls p call more e = rw e (omega arith)
+handled_falls p call more e =
+    let q = after p (handled call) in
+    let first : most_due q < most_due p = rw e (omega arith) in
+    omega (arith, first, end_falls q (ends_link call))
 
 -- the bound after a due step and what follows it
 abbrev Falls : Parts → Step → Type 0

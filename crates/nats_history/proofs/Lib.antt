@@ -1,4 +1,5 @@
 pub mod Dues
+pub mod Limits
 pub mod Plays
 pub mod Refines
 pub mod Rows

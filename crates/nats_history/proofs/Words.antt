@@ -7,7 +7,7 @@ use Rattle.nats_wire.specs.Laws.{AllThere}
 use Rattle.nats_wire.proofs.Fronts.{behind_next, behind_more, there_more, there_next}
 use Rattle.nats_history.specs.declared.call.Call.{Call}
 use Rattle.nats_history.specs.declared.config.Config.{Config}
-use Rattle.nats_history.specs.History.{opened, fed, read, taken, accepted, handled, History, joined, is_got, reads, calls, handled_count, waiting_calls, texts, text_by, link_text, taken_count}
+use Rattle.nats_history.specs.History.{opened, fed, read, taken, accepted, handled, closed, History, joined, is_got, reads, calls, handled_count, waiting_calls, texts, text_by, link_text, taken_count}
 use Rattle.nats_history.specs.After.{write_all}
 use Rattle.nats_wire.specs.Commands.{command_text}
 use Rattle.nats_wire.specs.declared.op.ClientOp.{ClientOp}
@@ -30,6 +30,7 @@ pub handled_fits : (h : History) → handled_count h ≤ length (calls h)
 handled_fits [] = omega arith
 handled_fits ((place, accepted call) ∷ h) = omega (arith, handled_fits h, length-append (calls h) (call ∷ []))
 handled_fits ((place, handled call) ∷ h) = min-le_right (suc (handled_count h)) (length (calls h))
+handled_fits ((place, closed) ∷ h) = omega arith
 handled_fits ((place, step) ∷ h) = handled_fits h
 
 pub calls_accepted : (h : History) (call : Call) → drop (handled_count h) (calls h ++ call ∷ []) ≡ waiting_calls h ++ call ∷ []

@@ -8,7 +8,7 @@ use Rattle.nats_wire.specs.Commands.{command_text}
 use Rattle.nats_wire.specs.Wire.{Wire}
 use Rattle.nats_history.specs.declared.config.Config.{Config}
 use Rattle.nats_history.specs.declared.call.Call.{Call}
-use Rattle.nats_history.specs.History.{Step, opened, fed, read, taken, accepted, handled, took, gone, link_end, links_after, up_after, max_payload_after, cut, subscribes, At, given_after, subscribed_after, about, Sub, puts, stage_after, shut_after, gone_after, limit_after, kept, commands, new_events}
+use Rattle.nats_history.specs.History.{Step, opened, fed, read, taken, accepted, handled, took, gone, link_end, closed, links_after, up_after, closed_after, max_payload_after, pings_after, cut, subscribes, At, given_after, subscribed_after, about, Sub, puts, interest_after, stage_after, shut_after, gone_after, limit_after, kept, commands, new_events}
 use Rattle.nats_history.specs.declared.stage.Stage.TheVariants.{Asked}
 use Rattle.nats_tables.specs.Numbers.{change}
 use Rattle.nats_history.specs.Parts.{Link, Subs, Parts, at_in}
@@ -32,6 +32,7 @@ puts_after c step sub = sub.puts
 
 abbrev pub changed_sub : Config → Step → Sub → Sub
 changed_sub c step sub = record {
+  interest = interest_after step sub.interest;
   stage = stage_after c step sub;
   is_shut = shut_after step sub.is_shut;
   is_gone = gone_after step sub.is_gone;
@@ -44,7 +45,7 @@ abbrev pub sub_after : Config → Step → Sub → Sub
 sub_after c step sub = kept (changed_sub c step sub)
 
 abbrev pub new_sub : Sub
-new_sub = record { stage = Asked; is_shut = false; is_gone = false; limit = None; puts = 0; waiting = [] }
+new_sub = record { interest = None; stage = Asked; is_shut = false; is_gone = false; limit = None; puts = 0; waiting = [] }
 
 -- one more where a number is given
 abbrev pub grown : Step → List Sub → List Sub
@@ -66,6 +67,7 @@ subs_after c step subs = record {
 abbrev pub calls_after : Step → List Call → List Call
 calls_after (accepted call) calls = calls ++ call ∷ []
 calls_after (handled call) calls = drop 1 calls
+calls_after closed calls = []
 calls_after step calls = calls
 
 -- ---- the link
@@ -101,6 +103,7 @@ link_after commands step link = record {
   number = links_after step link.number;
   is_up = up_after step link.is_up;
   max_payload = max_payload_after step link.max_payload;
+  pings = pings_after step link.pings;
   wire = wire_after link.is_up commands step link.wire;
 }
 
@@ -117,6 +120,7 @@ events_of p step = new_events p.config p.subs.rows step
 abbrev pub after : Parts → Step → Parts
 after p step = record {
   config = p.config;
+  is_closed = closed_after step p.is_closed;
   link = link_after (commands_of p step) step p.link;
   calls = calls_after step p.calls;
   subs = subs_after p.config step p.subs;

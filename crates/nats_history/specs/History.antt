@@ -1,21 +1,22 @@
 -- What happened to a session, and the words that tell of it.
 use Rattle.std.specs.Prelude.{ℕ, zero, suc, ◌+◌, ◌-◌, ◌^◌, Bool, true, false, not, ◌&&◌, ◌||◌, nat_lt, nat_le, min, List, [], ◌∷◌, ◌++◌, length, drop, map, Option, Some, None, is_some, if◌then◌else◌}
 use Rattle.nats_names.specs.declared.event.Event.{Event}
-use Rattle.nats_names.specs.declared.event.Event.TheVariants.{Connected, Disconnected, LameDuckMode, SlowConsumer, ServerError}
+use Rattle.nats_names.specs.declared.event.Event.TheVariants.{Connected, Disconnected, LameDuckMode, Closed, SlowConsumer, ServerError}
 use Rattle.nats_info.specs.declared.info.ServerInfo.{ServerInfo}
 use Rattle.nats_wire.specs.declared.message.Message.{Message}
 use Rattle.nats_wire.specs.declared.op.ClientOp.{ClientOp}
 use Rattle.nats_wire.specs.declared.op.ClientOp.TheVariants as client
-use Rattle.nats_wire.specs.Operations.{Operation, message, info_op, error_op, ping_op, Front, got, unfinished, fault, front, behind}
+use Rattle.nats_wire.specs.Operations.{Operation, message, info_op, error_op, ping_op, pong_op, Front, got, unfinished, fault, front, behind}
 use Rattle.nats_wire.specs.Commands.{command_text}
 use Rattle.nats_history.specs.declared.config.Config.{Config}
 use Rattle.nats_history.specs.declared.call.Call.{Call}
 use Rattle.nats_history.specs.declared.call.Call.TheVariants.{Publish, Subscribe, Unsubscribe, Limit, DropSub}
+use Rattle.nats_history.specs.declared.call.Interest.{Interest}
 use Rattle.nats_history.specs.declared.stage.Stage.{Stage}
 use Rattle.nats_history.specs.declared.stage.Stage.TheVariants.{Asked, Open, Ended}
 use Rattle.nats_history.specs.declared.transcript.LinkWord.{LinkWord}
-use Rattle.nats_history.specs.declared.transcript.LinkWord.TheVariants.{Up, Fault}
-use Rattle.nats_tables.specs.Numbers.{About, nobody, only, is_about, named, item_of, count_from}
+use Rattle.nats_history.specs.declared.transcript.LinkWord.TheVariants as word
+use Rattle.nats_tables.specs.Numbers.{About, nobody, everyone, only, is_about, named, item_of, count_from}
 use Rattle.nats_tables.specs.Rows.{tidied}
 
 -- what can happen
@@ -26,6 +27,8 @@ pub data Step : Type 0 where
   fed : List ℕ → Step
   -- one operation was read
   read : Operation → Step
+  -- a tick wrote a PING
+  ticked : Step
   -- that many bytes of the link's text were taken
   taken : ℕ → Step
   -- a call was accepted
@@ -38,6 +41,8 @@ pub data Step : Type 0 where
   gone : ℕ → Step
   -- the link ended
   link_end : LinkWord → Step
+  -- the session closed
+  closed : Step
 
 -- a message is read
 abbrev pub came : ℕ → Message → Step
@@ -64,13 +69,22 @@ links ((place, step) ∷ h) = links_after step (links h)
 
 abbrev pub up_after : Step → Bool → Bool
 up_after (opened info) up = true
-up_after (link_end word) up = false
+up_after (link_end end) up = false
 up_after step up = up
 
 -- a link is up: it came up and has not ended
 abbrev pub is_up : History → Bool
 is_up [] = false
 is_up ((place, step) ∷ h) = up_after step (is_up h)
+
+abbrev pub closed_after : Step → Bool → Bool
+closed_after closed is_closed = true
+closed_after step is_closed = is_closed
+
+-- the session closed
+abbrev pub is_closed : History → Bool
+is_closed [] = false
+is_closed ((place, step) ∷ h) = closed_after step (is_closed h)
 
 abbrev pub max_payload_after : Step → ℕ → ℕ
 max_payload_after (opened info) n = info.max_payload
@@ -105,18 +119,33 @@ reads (e ∷ h) = reads h
 abbrev pub unread : History → List ℕ
 unread h = if is_up h then behind (reads h) (joined h) else []
 
+-- a PONG answers the oldest PING that none answered, and an unasked one does nothing
+abbrev pub pings_after : Step → ℕ → ℕ
+pings_after (opened info) n = 0
+pings_after (link_end end) n = 0
+pings_after ticked n = cut (suc n)
+pings_after (read pong_op) n = n - 1
+pings_after step n = n
+
+-- how many PINGs of the newest link's ticks no PONG answered; none once it ended
+abbrev pub pings : History → ℕ
+pings [] = 0
+pings ((place, step) ∷ h) = pings_after step (pings h)
+
 -- ---- calls
 
--- the accepted calls, oldest first
+-- the accepted calls, oldest first; none after the session closed
 abbrev pub calls : History → List Call
 calls [] = []
 calls ((place, accepted call) ∷ h) = calls h ++ call ∷ []
+calls ((place, closed) ∷ h) = []
 calls (e ∷ h) = calls h
 
 -- how many of them were handled
 abbrev pub handled_count : History → ℕ
 handled_count [] = 0
 handled_count ((place, handled call) ∷ h) = min (suc (handled_count h)) (length (calls h))
+handled_count ((place, closed) ∷ h) = 0
 handled_count (e ∷ h) = handled_count h
 
 -- the calls that wait: the accepted ones less as many of the first as were handled
@@ -125,10 +154,14 @@ waiting_calls h = drop (handled_count h) (calls h)
 
 -- ---- numbers
 
+-- what a call asks for, if it subscribes
+abbrev pub asks : Call → Option Interest
+asks (Subscribe subject group) = Some (record { subject = subject; queue_group = group })
+asks call = None
+
 -- a call that is given a subscription number when it is accepted, and whose handling opens that subscription
 abbrev pub subscribes : Call → Bool
-subscribes (Subscribe subject group) = true
-subscribes call = false
+subscribes call = is_some (asks call)
 
 -- the subscription that a call names
 abbrev pub names : Call → Option ℕ
@@ -181,17 +214,20 @@ given h = (at_of h).given
 abbrev pub numbers : History → List ℕ
 numbers h = count_from 1 (given h)
 
--- whom a step is about: a handled subscribe is of the next number that was given; other calls and a message name their own
+-- whom a step is about: an accepted subscribe is of the number that it is given, a handled one of the next number that was
+-- given; other calls and a message name their own; a new link and the close are about all
 abbrev pub about_read : Operation → About
 about_read (message sid m) = only sid
 about_read operation = nobody
 
 abbrev pub about : At → Step → About
-about at (accepted call) = named (shuts call)
+about at (opened info) = everyone
+about at (accepted call) = if subscribes call then only (suc at.given) else named (shuts call)
 about at (handled call) = if subscribes call then named (next_subscribed at) else named (names call)
 about at (read operation) = about_read operation
 about at (took sid) = only sid
 about at (gone sid) = only sid
+about at closed = everyone
 about at step = nobody
 
 -- a number that was given
@@ -207,6 +243,8 @@ concerns s at step = is_about s (about at step) && is_given s (at_after step at)
 
 -- what a history tells of one subscription
 pub record Told : Type 0 where
+  -- what it asks for, once its subscribe was accepted
+  pub interest : Option Interest
   pub stage : Stage
   -- no message is put any more
   pub is_shut : Bool
@@ -221,10 +259,11 @@ pub record Told : Type 0 where
 
 -- before anything happened to it
 abbrev pub nothing_told : Told
-nothing_told = record { stage = Asked; is_shut = false; is_gone = false; limit = None; puts = []; drops = []; takes = 0 }
+nothing_told = record { interest = None; stage = Asked; is_shut = false; is_gone = false; limit = None; puts = []; drops = []; takes = 0 }
 
 -- a subscription as it stands
 pub record Sub : Type 0 where
+  pub interest : Option Interest
   pub stage : Stage
   pub is_shut : Bool
   pub is_gone : Bool
@@ -240,6 +279,7 @@ second pair = pair.1
 -- its waiting messages are the puts without the first ones that wait no more
 abbrev pub sub_of : Told → Sub
 sub_of t = record {
+  interest = t.interest;
   stage = t.stage;
   is_shut = t.is_shut;
   is_gone = t.is_gone;
@@ -279,9 +319,10 @@ abbrev pub reached : Option ℕ → ℕ → Bool
 reached None n = false
 reached (Some limit) n = nat_le limit n
 
--- a subscription opens when its subscribe is handled
+-- a subscription opens when its subscribe is handled; at the close one that did not open yet waits no more for that, and ends
 abbrev pub opens : Step → Bool
 opens (handled call) = subscribes call
+opens closed = true
 opens step = false
 
 -- the calls whose handling ends the subscription that they name
@@ -292,10 +333,12 @@ call_ends (Limit s n) sub = nat_le n sub.puts
 call_ends call sub = false
 
 -- the ways for an open subscription to end: such a call is handled, or a message comes while it is shut, or one is put that
--- reaches its limit
+-- reaches its limit, or a new link comes up while it is shut, or the session closes
 abbrev pub ends : Config → Sub → Step → Bool
 ends c sub (handled call) = call_ends call sub
 ends c sub (read (message sid m)) = sub.is_shut || (has_room c sub && reached sub.limit (cut (suc sub.puts)))
+ends c sub (opened info) = sub.is_shut
+ends c sub closed = true
 ends c sub step = false
 
 abbrev pub open_if : Bool → Stage → Stage
@@ -322,6 +365,15 @@ abbrev pub gone_after : Step → Bool → Bool
 gone_after (gone sid) is_gone = true
 gone_after step is_gone = is_gone
 
+abbrev pub interest_by : Option Interest → Option Interest → Option Interest
+interest_by None interest = interest
+interest_by (Some asked) interest = Some asked
+
+-- what it asks for is what its subscribe did
+abbrev pub interest_after : Step → Option Interest → Option Interest
+interest_after (accepted call) interest = interest_by (asks call) interest
+interest_after step interest = interest
+
 abbrev pub limit_by : Call → Option ℕ → Option ℕ
 limit_by (Limit s n) limit = Some n
 limit_by call limit = limit
@@ -347,6 +399,7 @@ takes_after t step = t.takes
 
 abbrev pub told_after : Config → ℕ → Step → Told → Told
 told_after c place step t = record {
+  interest = interest_after step t.interest;
   stage = stage_after c step (sub_of t);
   is_shut = shut_after step t.is_shut;
   is_gone = gone_after step t.is_gone;
@@ -367,7 +420,7 @@ is_over sub = sub.is_gone && is_ended sub.stage
 
 -- so all of these are told alike
 abbrev pub forgotten : Sub
-forgotten = record { stage = Ended; is_shut = true; is_gone = true; limit = None; puts = 0; waiting = [] }
+forgotten = record { interest = None; stage = Ended; is_shut = true; is_gone = true; limit = None; puts = 0; waiting = [] }
 
 abbrev pub kept : Sub → Sub
 kept sub = tidied is_over forgotten sub
@@ -405,12 +458,33 @@ call_commands at subs (Subscribe subject group) = subscribe_command (next_subscr
 call_commands at subs (Unsubscribe s) = unsubscribe_command (is_open_at (item_of s subs)) s None
 call_commands at subs (Limit s n) = unsubscribe_command (is_open_at (item_of s subs)) s (Some n)
 call_commands at subs (DropSub s) = unsubscribe_command (is_open_at (item_of s subs)) s None
+call_commands at subs call = []
+
+-- what is left of a limit after so many puts, if there is one
+abbrev pub limit_commands : ℕ → ℕ → Option ℕ → List ClientOp
+limit_commands s puts None = []
+limit_commands s puts (Some limit) = client.Unsubscribe s (Some (limit - puts)) ∷ []
+
+abbrev pub subscribed_again : ℕ → Sub → Option Interest → List ClientOp
+subscribed_again s sub None = []
+subscribed_again s sub (Some asked) = client.Subscribe s asked.subject asked.queue_group ∷ limit_commands s sub.puts sub.limit
+
+-- the commands that subscribe one again on a new link: where it is open and not shut, with what is left of its limit
+abbrev pub again : ℕ → Sub → List ClientOp
+again s sub = if listens sub then subscribed_again s sub sub.interest else []
+
+-- the same of all from a number on
+abbrev pub all_again : ℕ → List Sub → List ClientOp
+all_again s [] = []
+all_again s (sub ∷ more) = again s sub ++ all_again (suc s) more
 
 -- the commands that a step writes, where these are the subscriptions before it
 abbrev pub commands : Config → At → List Sub → Step → List ClientOp
+commands c at subs (opened info) = all_again 1 subs
 commands c at subs (handled call) = call_commands at subs call
 commands c at subs (read (message sid m)) = unsubscribe_command (is_closing_at (item_of sid subs)) sid None
 commands c at subs (read ping_op) = client.Pong ∷ []
+commands c at subs ticked = client.Ping ∷ []
 commands c at subs step = []
 
 abbrev pub texts : List ClientOp → List ℕ
@@ -440,10 +514,14 @@ waiting_bytes c h = if is_up h then drop (taken_count c h) (link_text c h) else 
 
 -- ---- events
 
--- a link's end by a fault disconnects
+-- a link's end disconnects, but where the user hung up
 abbrev pub end_events : LinkWord → List Event
-end_events Fault = Disconnected ∷ []
-end_events Up = []
+end_events word.Lost = Disconnected ∷ []
+end_events word.Fault = Disconnected ∷ []
+end_events word.Ticks = Disconnected ∷ []
+end_events word.Reconnect = Disconnected ∷ []
+end_events word.Hangup = []
+end_events word.Up = []
 
 -- a message that meets a full queue has an event
 abbrev pub drop_events : Config → ℕ → Option Sub → List Event
@@ -458,7 +536,8 @@ info_events false = []
 -- the events that a step gives out, where these are the subscriptions before it
 abbrev pub new_events : Config → List Sub → Step → List Event
 new_events c subs (opened info) = Connected ∷ []
-new_events c subs (link_end word) = end_events word
+new_events c subs (link_end end) = end_events end
+new_events c subs closed = Closed ∷ []
 new_events c subs (read (message sid m)) = drop_events c sid (item_of sid subs)
 new_events c subs (read (error_op error)) = ServerError error ∷ []
 new_events c subs (read (info_op info)) = info_events info.lame_duck_mode

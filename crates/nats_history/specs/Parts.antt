@@ -3,7 +3,7 @@ use Rattle.std.specs.Prelude.{ℕ, Bool, List}
 use Rattle.nats_wire.specs.Wire.{Wire}
 use Rattle.nats_history.specs.declared.config.Config.{Config}
 use Rattle.nats_history.specs.declared.call.Call.{Call}
-use Rattle.nats_history.specs.History.{History, links, is_up, max_payload, unread, waiting_bytes, waiting_calls, At, at_of, Sub, rows_of}
+use Rattle.nats_history.specs.History.{History, links, is_up, is_closed, max_payload, pings, unread, waiting_bytes, waiting_calls, At, at_of, Sub, rows_of}
 
 -- the newest link
 pub record Link : Type 0 where
@@ -12,6 +12,8 @@ pub record Link : Type 0 where
   pub is_up : Bool
   -- the limit of a payload's size with its header block, in bytes
   pub max_payload : ℕ
+  -- how many PINGs of its ticks no PONG answered
+  pub pings : ℕ
   -- the unread and the waiting bytes while it is up
   pub wire : Wire
 
@@ -24,6 +26,8 @@ pub record Subs : Type 0 where
 -- what a handler keeps
 pub record Parts : Type 0 where
   pub config : Config
+  -- the session closed
+  pub is_closed : Bool
   pub link : Link
   -- the calls that wait, oldest first
   pub calls : List Call
@@ -40,6 +44,7 @@ link_of c h = record {
   number = links h;
   is_up = is_up h;
   max_payload = max_payload h;
+  pings = pings h;
   wire = record { unread = unread h; waiting = waiting_bytes c h };
 }
 
@@ -48,4 +53,4 @@ subs_of c h = record { given = (at_of h).given; subscribed = (at_of h).subscribe
 
 -- the parts that the words on a history determine
 abbrev pub parts_of : Config → History → Parts
-parts_of c h = record { config = c; link = link_of c h; calls = waiting_calls h; subs = subs_of c h }
+parts_of c h = record { config = c; is_closed = is_closed h; link = link_of c h; calls = waiting_calls h; subs = subs_of c h }

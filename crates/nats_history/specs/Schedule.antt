@@ -1,22 +1,22 @@
 -- What each turn of a session makes happen: validity, own steps, due steps, replies.
-use Rattle.std.specs.Prelude.{ℕ, zero, suc, ◌+◌, ◌-◌, ◌^◌, Bool, true, false, not, ◌&&◌, ◌||◌, ◌==◌, nat_lt, nat_le, min, List, [], ◌∷◌, ◌++◌, length, Option, Some, None, if◌then◌else◌}
+use Rattle.std.specs.Prelude.{ℕ, zero, suc, ◌+◌, ◌-◌, ◌^◌, Bool, true, false, not, ◌&&◌, ◌||◌, nat_lt, nat_le, min, List, [], ◌∷◌, ◌++◌, length, Option, Some, None, if◌then◌else◌}
 use Rattle.nats_names.specs.Names.{is_nonempty, is_publishable, is_valid}
 use Rattle.nats_wire.specs.declared.message.Message.{Message}
 use Rattle.nats_wire.specs.Operations.{Front, unfinished, got, fault, front, length_or_0}
 use Rattle.nats_wire.specs.Commands.{sent_block}
 use Rattle.nats_history.specs.declared.config.Config.{Config}
 use Rattle.nats_history.specs.declared.call.Call.{Call}
-use Rattle.nats_history.specs.declared.call.Call.TheVariants.{Publish, Subscribe}
+use Rattle.nats_history.specs.declared.call.Call.TheVariants.{Publish, Subscribe, Reconnect}
 use Rattle.nats_history.specs.declared.call.CallReply.{CallReply}
-use Rattle.nats_history.specs.declared.call.CallReply.TheVariants.{Accepted, Numbered, InvalidSubject, InvalidQueueName, MaxPayloadExceeded, NoNumber, Full}
+use Rattle.nats_history.specs.declared.call.CallReply.TheVariants.{Accepted, Numbered, InvalidSubject, InvalidQueueName, MaxPayloadExceeded, Closed, NoNumber, Full}
 use Rattle.nats_history.specs.declared.call.TakeReply.{TakeReply}
 use Rattle.nats_history.specs.declared.call.TakeReply.TheVariants as takes
 use Rattle.nats_history.specs.declared.turn.Turn.{Turn}
-use Rattle.nats_history.specs.declared.turn.Turn.TheVariants.{Up, Piece, Write, Do, Take}
+use Rattle.nats_history.specs.declared.turn.Turn.TheVariants.{Up, Piece, Write, Tick, Lost, GiveUp, Hangup, Do, Take}
 use Rattle.nats_history.specs.declared.transcript.LinkWord.{LinkWord}
 use Rattle.nats_history.specs.declared.transcript.LinkWord.TheVariants as word
 use Rattle.nats_tables.specs.Numbers.{item_of}
-use Rattle.nats_history.specs.History.{Step, opened, fed, read, taken, accepted, handled, took, gone, link_end, History, subscribes, names, lets_go, Sub, is_ended}
+use Rattle.nats_history.specs.History.{Step, opened, fed, read, ticked, taken, accepted, handled, took, gone, link_end, closed, History, subscribes, names, lets_go, Sub, is_ended}
 use Rattle.nats_history.specs.Parts.{Parts, parts_of}
 
 -- ---- replies
@@ -60,8 +60,9 @@ refusal p call =
     if not (has_subjects p.config call) then Some InvalidSubject else
     (if not (has_group call) then Some InvalidQueueName else
     (if nat_lt p.link.max_payload (size_of call) then Some (MaxPayloadExceeded p.link.max_payload (size_of call)) else
+    (if p.is_closed then Some Closed else
     (if has_no_number p call then Some NoNumber else
-    (if is_full p then Some Full else None))))
+    (if is_full p then Some Full else None)))))
 
 -- the reply of a call that is accepted
 abbrev pub accepted_reply : Parts → Call → CallReply
@@ -106,22 +107,43 @@ may_name p (Some s) = is_there (item_of s p.subs.rows)
 
 -- a turn may come here
 abbrev pub is_valid_turn : Parts → Turn → Bool
-is_valid_turn p (Up info) = p.link.number == 0
+is_valid_turn p (Up info) = not p.link.is_up && not p.is_closed
 is_valid_turn p (Piece bytes) = p.link.is_up
 is_valid_turn p (Write n) = p.link.is_up
+is_valid_turn p Tick = p.link.is_up
+is_valid_turn p Lost = p.link.is_up
+is_valid_turn p GiveUp = not p.link.is_up && not p.is_closed
+is_valid_turn p Hangup = not p.is_closed
 is_valid_turn p (Do call) = may_name p (names call)
 is_valid_turn p (Take sid) = is_there (item_of sid p.subs.rows)
 
--- the word by which the link ends at a step, if it does
-abbrev pub end_after : Parts → Step → Option LinkWord
-end_after p step = None
+-- a link's end that closes the session
+abbrev pub closes : LinkWord → Bool
+closes word.Hangup = true
+closes end = false
 
+abbrev pub closing : Bool → List Step
+closing false = []
+closing true = closed ∷ []
+
+-- a link's end with what follows it at once
 abbrev pub ending : Option LinkWord → List Step
 ending None = []
-ending (Some end) = link_end end ∷ []
+ending (Some end) = link_end end ∷ closing (closes end)
 
--- what follows a step at once, where these are the parts before it: nothing yet
+-- the word by which the link ends as a call is handled, if it does
+abbrev pub ends_link : Call → Option LinkWord
+ends_link Reconnect = Some word.Reconnect
+ends_link call = None
+
+-- the word by which the link ends at once after a step, if it does
+abbrev pub end_after : Parts → Step → Option LinkWord
+end_after p (handled call) = ends_link call
+end_after p step = None
+
+-- what follows a step at once, where these are the parts before it
 abbrev pub followers : Parts → Step → List Step
+followers p (link_end end) = closing (closes end)
 followers p step = ending (end_after p step)
 
 -- a step with what follows it at once
@@ -146,11 +168,19 @@ gone_step (Some s) = gone s ∷ []
 abbrev pub call_steps : Parts → Call → List Step
 call_steps p call = accepted_step (refusal p call) call ++ gone_step (lets_go call)
 
+-- a tick ends the link where so many before it have no answer
+abbrev pub tick_limit : ℕ
+tick_limit = 2
+
 -- what a turn itself makes happen
 abbrev pub own_steps : Parts → Turn → List Step
 own_steps p (Up info) = chain p (opened info)
 own_steps p (Piece bytes) = chain p (fed bytes)
 own_steps p (Write n) = chain p (taken (min n (length p.link.wire.waiting)))
+own_steps p Tick = if nat_le tick_limit p.link.pings then chain p (link_end word.Ticks) else chain p ticked
+own_steps p Lost = chain p (link_end word.Lost)
+own_steps p GiveUp = chain p closed
+own_steps p Hangup = if p.link.is_up then chain p (link_end word.Hangup) else chain p closed
 own_steps p (Do call) = call_steps p call
 own_steps p (Take sid) = took_step sid (take_reply p sid)
 

@@ -23,6 +23,17 @@ pub enum Call {
     /// The user lets the subscription of this number go, whatever the reply: its waiting messages go, and no later call may
     /// name it.
     DropSub(u64),
+    /// The link is to end once the calls before this one are handled, so that another is tried.
+    Reconnect,
+}
+
+/// What a subscription asks for.
+#[derive(Debug, Drop, PartialEq, Eq)]
+pub struct Interest {
+    /// Which messages.
+    pub subject: Subject,
+    /// The group whose members share them, where one was given.
+    pub queue_group: Option<Subject>,
 }
 
 /// The answer to a call.
@@ -38,6 +49,8 @@ pub enum CallReply {
     InvalidQueueName,
     /// The payload with its header block is larger than the server takes; both in bytes.
     MaxPayloadExceeded { limit: u64, size: u64 },
+    /// The session closed.
+    Closed,
     /// The number 2^64 - 1 was given, and none follows it.
     NoNumber,
     /// As many accepted calls wait as the client capacity.
@@ -72,7 +85,20 @@ impl Call {
             Call::Unsubscribe(s) => Ok(Call::Unsubscribe(*s)),
             Call::Limit(s, n) => Ok(Call::Limit(*s, *n)),
             Call::DropSub(s) => Ok(Call::DropSub(*s)),
+            Call::Reconnect => Ok(Call::Reconnect),
         }
+    }
+}
+
+impl Interest {
+    /// An equal interest, which shares its bytes.
+    pub fn copy(&self, alloc: Global) -> Result<Interest, NoMemory>
+        ensures { IfOk result (λ i. i ≡ self.now) }
+    {
+        Ok(Interest {
+            subject: self.subject.copy(alloc)?,
+            queue_group: copy_subject(alloc, &self.queue_group)?,
+        })
     }
 }
 
@@ -90,6 +116,7 @@ impl CallReply {
                 limit: *limit,
                 size: *size,
             }),
+            CallReply::Closed => Ok(CallReply::Closed),
             CallReply::NoNumber => Ok(CallReply::NoNumber),
             CallReply::Full => Ok(CallReply::Full),
         }

@@ -1,6 +1,6 @@
 //! What holds of the words on histories, whatever the history. Each function does nothing: its contract is the law, so the
 //! law is proved where the function is.
-ghost use Rattle.nats_history.specs.Laws.{PartsAfter, SameSettled, NoneLeft, NoneAfterTurn};
+ghost use Rattle.nats_history.specs.Laws.{PartsAfter, SameSettled, NoneLeft, NoneAfterTurn, LimitHolds};
 
 /// What the words on a longer history give is what its newest step makes of the parts before it: so a handler needs no
 /// history.
@@ -22,4 +22,10 @@ pub fn none_left()
 /// After a turn no step is due, so that the next turn may be played.
 pub fn none_after_turn()
     ensures { NoneAfterTurn }
+{}
+
+/// Once a limit is handled for a subscription that is open, its puts never pass the greater of it and the puts then, over any
+/// links, until another limit is handled for it.
+pub fn limit_holds()
+    ensures { LimitHolds }
 {}

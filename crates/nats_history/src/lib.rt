@@ -10,7 +10,7 @@ mod stage;
 mod transcript;
 mod turn;
 
-pub use call::{Call, CallReply, TakeReply};
+pub use call::{Call, CallReply, Interest, TakeReply};
 pub use config::Config;
 pub use nats_wire::{
     Bytes, Event, HeaderMap, Message, NoMemory, OutboundMessage, Seq, ServerInfo, Subject, Token,

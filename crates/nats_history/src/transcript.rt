@@ -12,8 +12,16 @@ use std::fmt;
 pub enum LinkWord {
     /// It is up.
     Up,
+    /// It was lost.
+    Lost,
     /// It ended by bytes that are no operation.
     Fault,
+    /// It ended as it answered none of the last ticks.
+    Ticks,
+    /// It ended as the user asked for another.
+    Reconnect,
+    /// It ended as the user hung up.
+    Hangup,
 }
 
 /// What happened on one link.

@@ -14,6 +14,14 @@ pub enum Turn {
     Piece(Bytes),
     /// The link took this many of the waiting bytes, or all where fewer wait.
     Write(u64),
+    /// So long passed that the link is to show that it still works.
+    Tick,
+    /// The link was lost.
+    Lost,
+    /// No further link is tried, and the session closes.
+    GiveUp,
+    /// The user hangs up: a link that is up ends, and the session closes.
+    Hangup,
     /// The user made a call.
     Do(Call),
     /// The user asked for the oldest waiting message of the subscription of this number.
@@ -46,6 +54,10 @@ impl Turn {
             Turn::Up(info) => Ok(Turn::Up(info.copy(alloc)?)),
             Turn::Piece(bytes) => Ok(Turn::Piece(bytes.clone()?)),
             Turn::Write(n) => Ok(Turn::Write(*n)),
+            Turn::Tick => Ok(Turn::Tick),
+            Turn::Lost => Ok(Turn::Lost),
+            Turn::GiveUp => Ok(Turn::GiveUp),
+            Turn::Hangup => Ok(Turn::Hangup),
             Turn::Do(call) => Ok(Turn::Do(call.copy(alloc)?)),
             Turn::Take(s) => Ok(Turn::Take(*s)),
         }

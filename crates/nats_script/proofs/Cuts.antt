@@ -1,8 +1,10 @@
 -- A text cut at its first byte of one value.
-use Rattle.std.proofs.Common.{◌≡◌, ℕ, zero, suc, ◌<◌, Bool, true, false, cond, eqb, List, [], ◌∷◌, length, get_or, take, drop, Option, Some, None, refl, sym, ap, ◌∙◌, arith}
+use Rattle.std.proofs.Common.{◌≡◌, ℕ, zero, suc, ◌<◌, Bool, true, false, cond, eqb, List, [], ◌∷◌, length, get_or, take, drop, Option, Some, None, is_some, not, Bor, refl, sym, ap, ◌∙◌, arith}
 use Rattle.std.specs.List.{onto_first}
+use Rattle.std.specs.Option.{option_copied}
+use Rattle.std.proofs.lemmas.Bool.{false≢true}
 use Rattle.std.proofs.lemmas.List.Splits.{slice_split-cons_yes, slice_split-cons_no}
-use Rattle.nats_script.specs.Script.{parts_at, without_empty_last, only}
+use Rattle.nats_script.specs.Script.{parts_at, without_empty_last, only, is_bare}
 use Rattle.nats_script.specs.Cut.{parts_behind, IsFirstLine}
 
 -- the parts of a list: a first one, and more
@@ -71,3 +73,10 @@ not_only all fields field rest behind all-is is parts =
     let p = parts_of 32 rest in
     let cut : parts_at 32 fields ≡ field ∷ p.first ∷ p.more = parts ∙ ap (λ (b : Option (List ℕ)). field ∷ parts_behind 32 b) is ∙ ap (λ (more : List (List ℕ)). field ∷ more) p.are in
     sym (ap (λ (a : Option (List ℕ)). only (parts_behind 32 a)) all-is ∙ ap only cut)
+
+-- nothing was cut off exactly where no field is left
+pub bare_where : (behind : Option (Bor (List ℕ))) (b : Bool) → is_some behind ≡ not b → b ≡ is_bare (parts_behind 32 (option_copied behind))
+bare_where None true e = refl
+bare_where None false e = absurd (false≢true e)
+bare_where (Some rest) true e = absurd (false≢true (sym e))
+bare_where (Some rest) false e = sym (ap is_bare (parts_of 32 rest.now).are)

@@ -7,11 +7,11 @@ use Rattle.nats_names.specs.declared.event.Event.{Event}
 use Rattle.nats_names.specs.Events.{event_text}
 use Rattle.nats_wire.specs.declared.message.Message.{Message}
 use Rattle.nats_history.specs.declared.call.CallReply.{CallReply}
-use Rattle.nats_history.specs.declared.call.CallReply.TheVariants.{Accepted, Numbered, InvalidSubject, InvalidQueueName, MaxPayloadExceeded, NoNumber, Full}
+use Rattle.nats_history.specs.declared.call.CallReply.TheVariants.{Accepted, Numbered, InvalidSubject, InvalidQueueName, MaxPayloadExceeded, Closed, NoNumber, Full}
 use Rattle.nats_history.specs.declared.call.TakeReply.{TakeReply}
 use Rattle.nats_history.specs.declared.call.TakeReply.TheVariants as took
 use Rattle.nats_history.specs.declared.transcript.LinkWord.{LinkWord}
-use Rattle.nats_history.specs.declared.transcript.LinkWord.TheVariants.{Up, Fault}
+use Rattle.nats_history.specs.declared.transcript.LinkWord.TheVariants as link_words
 use Rattle.nats_history.specs.declared.transcript.LinkRow.{LinkRow}
 use Rattle.nats_history.specs.declared.transcript.SubRow.{SubRow}
 use Rattle.nats_history.specs.declared.transcript.Transcript.{Transcript}
@@ -66,8 +66,12 @@ placed word n text = opening word n ++ text ++ lf
 -- ---- links
 
 abbrev pub end_word : LinkWord → List ℕ
-end_word Up = codes "up"
-end_word Fault = codes "fault"
+end_word link_words.Up = codes "up"
+end_word link_words.Lost = codes "lost"
+end_word link_words.Fault = codes "fault"
+end_word link_words.Ticks = codes "ticks"
+end_word link_words.Reconnect = codes "reconnect"
+end_word link_words.Hangup = codes "hangup"
 
 -- link k: how it ended, the bytes that it took, the bytes that it left
 abbrev pub link_lines : ℕ → LinkRow → List ℕ
@@ -110,6 +114,7 @@ reply_text (Numbered n) = codes "numbered " ++ decimal n
 reply_text InvalidSubject = codes "invalid-subject"
 reply_text InvalidQueueName = codes "invalid-queue-name"
 reply_text (MaxPayloadExceeded limit size) = sizes_text limit size
+reply_text Closed = codes "closed"
 reply_text NoNumber = codes "no-number"
 reply_text Full = codes "full"
 

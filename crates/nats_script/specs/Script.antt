@@ -9,9 +9,9 @@ use Rattle.nats_info.specs.Info.{default_info}
 use Rattle.nats_info.specs.Fields.{info_at}
 use Rattle.nats_history.specs.declared.config.Config.{Config}
 use Rattle.nats_history.specs.declared.call.Call.{Call}
-use Rattle.nats_history.specs.declared.call.Call.TheVariants.{Publish, Subscribe, Unsubscribe, Limit, DropSub}
+use Rattle.nats_history.specs.declared.call.Call.TheVariants.{Publish, Subscribe, Unsubscribe, Limit, DropSub, Reconnect}
 use Rattle.nats_history.specs.declared.turn.Turn.{Turn}
-use Rattle.nats_history.specs.declared.turn.Turn.TheVariants.{Up, Piece, Write, Do, Take}
+use Rattle.nats_history.specs.declared.turn.Turn.TheVariants.{Up, Piece, Write, Tick, Lost, GiveUp, Hangup, Do, Take}
 use Rattle.nats_script.specs.declared.turn_lines.Word.{Word}
 use Rattle.nats_script.specs.declared.turn_lines.Word.TheVariants as word
 use Rattle.nats_script.specs.declared.script.Script.{Script}
@@ -73,20 +73,29 @@ config_of_line line = config_of_fields (fields_of line)
 
 -- ---- turns
 
--- the word that a turn begins with
-abbrev pub word_of : List ℕ → Word
-word_of field =
+-- the shorter words
+abbrev pub short_word_of : List ℕ → Word
+short_word_of field =
     if bytes_eq field (codes "up") then word.Up else
     (if bytes_eq field (codes "open") then word.Open else
     (if bytes_eq field (codes "piece") then word.Piece else
     (if bytes_eq field (codes "write") then word.Write else
+    (if bytes_eq field (codes "tick") then word.Tick else
+    (if bytes_eq field (codes "lost") then word.Lost else
     (if bytes_eq field (codes "take") then word.Take else
     (if bytes_eq field (codes "pub") then word.Pub else
     (if bytes_eq field (codes "hpub") then word.Hpub else
     (if bytes_eq field (codes "sub") then word.Sub else
     (if bytes_eq field (codes "unsub") then word.Unsub else
     (if bytes_eq field (codes "limit") then word.Limit else
-    (if bytes_eq field (codes "drop") then word.Drop else word.Other))))))))))
+    (if bytes_eq field (codes "drop") then word.Drop else word.Other))))))))))))
+
+-- the word that a turn begins with
+abbrev pub word_of : List ℕ → Word
+word_of field =
+    if bytes_eq field (codes "giveup") then word.GiveUp else
+    (if bytes_eq field (codes "hangup") then word.Hangup else
+    (if bytes_eq field (codes "reconnect") then word.Reconnect else short_word_of field))
 
 -- a link that came up, with the INFO of a server that says its greatest size of a message alone
 abbrev pub up_turn : ℕ → Turn
@@ -152,12 +161,25 @@ hpub_of fields = None
 abbrev pub call_of : (ℕ → Call) → List (List ℕ) → Option Turn
 call_of call fields = option_map (λ s. Do (call s)) (option_and_then field_number (only fields))
 
+-- no further field
+abbrev pub is_bare : List (List ℕ) → Bool
+is_bare [] = true
+is_bare (field ∷ more) = false
+
+-- a turn that has no further field
+abbrev pub bare : Turn → List (List ℕ) → Option Turn
+bare turn fields = if is_bare fields then Some turn else None
+
 -- a turn by its word and its further fields
 abbrev pub turn_of : Word → List (List ℕ) → Option Turn
 turn_of word.Up fields = option_map up_turn (option_and_then field_number (only fields))
 turn_of word.Open fields = option_map Up (option_and_then info_at (option_and_then field_bytes (only fields)))
 turn_of word.Piece fields = option_map Piece (option_and_then field_bytes (only fields))
 turn_of word.Write fields = option_map Write (option_and_then field_number (only fields))
+turn_of word.Tick fields = bare Tick fields
+turn_of word.Lost fields = bare Lost fields
+turn_of word.GiveUp fields = bare GiveUp fields
+turn_of word.Hangup fields = bare Hangup fields
 turn_of word.Take fields = option_map Take (option_and_then field_number (only fields))
 turn_of word.Pub fields = pub_of fields
 turn_of word.Hpub fields = hpub_of fields
@@ -165,6 +187,7 @@ turn_of word.Sub fields = sub_of fields
 turn_of word.Unsub fields = call_of Unsubscribe fields
 turn_of word.Limit fields = limit_of fields
 turn_of word.Drop fields = call_of DropSub fields
+turn_of word.Reconnect fields = bare (Do Reconnect) fields
 turn_of word.Other fields = None
 
 abbrev pub turn_of_fields : List (List ℕ) → Option Turn

@@ -138,7 +138,11 @@ fn push_end_word(out: &mut Vec<u8>, end: LinkWord) -> Result<(), NoMemory>
 {
     match end {
         LinkWord::Up => out.extend_from_slice(b"up")?,
+        LinkWord::Lost => out.extend_from_slice(b"lost")?,
         LinkWord::Fault => out.extend_from_slice(b"fault")?,
+        LinkWord::Ticks => out.extend_from_slice(b"ticks")?,
+        LinkWord::Reconnect => out.extend_from_slice(b"reconnect")?,
+        LinkWord::Hangup => out.extend_from_slice(b"hangup")?,
     }
     Ok(())
 }
@@ -282,6 +286,7 @@ fn push_reply(out: &mut Vec<u8>, reply: &CallReply) -> Result<(), NoMemory>
         CallReply::InvalidSubject => out.extend_from_slice(b"invalid-subject")?,
         CallReply::InvalidQueueName => out.extend_from_slice(b"invalid-queue-name")?,
         CallReply::MaxPayloadExceeded { limit, size } => push_sizes(out, *limit, *size)?,
+        CallReply::Closed => out.extend_from_slice(b"closed")?,
         CallReply::NoNumber => out.extend_from_slice(b"no-number")?,
         CallReply::Full => out.extend_from_slice(b"full")?,
     }

@@ -2,7 +2,7 @@
 ghost use Rattle.std.specs.Prelude.{◌≡◌, ◌∷◌, [], None, IfOk, MatchOption, option_and_then};
 ghost use Rattle.std.specs.Option.{option_copied};
 ghost use Rattle.nats_script.specs.Spelling.{field_bytes, field_number};
-ghost use Rattle.nats_script.specs.Script.{fields_of, only, mode_of, config_with, config_of_fields, config_of_line, word_of, up_turn, sub_with, sub_of, limit_with, limit_of, turn_of, turn_of_line};
+ghost use Rattle.nats_script.specs.Script.{fields_of, only, mode_of, config_with, config_of_fields, config_of_line, short_word_of, word_of, up_turn, is_bare, sub_with, sub_of, limit_with, limit_of, turn_of, turn_of_line};
 ghost use Rattle.nats_script.specs.Cut.{parts_behind};
 
 use crate::cut::{cut, only};
@@ -105,6 +105,10 @@ pub enum Word {
     Open,
     Piece,
     Write,
+    Tick,
+    Lost,
+    GiveUp,
+    Hangup,
     Take,
     Pub,
     Hpub,
@@ -112,17 +116,21 @@ pub enum Word {
     Unsub,
     Limit,
     Drop,
+    Reconnect,
     Other,
 }
 
-fn word_of(field: &[u8]) -> Word
-    ensures { result ≡ word_of field.now }
+/// The shorter words.
+fn short_word_of(field: &[u8]) -> Word
+    ensures { result ≡ short_word_of field.now }
 {
     match field {
         b"up" => Word::Up,
         b"open" => Word::Open,
         b"piece" => Word::Piece,
         b"write" => Word::Write,
+        b"tick" => Word::Tick,
+        b"lost" => Word::Lost,
         b"take" => Word::Take,
         b"pub" => Word::Pub,
         b"hpub" => Word::Hpub,
@@ -132,6 +140,21 @@ fn word_of(field: &[u8]) -> Word
         b"drop" => Word::Drop,
         _ => Word::Other,
     }
+}
+
+fn word_of(field: &[u8]) -> Word
+    ensures { result ≡ word_of field.now }
+{
+    if field == b"giveup".as_slice() {
+        return Word::GiveUp;
+    }
+    if field == b"hangup".as_slice() {
+        return Word::Hangup;
+    }
+    if field == b"reconnect".as_slice() {
+        return Word::Reconnect;
+    }
+    short_word_of(field)
 }
 
 fn number_in(fields: Option<&[u8]>) -> Option<u64>
@@ -147,6 +170,13 @@ fn bytes_in(alloc: Global, fields: Option<&[u8]>) -> Result<Option<Bytes>, NoMem
         return Ok(None);
     };
     bytes_field(alloc, field)
+}
+
+/// Whether there is no further field.
+fn is_bare(fields: Option<&[u8]>) -> bool
+    ensures { result ≡ is_bare (parts_behind 32 (option_copied fields.entry)) }
+{
+    fields.is_none()
 }
 
 fn up_turn(alloc: Global, max_payload: u64) -> Turn
@@ -225,6 +255,10 @@ fn turn_of(alloc: Global, word: Word, fields: Option<&[u8]>) -> Result<Option<Tu
         Word::Open => open_of(alloc, fields),
         Word::Piece => Ok(bytes_in(alloc, fields)?.map(Turn::Piece)),
         Word::Write => Ok(number_in(fields).map(Turn::Write)),
+        Word::Tick => Ok(is_bare(fields).then_some(Turn::Tick)),
+        Word::Lost => Ok(is_bare(fields).then_some(Turn::Lost)),
+        Word::GiveUp => Ok(is_bare(fields).then_some(Turn::GiveUp)),
+        Word::Hangup => Ok(is_bare(fields).then_some(Turn::Hangup)),
         Word::Take => Ok(number_in(fields).map(Turn::Take)),
         Word::Pub => pub_of(alloc, fields),
         Word::Hpub => hpub_of(alloc, fields),
@@ -232,6 +266,7 @@ fn turn_of(alloc: Global, word: Word, fields: Option<&[u8]>) -> Result<Option<Tu
         Word::Unsub => Ok(number_in(fields).map(|s| Turn::Do(Call::Unsubscribe(s)))),
         Word::Limit => Ok(limit_of(fields)),
         Word::Drop => Ok(number_in(fields).map(|s| Turn::Do(Call::DropSub(s)))),
+        Word::Reconnect => Ok(is_bare(fields).then_some(Turn::Do(Call::Reconnect))),
         Word::Other => Ok(None),
     }
 }

@@ -4,7 +4,7 @@ use Rattle.std.proofs.lemmas.Bool.{false≢true}
 use Rattle.std.proofs.lemmas.List.{append-nil}
 use Rattle.nats_history.specs.declared.call.Call.{Call}
 use Rattle.nats_history.specs.declared.call.CallReply.{CallReply}
-use Rattle.nats_history.specs.declared.call.CallReply.TheVariants.{Accepted, Numbered, InvalidSubject, InvalidQueueName, MaxPayloadExceeded, NoNumber, Full}
+use Rattle.nats_history.specs.declared.call.CallReply.TheVariants.{Accepted, Numbered, InvalidSubject, InvalidQueueName, MaxPayloadExceeded, Closed, NoNumber, Full}
 use Rattle.nats_history.specs.declared.turn.Turn.TheVariants.{Do}
 use Rattle.nats_history.specs.declared.transcript.SubRow.{SubRow}
 use Rattle.nats_history.specs.History.{Step, accepted, subscribes, lets_go}
@@ -21,18 +21,19 @@ abbrev is_numbered : Option CallReply → Bool
 is_numbered (Some (Numbered n)) = true
 is_numbered reply = false
 
-refused_by : (subjects group large none full : Bool) (limit size : ℕ)
-    → is_numbered (cond (not subjects) (Some InvalidSubject) (cond (not group) (Some InvalidQueueName) (cond large (Some (MaxPayloadExceeded limit size)) (cond none (Some NoNumber) (cond full (Some Full) None))))) ≡ false
-refused_by false group large none full limit size = refl
-refused_by true false large none full limit size = refl
-refused_by true true true none full limit size = refl
-refused_by true true false true full limit size = refl
-refused_by true true false false true limit size = refl
-refused_by true true false false false limit size = refl
+refused_by : (subjects group large over none full : Bool) (limit size : ℕ)
+    → is_numbered (cond (not subjects) (Some InvalidSubject) (cond (not group) (Some InvalidQueueName) (cond large (Some (MaxPayloadExceeded limit size)) (cond over (Some Closed) (cond none (Some NoNumber) (cond full (Some Full) None)))))) ≡ false
+refused_by false group large over none full limit size = refl
+refused_by true false large over none full limit size = refl
+refused_by true true true over none full limit size = refl
+refused_by true true false true none full limit size = refl
+refused_by true true false false true full limit size = refl
+refused_by true true false false false true limit size = refl
+refused_by true true false false false false limit size = refl
 
 not_numbered : (p : Parts) (call : Call) → is_numbered (refusal p call) ≡ false
 not_numbered p call =
-    refused_by (has_subjects p.config call) (has_group call) (nat_lt p.link.max_payload (size_of call)) (has_no_number p call) (is_full p) p.link.max_payload (size_of call)
+    refused_by (has_subjects p.config call) (has_group call) (nat_lt p.link.max_payload (size_of call)) p.is_closed (has_no_number p call) (is_full p) p.link.max_payload (size_of call)
 
 not_added : (reply : CallReply) (rows : List SubRow) → is_numbered (Some reply) ≡ false → added reply rows ≡ rows
 not_added (Numbered n) rows e = absurd (false≢true (sym e))

@@ -2,12 +2,14 @@
 use Rattle.std.proofs.Common.{◌≡◌, ℕ, zero, suc, ◌≤◌, List, [], ◌∷◌, ◌++◌, length, drop, map, Option, Some, None, Result, Ok, Err, OnOk, OnErr, IfOk, Bool, true, false, not, cond, is_some, ◌&&◌, ◌||◌, refl, sym, ◌∙◌, ap, subst, arith}
 use Rattle.std.proofs.lemmas.List.{append-nil, append_assoc, map-append, length-append, length-map, drop-append-le, drop-drop, length-drop}
 use Rattle.std.proofs.lemmas.Bool.{false≢true}
+use Rattle.std.proofs.lemmas.Option.{none-some}
 use Rattle.std.proofs.lemmas.Result.{on_ok_weaker}
 use Rattle.nats_names.specs.declared.event.Event.{Event}
 use Rattle.nats_wire.specs.declared.message.Message.{Message}
 use Rattle.nats_history.specs.declared.config.Config.{Config}
 use Rattle.nats_history.specs.declared.call.Call.{Call}
 use Rattle.nats_history.specs.declared.call.Call.TheVariants.{Unsubscribe}
+use Rattle.nats_history.specs.declared.call.Interest.{Interest}
 use Rattle.nats_history.specs.declared.call.CallReply.{CallReply}
 use Rattle.nats_history.specs.declared.call.CallReply.TheVariants.{Accepted, Numbered}
 use Rattle.nats_history.specs.declared.call.TakeReply.{TakeReply}
@@ -15,8 +17,8 @@ use Rattle.nats_history.specs.declared.call.TakeReply.TheVariants as takes
 use Rattle.nats_history.specs.declared.turn.Turn.TheVariants.{Do, Take}
 use Rattle.nats_history.specs.declared.turn.Due.{Due}
 use Rattle.nats_history.specs.Queue.{first}
-use Rattle.nats_tables.specs.Numbers.{at_number, item_of, named, change}
-use Rattle.nats_history.specs.History.{Step, accepted, took, History, subscribes, shuts, lets_go, Sub, is_ended, forgotten, kept, second, events_by, at_place, events}
+use Rattle.nats_tables.specs.Numbers.{only, at_number, item_of, named, change}
+use Rattle.nats_history.specs.History.{Step, accepted, took, History, asks, subscribes, shuts, lets_go, interest_by, Sub, is_ended, forgotten, kept, second, events_by, at_place, events}
 use Rattle.nats_history.specs.Parts.{Subs, Parts, parts_of}
 use Rattle.nats_history.specs.Schedule.{refusal, reply_by, accepted_reply, call_reply, accepted_step, gone_step, call_steps, is_closed_sub, oldest, sub_take, take_reply_of, take_reply, is_there, took_step, own_steps, due, put_steps, chain, due_chain}
 use Rattle.nats_history.specs.After.{new_sub, sub_after, subs_after, after, after_all, events_of}
@@ -99,6 +101,9 @@ leads old steps new e c out h place stands =
 pub leads_one : {T E : Type 0} (r : Result T E) (old new : Seen) (step : Step) → OnOk r (new ≡ seen_after old step) → OnOk r (LeadTo old (step ∷ []) new)
 leads_one r old new step e = on_ok_weaker r (λ is. leads old (step ∷ []) new is) e
 
+pub leads_all : {T E : Type 0} (r : Result T E) (old new : Seen) (steps : List Step) → OnOk r (new ≡ seen_all old steps) → OnOk r (LeadTo old steps new)
+leads_all r old new steps e = on_ok_weaker r (λ is. leads old steps new is) e
+
 both_true : (a b : Bool) → (a && b) ≡ true → a ≡ true
 both_true true b e = refl
 both_true false b e = absurd (false≢true e)
@@ -173,30 +178,40 @@ unchanged seen subs events a b = rw (a, b) refl
 
 -- ---- a call that is accepted
 
-no_shut : (call : Call) → subscribes call ≡ true → shuts call ≡ None
-no_shut (Unsubscribe s) e = absurd (false≢true e)
-no_shut call e = refl
+no_shut : (call : Call) (asked : Interest) → asks call ≡ Some asked → shuts call ≡ None
+no_shut (Unsubscribe s) asked e = absurd (none-some asked e)
+no_shut call asked e = refl
 
-abbrev subs_with : Config → Call → Subs → Bool → Option ℕ → Subs
-subs_with c call subs numbered name = record subs {
+abbrev subs_with : Config → Call → Subs → Bool → Subs
+subs_with c call subs numbered = record subs {
   given = cond numbered (suc subs.given) subs.given;
-  rows = change (named name) (sub_after c (accepted call)) (cond numbered (subs.rows ++ new_sub ∷ []) subs.rows);
+  rows = change (cond numbered (only (suc subs.given)) (named (shuts call))) (sub_after c (accepted call)) (cond numbered (subs.rows ++ new_sub ∷ []) subs.rows);
 }
 
--- a subscribe is given the next number
-pub subs_given : (c : Config) (call : Call) (subs : Subs) → subscribes call ≡ true → subs_after c (accepted call) subs ≡ given_one subs
-subs_given c call subs is =
-    ap (λ b. subs_with c call subs b (shuts call)) is ∙ ap (subs_with c call subs true) (no_shut call is)
+-- a subscription after a call's acceptance, which may ask for it or shut it
+abbrev accepted_sub : Option Interest → Option ℕ → Sub → Sub
+accepted_sub asked shut sub = kept (record sub { interest = interest_by asked sub.interest; is_shut = is_some shut || sub.is_shut })
 
-shut_rows : (c : Config) (call : Call) (rows : List Sub) (name : Option ℕ) → shuts call ≡ name → change (named name) (sub_after c (accepted call)) rows ≡ rows_named name alterations.Shut rows
-shut_rows c call rows None is = refl
-shut_rows c call rows (Some s) is =
-    ap (λ o. at_number s (λ (sub : Sub). kept (record sub { is_shut = is_some o || sub.is_shut })) rows) is
+abbrev given_by : Subs → (Sub → Sub) → Subs
+given_by subs f = record subs { given = suc subs.given; rows = at_number (suc subs.given) f (subs.rows ++ new_sub ∷ []) }
+
+-- a subscribe is given the next number
+pub subs_given : (c : Config) (call : Call) (asked : Interest) (subs : Subs) → asks call ≡ Some asked → subs_after c (accepted call) subs ≡ given_one asked subs
+subs_given c call asked subs is =
+    ap (subs_with c call subs) (ap is_some is)
+    ∙ (ap (λ o. given_by subs (accepted_sub o (shuts call))) is
+    ∙ ap (λ o. given_by subs (accepted_sub (Some asked) o)) (no_shut call asked is))
+
+shut_rows : (c : Config) (call : Call) (rows : List Sub) (name : Option ℕ) → asks call ≡ None → shuts call ≡ name
+    → change (named name) (sub_after c (accepted call)) rows ≡ rows_named name alterations.Shut rows
+shut_rows c call rows None none is = refl
+shut_rows c call rows (Some s) none is =
+    ap (λ o. at_number s (accepted_sub (asks call) o) rows) is ∙ ap (λ o. at_number s (accepted_sub o (Some s)) rows) none
 
 -- any other call shuts the subscription that it names for that
-pub subs_shut : (c : Config) (call : Call) (subs : Subs) → subscribes call ≡ false → subs_after c (accepted call) subs ≡ with_rows (rows_named (shuts call) alterations.Shut subs.rows) subs
-subs_shut c call subs is =
-    ap (λ b. subs_with c call subs b (shuts call)) is ∙ ap (λ rows. with_rows rows subs) (shut_rows c call subs.rows (shuts call) refl)
+pub subs_shut : (c : Config) (call : Call) (subs : Subs) → asks call ≡ None → subs_after c (accepted call) subs ≡ with_rows (rows_named (shuts call) alterations.Shut subs.rows) subs
+subs_shut c call subs none =
+    ap (subs_with c call subs) (ap is_some none) ∙ ap (λ rows. with_rows rows subs) (shut_rows c call subs.rows (shuts call) none refl)
 
 abbrev with_call : Seen → List Call → Subs → Seen
 with_call seen calls subs = record seen { parts = record seen.parts { calls = calls; subs = subs } }
@@ -219,18 +234,18 @@ taken_by seen old call reply calls subs same free is a b =
     let free_there : refusal seen.parts call ≡ None = subst (λ (s : Seen). refusal s.parts call ≡ None) (sym same) free in
     subst (λ s. TakenIn s call reply (with_call seen calls subs)) same (taken seen call reply calls subs free_there is a b)
 
-pub numbered_by : (seen old : Seen) (call : Call) (calls : List Call) (subs : Subs) (number : ℕ) → seen ≡ old → refusal old.parts call ≡ None → subscribes call ≡ true
-    → calls ≡ seen.parts.calls ++ call ∷ [] → subs ≡ given_one seen.parts.subs → number ≡ subs.given → TakenIn old call (Numbered number) (with_call seen calls subs)
-numbered_by seen old call calls subs number same free is a b d =
+pub numbered_by : (seen old : Seen) (call : Call) (asked : Interest) (calls : List Call) (subs : Subs) (number : ℕ) → seen ≡ old → refusal old.parts call ≡ None → asks call ≡ Some asked
+    → calls ≡ seen.parts.calls ++ call ∷ [] → subs ≡ given_one asked seen.parts.subs → number ≡ subs.given → TakenIn old call (Numbered number) (with_call seen calls subs)
+numbered_by seen old call asked calls subs number same free is a b d =
     taken_by seen old call (Numbered number) calls subs same free
-    (ap Numbered (d ∙ ap (λ (x : Subs). x.given) b) ∙ sym (ap (λ n. cond n (Numbered (suc seen.parts.subs.given)) Accepted) is))
-    a (b ∙ sym (subs_given seen.parts.config call seen.parts.subs is))
+    (ap Numbered (d ∙ ap (λ (x : Subs). x.given) b) ∙ sym (ap (λ o. cond (is_some o) (Numbered (suc seen.parts.subs.given)) Accepted) is))
+    a (b ∙ sym (subs_given seen.parts.config call asked seen.parts.subs is))
 
-pub shut_by : (seen old : Seen) (call : Call) (calls : List Call) (subs : Subs) → seen ≡ old → refusal old.parts call ≡ None → subscribes call ≡ false
+pub shut_by : (seen old : Seen) (call : Call) (calls : List Call) (subs : Subs) → seen ≡ old → refusal old.parts call ≡ None → asks call ≡ None
     → calls ≡ seen.parts.calls ++ call ∷ [] → subs ≡ with_rows (rows_named (shuts call) alterations.Shut seen.parts.subs.rows) seen.parts.subs
     → TakenIn old call Accepted (with_call seen calls subs)
 shut_by seen old call calls subs same free is a b =
-    taken_by seen old call Accepted calls subs same free (sym (ap (λ n. cond n (Numbered (suc seen.parts.subs.given)) Accepted) is))
+    taken_by seen old call Accepted calls subs same free (sym (ap (λ o. cond (is_some o) (Numbered (suc seen.parts.subs.given)) Accepted) is))
     a (b ∙ sym (subs_shut seen.parts.config call seen.parts.subs is))
 
 -- ---- a subscription that is let go, whatever the reply

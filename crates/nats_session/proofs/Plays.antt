@@ -1,5 +1,5 @@
 -- Playing over parts and a sheet is playing over histories.
-use Rattle.std.proofs.Common.{◌≡◌, ℕ, zero, suc, ◌≤◌, Bool, true, false, cond, List, [], ◌∷◌, ◌++◌, length, Option, Some, None, is_some, refl, sym, ◌∙◌, ap, subst, arith}
+use Rattle.std.proofs.Common.{◌≡◌, ℕ, zero, suc, ◌≤◌, Bool, true, false, cond, nat_le, List, [], ◌∷◌, ◌++◌, length, Option, Some, None, is_some, refl, sym, ◌∙◌, ap, subst, arith}
 use Rattle.std.proofs.lemmas.List.{append-nil, append_assoc}
 use Rattle.std.proofs.lemmas.Option.{none-some}
 use Rattle.std.proofs.lemmas.Bool.{false≢true}
@@ -9,12 +9,14 @@ use Rattle.nats_history.specs.declared.call.Call.{Call}
 use Rattle.nats_history.specs.declared.call.CallReply.{CallReply}
 use Rattle.nats_history.specs.declared.call.TakeReply.{TakeReply}
 use Rattle.nats_history.specs.declared.call.TakeReply.TheVariants as takes
+use Rattle.nats_history.specs.declared.transcript.LinkWord.{LinkWord}
+use Rattle.nats_history.specs.declared.transcript.LinkWord.TheVariants as word
 use Rattle.nats_history.specs.declared.turn.Turn.{Turn}
-use Rattle.nats_history.specs.declared.turn.Turn.TheVariants.{Up, Piece, Write, Do, Take}
+use Rattle.nats_history.specs.declared.turn.Turn.TheVariants.{Up, Piece, Write, Tick, Lost, GiveUp, Hangup, Do, Take}
 use Rattle.nats_tables.specs.Numbers.{item_of}
-use Rattle.nats_history.specs.History.{Step, link_end, accepted, History, lets_go, Sub, at_of, given}
+use Rattle.nats_history.specs.History.{Step, ticked, link_end, closed, accepted, handled, History, lets_go, Sub, at_of, given}
 use Rattle.nats_history.specs.Parts.{Parts, parts_of}
-use Rattle.nats_history.specs.Schedule.{refusal, take_reply, is_there, is_valid_turn, chain, accepted_step, gone_step, took_step, own_steps, due_by, due, most_due, put_steps, after_turn, steps_from, steps, out_of_turn_from, out_of_turn}
+use Rattle.nats_history.specs.Schedule.{refusal, take_reply, is_there, is_valid_turn, closes, closing, ending, ends_link, tick_limit, chain, accepted_step, gone_step, took_step, own_steps, due_by, due, most_due, put_steps, after_turn, steps_from, steps, out_of_turn_from, out_of_turn}
 use Rattle.nats_history.specs.Transcripts.{Answer, answer_of, answers_from, answers, transcript}
 use Rattle.nats_history.specs.After.{after, after_all, due_steps_within, due_steps}
 use Rattle.nats_history.proofs.Rows.{given_grows}
@@ -42,22 +44,35 @@ end_up_append : (xs ys : List Step) (p : Parts) → AllEndUp xs p → AllEndUp y
 end_up_append [] ys p a b = b
 end_up_append (x ∷ xs) ys p a b = (a.0, end_up_append xs ys (after p x) a.1 b)
 
+-- what follows an end at once ends no link
+closing_ends_up : (b : Bool) (p : Parts) → AllEndUp (closing b) p
+closing_ends_up true p = (tt, tt)
+closing_ends_up false p = tt
+
+ending_ends_up : (end : Option LinkWord) (p : Parts) → p.link.is_up ≡ true → AllEndUp (ending end) p
+ending_ends_up None p up = tt
+ending_ends_up (Some end) p up = (up, closing_ends_up (closes end) (after p (link_end end)))
+
+chain_ends_up : (p : Parts) (step : Step) → p.link.is_up ≡ true → AllEndUp (chain p step) p
+chain_ends_up p (link_end end) up = (up, closing_ends_up (closes end) (after p (link_end end)))
+chain_ends_up p (handled call) up = (tt, ending_ends_up (ends_link call) (after p (handled call)) up)
+chain_ends_up p step up = (tt, tt)
+
 -- ---- due steps
 
-due_ends_up : (p : Parts) (step : Step) → due p ≡ Some step → EndsUp p.link.is_up step
-due_ends_up p (link_end end) e = by_up p.link.is_up e
+due_while_up : (p : Parts) (step : Step) → due p ≡ Some step → p.link.is_up ≡ true
+due_while_up p step e = by_up p.link.is_up e
   where
-    by_up : (up : Bool) → cond up (due_by (front p.link.wire.unread) p) None ≡ Some (link_end end) → up ≡ true
+    by_up : (up : Bool) → cond up (due_by (front p.link.wire.unread) p) None ≡ Some step → up ≡ true
     by_up true e = refl
-    by_up false e = absurd (none-some (link_end end) e)
-due_ends_up p step e = tt
+    by_up false e = absurd (none-some step e)
 
 within_end_up : (n : ℕ) (next : Option Step) (p : Parts) → due p ≡ next → AllEndUp (due_steps_within n next p) p
 within_end_up n None p is = tt
 within_end_up zero (Some step) p is = tt
 within_end_up (suc n) (Some step) p is =
     let more = after_all p (chain p step) in
-    end_up_append (chain p step) (due_steps_within n (due more) more) p (due_ends_up p step is, tt) (within_end_up n (due more) more refl)
+    end_up_append (chain p step) (due_steps_within n (due more) more) p (chain_ends_up p step (due_while_up p step is)) (within_end_up n (due more) more refl)
 
 all_end_up : (p : Parts) → AllEndUp (due_steps p) p
 all_end_up p = within_end_up (most_due p) (due p) p refl
@@ -75,12 +90,24 @@ call_ends_up None call (Some s) p = (tt, (tt, tt))
 call_ends_up (Some reply) call None p = tt
 call_ends_up (Some reply) call (Some s) p = (tt, tt)
 
-own_end_up : (turn : Turn) (p : Parts) → AllEndUp (own_steps p turn) p
-own_end_up (Up info) p = (tt, tt)
-own_end_up (Piece bytes) p = (tt, tt)
-own_end_up (Write n) p = (tt, tt)
-own_end_up (Do call) p = call_ends_up (refusal p call) call (lets_go call) p
-own_end_up (Take sid) p = took_ends_up sid (take_reply p sid) p
+hangup_ends_up : (up : Bool) (p : Parts) → p.link.is_up ≡ up → AllEndUp (cond up (chain p (link_end word.Hangup)) (chain p closed)) p
+hangup_ends_up true p is = chain_ends_up p (link_end word.Hangup) is
+hangup_ends_up false p is = (tt, tt)
+
+tick_ends_up : (last : Bool) (p : Parts) → p.link.is_up ≡ true → AllEndUp (cond last (chain p (link_end word.Ticks)) (chain p ticked)) p
+tick_ends_up true p up = chain_ends_up p (link_end word.Ticks) up
+tick_ends_up false p up = (tt, tt)
+
+own_end_up : (turn : Turn) (p : Parts) → is_valid_turn p turn ≡ true → AllEndUp (own_steps p turn) p
+own_end_up (Up info) p valid = (tt, tt)
+own_end_up (Piece bytes) p valid = (tt, tt)
+own_end_up (Write n) p valid = (tt, tt)
+own_end_up Tick p valid = tick_ends_up (nat_le tick_limit p.link.pings) p valid
+own_end_up Lost p valid = chain_ends_up p (link_end word.Lost) valid
+own_end_up GiveUp p valid = (tt, tt)
+own_end_up Hangup p valid = hangup_ends_up p.link.is_up p refl
+own_end_up (Do call) p valid = call_ends_up (refusal p call) call (lets_go call) p
+own_end_up (Take sid) p valid = took_ends_up sid (take_reply p sid) p
 
 -- ---- a whole turn
 
@@ -90,6 +117,10 @@ answer_is c h (Take sid) = refl
 answer_is c h (Up info) = refl
 answer_is c h (Piece bytes) = refl
 answer_is c h (Write n) = refl
+answer_is c h Tick = refl
+answer_is c h Lost = refl
+answer_is c h GiveUp = refl
+answer_is c h Hangup = refl
 
 item_within : {A : Type 0} (xs : List A) (k : ℕ) → is_some (item_of k xs) ≡ true → k ≤ length xs
 item_within xs zero e = omega arith
@@ -112,6 +143,10 @@ answer_given c h place (Take sid) steps valid =
 answer_given c h place (Up info) steps valid = tt
 answer_given c h place (Piece bytes) steps valid = tt
 answer_given c h place (Write n) steps valid = tt
+answer_given c h place Tick steps valid = tt
+answer_given c h place Lost steps valid = tt
+answer_given c h place GiveUp steps valid = tt
+answer_given c h place Hangup steps valid = tt
 answer_given c h place (Do call) steps valid = tt
 
 -- at the parts of the history itself
@@ -120,7 +155,7 @@ tells_turn_of : (c : Config) (h : History) (answers : List (ℕ × Answer)) (pla
 tells_turn_of c h answers place turn sheet tells valid =
     let p = parts_of c h in
     let own = own_steps p turn in
-    let first = tells_steps c h answers place own p sheet tells (own_end_up turn p) in
+    let first = tells_steps c h answers place own p sheet tells (own_end_up turn p valid) in
     let here : answer_at p turn ≡ answer_of c h turn = answer_is c h turn in
     let given_here : IsGiven (put_steps place own h) (answer_at p turn) =
     subst (IsGiven (put_steps place own h)) (sym here) (answer_given c h place turn own valid)

@@ -2,13 +2,13 @@
 use Rattle.std.specs.Option.{option_map}
 use Rattle.std.proofs.Common.{◌≡◌, ℕ, zero, suc, ◌<◌, Bool, true, false, cond, ◌&&◌, List, [], ◌∷◌, ◌++◌, Option, Some, None, is_some, refl, sym, ◌∙◌, ap, subst}
 use Rattle.std.proofs.lemmas.Bool.{false≢true}
-use Rattle.std.proofs.lemmas.List.{append-nil}
 use Rattle.std.proofs.lemmas.Option.{none-some, same_Some}
 use Rattle.nats_names.specs.declared.event.Event.{Event}
 use Rattle.nats_wire.specs.declared.message.Message.{Message}
 use Rattle.nats_wire.specs.Operations.{Operation, message, Front, got, unfinished, fault, front}
 use Rattle.nats_history.specs.declared.config.Config.{Config}
 use Rattle.nats_history.specs.declared.call.Call.{Call}
+use Rattle.nats_history.specs.declared.call.Call.TheVariants.{Reconnect}
 use Rattle.nats_history.specs.declared.call.TakeReply.{TakeReply}
 use Rattle.nats_history.specs.declared.call.TakeReply.TheVariants as takes
 use Rattle.nats_history.specs.declared.turn.Due.{Due}
@@ -20,18 +20,18 @@ use Rattle.nats_subs.specs.declared.subs.subscription.Delivery.TheVariants.{Put,
 use Rattle.nats_history.specs.declared.transcript.LinkWord.TheVariants as word
 use Rattle.nats_history.specs.Queue.{first}
 use Rattle.nats_tables.specs.Numbers.{at_number, item_of}
-use Rattle.nats_history.specs.History.{Step, opened, fed, read, taken, accepted, handled, took, gone, link_end, Sub, is_open, has_room}
+use Rattle.nats_history.specs.History.{Step, opened, fed, read, ticked, taken, accepted, handled, took, gone, link_end, closed, Sub, is_open, has_room}
 use Rattle.nats_history.specs.declared.stage.Stage.{Stage}
 use Rattle.nats_history.specs.declared.stage.Stage.TheVariants.{Asked, Open, Ended}
 use Rattle.nats_history.specs.Parts.{Parts}
 use Rattle.nats_history.specs.Schedule.{chain, due_call, due_by, due, due_chain, most_due}
-use Rattle.nats_history.specs.After.{after, after_all, events_of, due_steps}
+use Rattle.nats_history.specs.After.{after, after_all, due_steps}
 use Rattle.nats_history.proofs.Dues.{bound_falls, none_due, one_due, after_append}
 use Rattle.nats_subs.specs.Delivery.{delivery_at}
-use Rattle.nats_session.specs.Handler.{Seen, push_all, seen_after, delivery_name, end_in, name_of, Advances, Sees, is_nothing, look_message, step_message, message_in}
-use Rattle.nats_session.specs.Sheet.{Sheet, write_drop, write_delivery, write_step, write_events}
-use Rattle.nats_session.specs.Machine.{quiet, sheet_noted, sheet_recorded, settled_parts, settled_sheet, write_end, write_due, Notes}
-use Rattle.nats_session.proofs.Handlers.{pushed}
+use Rattle.nats_session.specs.Handler.{Seen, delivery_name, end_in, name_of, Advances, Sees, is_nothing, look_message, step_message, message_in}
+use Rattle.nats_session.specs.Sheet.{Sheet, write_drop, write_delivery, write_events}
+use Rattle.nats_session.specs.Machine.{quiet, sheet_noted, sheet_recorded, sheet_written, settled_parts, settled_sheet, write_end, write_due, Notes}
+use Rattle.nats_session.proofs.Chains.{no_events, end_written, played}
 
 dropped_message : (c : Config) (m dropped : Message) (item : Option Sub) → delivery_at c m item ≡ Dropped dropped → dropped ≡ m
 dropped_message c m dropped None e = cc
@@ -72,7 +72,7 @@ can_be_due p step e = by_up p.link.is_up e
 -- ---- what is written of a due step
 
 written_due : (place : ℕ) (p : Parts) (step : Step) (sheet : Sheet) → CanBeDue step
-    → write_due place (step_message step) (name_of p step) (write_end (end_in (chain p step)) p sheet) ≡ write_step place p step sheet
+    → write_due place (step_message step) (name_of p step) (write_end (end_in (chain p step)) p sheet) ≡ sheet_written place (chain p step) p sheet
 written_due place p (read (message sid m)) sheet can = by_delivery (delivery_at p.config m (item_of sid p.subs.rows)) refl
   where
     by_delivery : (d : Delivery) → delivery_at p.config m (item_of sid p.subs.rows) ≡ d
@@ -83,18 +83,17 @@ written_due place p (read (message sid m)) sheet can = by_delivery (delivery_at 
     by_delivery Unwanted is = refl
     by_delivery Ignored is = refl
 written_due place p (read operation) sheet can = refl
+written_due place p (handled Reconnect) sheet can = refl
 written_due place p (handled call) sheet can = refl
-written_due place p (link_end end) sheet can = refl
+written_due place p (link_end end) sheet can = end_written place p end sheet
 written_due place p (opened info) sheet can = absurd can
 written_due place p (fed bytes) sheet can = absurd can
 written_due place p (taken n) sheet can = absurd can
 written_due place p (accepted call) sheet can = absurd can
 written_due place p (took sid) sheet can = absurd can
 written_due place p (gone sid) sheet can = absurd can
-
-quiet_after : (old : Seen) (step : Step) → old.events ≡ [] → seen_after old step ≡ record { parts = after old.parts step; events = events_of old.parts step }
-quiet_after old step none =
-    ap (λ es. record { parts = after old.parts step; events = es }) (ap (push_all (events_of old.parts step)) none ∙ pushed (events_of old.parts step) [])
+written_due place p closed sheet can = absurd can
+written_due place p ticked sheet can = absurd can
 
 -- a due step that was played, written and whose events were handed out
 pub noted : (place : ℕ) (next : Option Step) (old new last : Seen) (name : Due) (came : Option Message) (s0 s1 s2 s3 : Sheet)
@@ -103,24 +102,17 @@ pub noted : (place : ℕ) (next : Option Step) (old new last : Seen) (name : Due
     → last ≡ record new { events = [] } → Notes next place old.parts s0 last s3
 noted place None old new last name came s0 s1 s2 s3 is none plays read_it a b d e = (
   e ∙ ap (λ (s : Seen). record s { events = [] }) plays.1,
-  d ∙ (ap (λ (s : Seen). write_events place s.events s2) plays.1 ∙ (ap (λ es. write_events place es s2) none ∙ (no_events s2 ∙ (b ∙ (ap (λ n. write_due place came n s1) plays.0 ∙ a))))),
+  d ∙ (ap (λ (s : Seen). write_events place s.events s2) plays.1 ∙ (ap (λ es. write_events place es s2) none ∙ (no_events place s2 ∙ (b ∙ (ap (λ n. write_due place came n s1) plays.0 ∙ a))))),
 )
-  where
-    no_events : (s : Sheet) → write_events place [] s ≡ s
-    no_events s = ap (λ es. record s { events = es }) (append-nil s.events)
 noted place (Some step) old new last name came s0 s1 s2 s3 is none plays read_it a b d e =
-    let seen : new ≡ record { parts = after old.parts step; events = events_of old.parts step } =
-    plays.1 ∙ quiet_after old step none
-    in
-    let by_name : write_due place came name s1 ≡ write_due place (step_message step) (name_of old.parts step) s1 =
+    let p = old.parts in
+    let by_name : write_due place came name s1 ≡ write_due place (step_message step) (name_of p step) s1 =
     ap (λ m. write_due place m name s1) read_it ∙ ap (λ n. write_due place (step_message step) n s1) plays.0
     in
-    let written : s2 ≡ write_step place old.parts step s0 =
-    b ∙ (by_name ∙ (ap (write_due place (step_message step) (name_of old.parts step)) a ∙ written_due place old.parts step s0 (can_be_due old.parts step is)))
-    in (
-      e ∙ ap (λ (s : Seen). record s { events = [] }) seen,
-      d ∙ (ap (λ (s : Seen). write_events place s.events s2) seen ∙ ap (write_events place (events_of old.parts step)) written),
-    )
+    let written : s2 ≡ sheet_written place (chain p step) p s0 =
+    b ∙ (by_name ∙ (ap (write_due place (step_message step) (name_of p step)) a ∙ written_due place p step s0 (can_be_due p step is)))
+    in
+    played place (chain p step) old new last s0 s2 s3 none plays.1 written d e
 
 -- ---- a look
 

@@ -1,7 +1,9 @@
 -- What the calls of a handler answer and leave.
-use Rattle.std.specs.Prelude.{◌≡◌, ℕ, suc, ◌≤◌, Bool, true, false, not, ◌&&◌, List, [], ◌∷◌, ◌++◌, length, drop, map, Option, Some, None, is_some, Result, Ok, Err}
+use Rattle.std.specs.Prelude.{◌≡◌, ℕ, suc, ◌≤◌, Bool, true, false, not, ◌&&◌, List, [], ◌∷◌, ◌++◌, length, drop, map, Option, Some, None, is_some, Result, Ok, Err, ◌==◌, if◌then◌else◌}
 use Rattle.std.specs.Option.{option_map}
 use Rattle.nats_names.specs.declared.event.Event.{Event}
+use Rattle.nats_names.specs.declared.state.State.{State}
+use Rattle.nats_names.specs.declared.state.State.TheVariants as states
 use Rattle.nats_names.specs.declared.event.Event.TheVariants.{SlowConsumer}
 use Rattle.nats_wire.specs.declared.op.ClientOp.TheVariants as client
 use Rattle.nats_wire.specs.Commands.{command_text}
@@ -24,7 +26,7 @@ use Rattle.nats_history.specs.Queue.{first}
 use Rattle.nats_tables.specs.Numbers.{at_number, item_of}
 use Rattle.nats_history.specs.History.{Step, read, accepted, handled, link_end, History, second, kept, events}
 use Rattle.nats_history.specs.Parts.{Subs, Parts, parts_of}
-use Rattle.nats_history.specs.Schedule.{is_valid_turn, refusal, call_reply, accepted_step, call_steps, due, chain, due_chain, put_steps}
+use Rattle.nats_history.specs.Schedule.{is_valid_turn, refusal, call_reply, accepted_step, call_steps, due, chain, due_chain, ends_link, put_steps}
 use Rattle.nats_history.specs.After.{after, events_of}
 use Rattle.nats_subs.specs.Delivery.{delivery_at, deliver, with_rows, rows_with}
 use Rattle.nats_subs.specs.declared.subs.subscription.Alteration.TheVariants as alterations
@@ -53,7 +55,8 @@ pub record StandsFor (c : Config) (out : HandedOut) (h : History) (seen : Seen) 
 abbrev pub idle : Config → Parts
 idle c = record {
   config = c;
-  link = record { number = 0; is_up = false; max_payload = 1048576; wire = fresh };
+  is_closed = false;
+  link = record { number = 0; is_up = false; max_payload = 1048576; pings = 0; wire = fresh };
   calls = [];
   subs = record { given = 0; subscribed = 0; rows = [] };
 }
@@ -68,6 +71,15 @@ seen_after seen step = record { parts = after seen.parts step; events = push_all
 abbrev pub seen_all : Seen → List Step → Seen
 seen_all seen [] = seen
 seen_all seen (step ∷ steps) = seen_all (seen_after seen step) steps
+
+-- how a session stands
+abbrev pub state_of : Parts → State
+state_of p = if p.link.is_up then states.Connected else (if p.link.number == 0 then states.Pending else states.Disconnected)
+
+-- the events that some steps give out
+abbrev pub all_events : Parts → List Step → List Event
+all_events p [] = []
+all_events p (step ∷ steps) = events_of p step ++ all_events (after p step) steps
 
 -- a turn may be played: it may come here and no step is due
 abbrev pub can_play : Parts → Turn → Bool
@@ -143,6 +155,15 @@ Advances (Some step) old name new = (name ≡ name_of old.parts step) × (new �
 -- the step of the oldest waiting call, if one waits
 abbrev pub handled_first : Parts → Option Step
 handled_first p = option_map handled (first p.calls)
+
+-- the word by which the link ends as this call is handled, if one waits and it does
+abbrev pub command_end : Option Call → Option LinkWord
+command_end None = None
+command_end (Some call) = ends_link call
+
+abbrev pub seen_handled : Option Call → Seen → Seen
+seen_handled None old = old
+seen_handled (Some call) old = seen_after old (handled call)
 
 -- a look at the parts tells which step is due
 abbrev pub Sees : Parts → Look → Type 0

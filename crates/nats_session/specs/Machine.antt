@@ -29,6 +29,11 @@ abbrev pub sheet_recorded : ℕ → List Step → Parts → Sheet → Sheet
 sheet_recorded place [] p sheet = sheet
 sheet_recorded place (step ∷ steps) p sheet = sheet_recorded place steps (after p step) (sheet_noted place step p sheet)
 
+-- what some steps write but for their events
+abbrev pub sheet_written : ℕ → List Step → Parts → Sheet → Sheet
+sheet_written place [] p sheet = sheet
+sheet_written place (step ∷ steps) p sheet = sheet_written place steps (after p step) (write_step place p step sheet)
+
 -- ---- turns
 
 abbrev pub answer_at : Parts → Turn → Answer

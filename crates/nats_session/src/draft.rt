@@ -128,6 +128,7 @@ impl Draft {
             | CallReply::InvalidSubject
             | CallReply::InvalidQueueName
             | CallReply::MaxPayloadExceeded { .. }
+            | CallReply::Closed
             | CallReply::NoNumber
             | CallReply::Full => Ok(()),
         }

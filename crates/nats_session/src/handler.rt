@@ -6,10 +6,9 @@ mod accessors;
 mod calls;
 mod due;
 
-use nats_subs::Queue;
-use nats_subs::Subscriptions;
 pub use due::Look;
 use nats_history::{Call, Config, Event, NoMemory};
+use nats_subs::{Queue, Subscriptions};
 use nats_wire::Connection;
 use std::alloc::Global;
 use std::marker::Model;
@@ -17,14 +16,19 @@ use std::marker::Model;
 /// The limit of a payload's size in bytes, with its header block, before any link came up. The crate's default.
 const DEFAULT_MAX_PAYLOAD: u64 = 1_048_576;
 
+/// A tick ends the link where so many ticks before it have no answer. The crate's `MAX_PENDING_PINGS`.
+const TICK_LIMIT: u64 = 2;
+
 /// A session over one link at a time. The crate's private handler, with its turns as calls. Contracts see its parts, and the
 /// events that wait to be handed out.
 #[derive(Drop)]
 pub struct ConnectionHandler {
     config: Config,
+    is_closed: bool,
     link: u64,
     is_up: bool,
     max_payload: u64,
+    pings: u64,
     connection: Connection,
     calls: Queue<Call>,
     subs: Subscriptions,
@@ -39,7 +43,8 @@ impl Model for ConnectionHandler {
     ghost view = { λ h. record {
       parts = record {
         config = h.config;
-        link = record { number = h.link; is_up = h.is_up; max_payload = h.max_payload; wire = h.connection };
+        is_closed = h.is_closed;
+        link = record { number = h.link; is_up = h.is_up; max_payload = h.max_payload; pings = h.pings; wire = h.connection };
         calls = h.calls;
         subs = h.subs;
       };
@@ -55,9 +60,11 @@ impl ConnectionHandler {
     {
         Ok(ConnectionHandler {
             config,
+            is_closed: false,
             link: 0,
             is_up: false,
             max_payload: DEFAULT_MAX_PAYLOAD,
+            pings: 0,
             connection: Connection::new(alloc),
             calls: Queue::new(alloc),
             subs: Subscriptions::new(alloc),

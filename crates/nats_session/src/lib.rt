@@ -14,4 +14,5 @@ pub use nats_history::{
     OutboundMessage, RunError, Seq, ServerInfo, SubRow, Subject, TakeReply, Token, Transcript,
     Turn,
 };
+pub use nats_names::State;
 pub use play::run;

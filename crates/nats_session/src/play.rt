@@ -63,6 +63,71 @@ fn play_write(
     draft.note_events(place, handler)
 }
 
+fn play_tick(
+    alloc: Global,
+    handler: &mut ConnectionHandler,
+    draft: &mut Draft,
+    place: u64,
+) -> Result<(), NoMemory>
+    requires may { IsTrue (can_play handler.old.parts turns.Tick) }
+    requires none { handler.old.events ≡ [] }
+    ensures parts { OnOk result (handler.new ≡ quiet (own_parts turns.Tick handler.old.parts)) }
+    ensures sheet { OnOk result (draft.new ≡ own_sheet place turns.Tick handler.old.parts draft.old) }
+{
+    let end = handler.tick_word();
+    note_end(alloc, handler, draft, end)?;
+    handler.tick(alloc)?;
+    draft.note_events(place, handler)
+}
+
+fn play_lost(
+    alloc: Global,
+    handler: &mut ConnectionHandler,
+    draft: &mut Draft,
+    place: u64,
+) -> Result<(), NoMemory>
+    requires may { IsTrue (can_play handler.old.parts turns.Lost) }
+    requires none { handler.old.events ≡ [] }
+    ensures parts { OnOk result (handler.new ≡ quiet (own_parts turns.Lost handler.old.parts)) }
+    ensures sheet { OnOk result (draft.new ≡ own_sheet place turns.Lost handler.old.parts draft.old) }
+{
+    note_end(alloc, handler, draft, Some(LinkWord::Lost))?;
+    handler.lost(alloc)?;
+    draft.note_events(place, handler)
+}
+
+fn play_give_up(
+    alloc: Global,
+    handler: &mut ConnectionHandler,
+    draft: &mut Draft,
+    place: u64,
+) -> Result<(), NoMemory>
+    requires may { IsTrue (can_play handler.old.parts turns.GiveUp) }
+    requires none { handler.old.events ≡ [] }
+    ensures parts { OnOk result (handler.new ≡ quiet (own_parts turns.GiveUp handler.old.parts)) }
+    ensures sheet { OnOk result (draft.new ≡ own_sheet place turns.GiveUp handler.old.parts draft.old) }
+{
+    handler.give_up(alloc)?;
+    draft.note_events(place, handler)
+}
+
+fn play_hangup(
+    alloc: Global,
+    handler: &mut ConnectionHandler,
+    draft: &mut Draft,
+    place: u64,
+) -> Result<(), NoMemory>
+    requires may { IsTrue (can_play handler.old.parts turns.Hangup) }
+    requires none { handler.old.events ≡ [] }
+    ensures parts { OnOk result (handler.new ≡ quiet (own_parts turns.Hangup handler.old.parts)) }
+    ensures sheet { OnOk result (draft.new ≡ own_sheet place turns.Hangup handler.old.parts draft.old) }
+{
+    let end = handler.hangup_word();
+    note_end(alloc, handler, draft, end)?;
+    handler.hang_up(alloc)?;
+    draft.note_events(place, handler)
+}
+
 fn play_call(
     alloc: Global,
     handler: &mut ConnectionHandler,
@@ -113,6 +178,10 @@ fn play_own(
         Turn::Up(info) => play_up(alloc, handler, draft, place, info),
         Turn::Piece(bytes) => play_piece(alloc, handler, draft, place, bytes.as_slice()),
         Turn::Write(n) => play_write(handler, draft, place, *n),
+        Turn::Tick => play_tick(alloc, handler, draft, place),
+        Turn::Lost => play_lost(alloc, handler, draft, place),
+        Turn::GiveUp => play_give_up(alloc, handler, draft, place),
+        Turn::Hangup => play_hangup(alloc, handler, draft, place),
         Turn::Do(call) => play_call(alloc, handler, draft, place, call),
         Turn::Take(sid) => play_take(alloc, handler, draft, place, *sid),
     }

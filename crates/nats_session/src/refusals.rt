@@ -1,11 +1,13 @@
 //! What a call asks for, and which calls may not be accepted.
-ghost use Rattle.std.specs.Prelude.{◌≡◌, ◌<◌, ◌^◌};
+ghost use Rattle.std.specs.Prelude.{◌≡◌, ◌<◌, ◌^◌, IfOk};
 ghost use Rattle.nats_wire.specs.Commands.{sent_block};
 ghost use Rattle.nats_wire.specs.Operations.{length_or_0};
-ghost use Rattle.nats_history.specs.History.{subscribes, shuts, lets_go};
-ghost use Rattle.nats_history.specs.Schedule.{may_publish_to, passes, has_subjects, has_group, size_of};
+ghost use Rattle.nats_history.specs.History.{asks, subscribes, shuts, lets_go};
+ghost use Rattle.nats_history.specs.Schedule.{ends_link, may_publish_to, passes, has_subjects, has_group, size_of};
 
-use nats_history::{Call, Config, HeaderMap, Subject};
+use nats_history::{Call, Config, HeaderMap, Interest, LinkWord, NoMemory, Subject};
+use nats_wire::copy_subject;
+use std::alloc::Global;
 
 /// Whether a call is given a subscription number.
 pub fn subscribes(call: &Call) -> bool
@@ -13,7 +15,45 @@ pub fn subscribes(call: &Call) -> bool
 {
     match call {
         Call::Subscribe { .. } => true,
-        Call::Publish(_) | Call::Unsubscribe(_) | Call::Limit(..) | Call::DropSub(_) => false,
+        Call::Publish(_)
+        | Call::Unsubscribe(_)
+        | Call::Limit(..)
+        | Call::DropSub(_)
+        | Call::Reconnect => false,
+    }
+}
+
+/// A copy of what a call asks for, if it subscribes.
+pub fn interest_of(alloc: Global, call: &Call) -> Result<Option<Interest>, NoMemory>
+    ensures { IfOk result (λ asked. asked ≡ asks call.now) }
+{
+    match call {
+        Call::Subscribe {
+            subject,
+            queue_group,
+        } => Ok(Some(Interest {
+            subject: subject.copy(alloc)?,
+            queue_group: copy_subject(alloc, queue_group)?,
+        })),
+        Call::Publish(_)
+        | Call::Unsubscribe(_)
+        | Call::Limit(..)
+        | Call::DropSub(_)
+        | Call::Reconnect => Ok(None),
+    }
+}
+
+/// The word by which the link ends as a call is handled, if it does.
+pub fn ends_link(call: &Call) -> Option<LinkWord>
+    ensures { result ≡ ends_link call.now }
+{
+    match call {
+        Call::Reconnect => Some(LinkWord::Reconnect),
+        Call::Publish(_)
+        | Call::Subscribe { .. }
+        | Call::Unsubscribe(_)
+        | Call::Limit(..)
+        | Call::DropSub(_) => None,
     }
 }
 
@@ -23,7 +63,11 @@ pub fn shuts(call: &Call) -> Option<u64>
 {
     match call {
         Call::Unsubscribe(s) => Some(*s),
-        Call::Publish(_) | Call::Subscribe { .. } | Call::Limit(..) | Call::DropSub(_) => None,
+        Call::Publish(_)
+        | Call::Subscribe { .. }
+        | Call::Limit(..)
+        | Call::DropSub(_)
+        | Call::Reconnect => None,
     }
 }
 
@@ -33,7 +77,11 @@ pub fn lets_go(call: &Call) -> Option<u64>
 {
     match call {
         Call::DropSub(s) => Some(*s),
-        Call::Publish(_) | Call::Subscribe { .. } | Call::Limit(..) | Call::Unsubscribe(_) => None,
+        Call::Publish(_)
+        | Call::Subscribe { .. }
+        | Call::Limit(..)
+        | Call::Unsubscribe(_)
+        | Call::Reconnect => None,
     }
 }
 
@@ -61,7 +109,7 @@ pub fn has_subjects(config: &Config, call: &Call) -> bool
             may_publish_to(config, &message.subject) && may_reply_to(config, &message.reply)
         }
         Call::Subscribe { subject, .. } => subject.is_valid(),
-        Call::Unsubscribe(_) | Call::Limit(..) | Call::DropSub(_) => true,
+        Call::Unsubscribe(_) | Call::Limit(..) | Call::DropSub(_) | Call::Reconnect => true,
     }
 }
 
@@ -81,7 +129,8 @@ pub fn has_group(call: &Call) -> bool
         | Call::Publish(_)
         | Call::Unsubscribe(_)
         | Call::Limit(..)
-        | Call::DropSub(_) => true,
+        | Call::DropSub(_)
+        | Call::Reconnect => true,
     }
 }
 
@@ -105,6 +154,10 @@ pub fn size_of(call: &Call) -> u64
             let block = block_len(&message.headers);
             (block + message.payload.as_slice().len()) as u64
         }
-        Call::Subscribe { .. } | Call::Unsubscribe(_) | Call::Limit(..) | Call::DropSub(_) => 0,
+        Call::Subscribe { .. }
+        | Call::Unsubscribe(_)
+        | Call::Limit(..)
+        | Call::DropSub(_)
+        | Call::Reconnect => 0,
     }
 }

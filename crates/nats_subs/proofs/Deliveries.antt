@@ -5,6 +5,7 @@ use Rattle.nats_names.specs.declared.event.Event.{Event}
 use Rattle.nats_names.specs.declared.event.Event.TheVariants.{SlowConsumer}
 use Rattle.nats_wire.specs.declared.message.Message.{Message}
 use Rattle.nats_history.specs.declared.config.Config.{Config}
+use Rattle.nats_history.specs.declared.call.Interest.{Interest}
 use Rattle.nats_history.specs.declared.stage.Stage.{Stage}
 use Rattle.nats_history.specs.declared.stage.Stage.TheVariants.{Asked, Open, Ended}
 use Rattle.nats_tables.specs.Numbers.{at_number, item_of}
@@ -63,41 +64,41 @@ events_by m sid Open true room = refl
 events_by m sid Open false true = refl
 events_by m sid Open false false = refl
 
-abbrev sub_as : Stage → Bool → Bool → Option ℕ → ℕ → List Message → Sub
-sub_as stage shut is_gone limit n waiting = record { stage = stage; is_shut = shut; is_gone = is_gone; limit = limit; puts = n; waiting = waiting }
+abbrev sub_as : Option Interest → Stage → Bool → Bool → Option ℕ → ℕ → List Message → Sub
+sub_as asked stage shut is_gone limit n waiting = record { interest = asked; stage = stage; is_shut = shut; is_gone = is_gone; limit = limit; puts = n; waiting = waiting }
 
 -- a message that does not end it
-came_with : (stage : Stage) (shut is_gone : Bool) (limit : Option ℕ) (n : ℕ) (waiting : List Message) (m : Message) (room reach : Bool) → (is_open stage && shut) ≡ false
-    → sub_as (end_if (shut || (room && reach)) stage) shut is_gone limit (cond ((is_open stage && not shut) && room) (cut (suc n)) n) (cond ((is_open stage && not shut) && room) (waiting ++ m ∷ []) waiting)
-    ≡ cond ((is_open stage && not shut) && room) (sub_as (end_if reach stage) shut is_gone limit (cut (suc n)) (waiting ++ m ∷ [])) (sub_as stage shut is_gone limit n waiting)
-came_with Asked true is_gone limit n waiting m room reach stays = refl
-came_with Asked false is_gone limit n waiting m true true stays = refl
-came_with Asked false is_gone limit n waiting m true false stays = refl
-came_with Asked false is_gone limit n waiting m false reach stays = refl
-came_with Ended true is_gone limit n waiting m room reach stays = refl
-came_with Ended false is_gone limit n waiting m true true stays = refl
-came_with Ended false is_gone limit n waiting m true false stays = refl
-came_with Ended false is_gone limit n waiting m false reach stays = refl
-came_with Open true is_gone limit n waiting m room reach stays = absurd (false≢true (sym stays))
-came_with Open false is_gone limit n waiting m true reach stays = refl
-came_with Open false is_gone limit n waiting m false reach stays = refl
+came_with : (asked : Option Interest) (stage : Stage) (shut is_gone : Bool) (limit : Option ℕ) (n : ℕ) (waiting : List Message) (m : Message) (room reach : Bool) → (is_open stage && shut) ≡ false
+    → sub_as asked (end_if (shut || (room && reach)) stage) shut is_gone limit (cond ((is_open stage && not shut) && room) (cut (suc n)) n) (cond ((is_open stage && not shut) && room) (waiting ++ m ∷ []) waiting)
+    ≡ cond ((is_open stage && not shut) && room) (sub_as asked (end_if reach stage) shut is_gone limit (cut (suc n)) (waiting ++ m ∷ [])) (sub_as asked stage shut is_gone limit n waiting)
+came_with asked Asked true is_gone limit n waiting m room reach stays = refl
+came_with asked Asked false is_gone limit n waiting m true true stays = refl
+came_with asked Asked false is_gone limit n waiting m true false stays = refl
+came_with asked Asked false is_gone limit n waiting m false reach stays = refl
+came_with asked Ended true is_gone limit n waiting m room reach stays = refl
+came_with asked Ended false is_gone limit n waiting m true true stays = refl
+came_with asked Ended false is_gone limit n waiting m true false stays = refl
+came_with asked Ended false is_gone limit n waiting m false reach stays = refl
+came_with asked Open true is_gone limit n waiting m room reach stays = absurd (false≢true (sym stays))
+came_with asked Open false is_gone limit n waiting m true reach stays = refl
+came_with asked Open false is_gone limit n waiting m false reach stays = refl
 
 came_delivered : (c : Config) (sid : ℕ) (m : Message) (sub : Sub) → is_closing sub ≡ false → changed_sub c (came sid m) sub ≡ deliver c m sub
 came_delivered c sid m sub stays =
-    came_with sub.stage sub.is_shut sub.is_gone sub.limit sub.puts sub.waiting m (has_room c sub) (reached sub.limit (cut (suc sub.puts))) stays
+    came_with sub.interest sub.stage sub.is_shut sub.is_gone sub.limit sub.puts sub.waiting m (has_room c sub) (reached sub.limit (cut (suc sub.puts))) stays
 
 -- a message that ends it
-ended_with : (stage : Stage) (shut is_gone : Bool) (limit : Option ℕ) (n : ℕ) (waiting : List Message) (m : Message) (room reach : Bool) → (is_open stage && shut) ≡ true
-    → sub_as (end_if (shut || (room && reach)) stage) shut is_gone limit (cond ((is_open stage && not shut) && room) (cut (suc n)) n) (cond ((is_open stage && not shut) && room) (waiting ++ m ∷ []) waiting)
-    ≡ sub_as (end_if true stage) shut is_gone limit n waiting
-ended_with Asked shut is_gone limit n waiting m room reach goes = absurd (false≢true goes)
-ended_with Ended shut is_gone limit n waiting m room reach goes = absurd (false≢true goes)
-ended_with Open false is_gone limit n waiting m room reach goes = absurd (false≢true goes)
-ended_with Open true is_gone limit n waiting m room reach goes = refl
+ended_with : (asked : Option Interest) (stage : Stage) (shut is_gone : Bool) (limit : Option ℕ) (n : ℕ) (waiting : List Message) (m : Message) (room reach : Bool) → (is_open stage && shut) ≡ true
+    → sub_as asked (end_if (shut || (room && reach)) stage) shut is_gone limit (cond ((is_open stage && not shut) && room) (cut (suc n)) n) (cond ((is_open stage && not shut) && room) (waiting ++ m ∷ []) waiting)
+    ≡ sub_as asked (end_if true stage) shut is_gone limit n waiting
+ended_with asked Asked shut is_gone limit n waiting m room reach goes = absurd (false≢true goes)
+ended_with asked Ended shut is_gone limit n waiting m room reach goes = absurd (false≢true goes)
+ended_with asked Open false is_gone limit n waiting m room reach goes = absurd (false≢true goes)
+ended_with asked Open true is_gone limit n waiting m room reach goes = refl
 
 came_ended : (c : Config) (sid : ℕ) (m : Message) (sub : Sub) → is_closing sub ≡ true → changed_sub c (came sid m) sub ≡ altered alterations.End sub
 came_ended c sid m sub goes =
-    ended_with sub.stage sub.is_shut sub.is_gone sub.limit sub.puts sub.waiting m (has_room c sub) (reached sub.limit (cut (suc sub.puts))) goes
+    ended_with sub.interest sub.stage sub.is_shut sub.is_gone sub.limit sub.puts sub.waiting m (has_room c sub) (reached sub.limit (cut (suc sub.puts))) goes
 
 -- ---- the subscription of a number
 

@@ -1,16 +1,18 @@
 -- What becomes of a subscription: what is asked of it, and the messages that come for it.
-use Rattle.std.specs.Prelude.{◌≡◌, ℕ, suc, Bool, true, false, nat_lt, nat_le, List, [], ◌∷◌, ◌++◌, drop, Option, Some, None, if◌then◌else◌}
+use Rattle.std.specs.Prelude.{◌≡◌, ℕ, suc, Bool, true, false, nat_lt, nat_le, List, [], ◌∷◌, ◌++◌, drop, map, Option, Some, None, if◌then◌else◌}
 use Rattle.nats_names.specs.declared.event.Event.{Event}
 use Rattle.nats_names.specs.declared.event.Event.TheVariants.{SlowConsumer}
 use Rattle.nats_wire.specs.declared.message.Message.{Message}
+use Rattle.nats_wire.specs.declared.op.ClientOp.{ClientOp}
 use Rattle.nats_history.specs.declared.config.Config.{Config}
+use Rattle.nats_history.specs.declared.call.Interest.{Interest}
 use Rattle.nats_subs.specs.declared.subs.subscription.Delivery.{Delivery}
 use Rattle.nats_subs.specs.declared.subs.subscription.Delivery.TheVariants.{Put, Dropped, Unwanted, Ignored}
 use Rattle.nats_subs.specs.declared.subs.subscription.Alteration.{Alteration}
 use Rattle.nats_subs.specs.declared.subs.subscription.Alteration.TheVariants as alterations
 use Rattle.nats_history.specs.Queue.{last}
 use Rattle.nats_tables.specs.Numbers.{named, at_number, change}
-use Rattle.nats_history.specs.History.{cut, Sub, is_open, has_room, puts, reached, open_if, end_if, kept, next_subscribed}
+use Rattle.nats_history.specs.History.{cut, Sub, is_open, has_room, puts, reached, open_if, end_if, kept, next_subscribed, again}
 use Rattle.nats_history.specs.Parts.{Subs, at_in}
 use Rattle.nats_history.specs.After.{new_sub}
 
@@ -57,6 +59,15 @@ altered alterations.Shut sub = record sub { is_shut = true }
 altered alterations.End sub = record sub { stage = end_if true sub.stage }
 altered (alterations.Limit n) sub = record sub { stage = end_if (nat_le n sub.puts) sub.stage; limit = Some n }
 altered alterations.LetGo sub = record sub { is_shut = true; is_gone = true; waiting = [] }
+altered alterations.Renew sub = record sub { stage = end_if sub.is_shut sub.stage }
+altered alterations.Close sub = record sub { stage = end_if true (open_if true sub.stage) }
+
+abbrev pub asking : Interest → Sub → Sub
+asking asked sub = kept (record sub { interest = Some asked })
+
+-- one that was just given its number, and asks for this
+abbrev pub asked_sub : Interest → Sub
+asked_sub asked = record new_sub { interest = Some asked }
 
 abbrev pub take_from : Sub → Sub
 take_from sub = record sub { waiting = drop 1 sub.waiting }
@@ -69,6 +80,11 @@ abbrev pub youngest : Option Sub → Option Message
 youngest None = None
 youngest (Some sub) = youngest_of sub
 
+-- the commands that subscribe the one of a number again, where there is one
+abbrev pub again_at : ℕ → Option Sub → List ClientOp
+again_at s None = []
+again_at s (Some sub) = again s sub
+
 -- ---- all subscriptions
 
 -- the subscription of a number after something happened to it
@@ -79,12 +95,16 @@ rows_with sid a rows = at_number sid (λ sub. kept (altered a sub)) rows
 abbrev pub rows_named : Option ℕ → Alteration → List Sub → List Sub
 rows_named name a rows = change (named name) (λ sub. kept (altered a sub)) rows
 
+-- all of them after something happened to each
+abbrev pub rows_each : Alteration → List Sub → List Sub
+rows_each a rows = map (λ sub. kept (altered a sub)) rows
+
 abbrev pub with_rows : List Sub → Subs → Subs
 with_rows rows subs = record subs { rows = rows }
 
--- one more number is given
-abbrev pub given_one : Subs → Subs
-given_one subs = record subs { given = suc subs.given; rows = subs.rows ++ new_sub ∷ [] }
+-- one more number is given, to a subscription that asks for this
+abbrev pub given_one : Interest → Subs → Subs
+given_one asked subs = record subs { given = suc subs.given; rows = at_number (suc subs.given) (asking asked) (subs.rows ++ new_sub ∷ []) }
 
 -- the next number that was given is subscribed: its subscription opens
 abbrev pub subscribed_one : Subs → Subs

@@ -13,6 +13,8 @@ still alterations.Open = refl
 still alterations.Shut = refl
 still alterations.End = refl
 still alterations.LetGo = refl
+still alterations.Renew = refl
+still alterations.Close = refl
 still (alterations.Limit n) = by_end (nat_le n 0)
   where
     limited : Bool → Sub

@@ -1,17 +1,18 @@
 //! How subscriptions are kept: this file alone knows.
-ghost use Rattle.std.specs.Prelude.{◌≡◌, [], OnOk, OnErr, IfOk};
+ghost use Rattle.std.specs.Prelude.{◌≡◌, [], ◌++◌, OnOk, OnErr, IfOk};
 ghost use Rattle.std.specs.Option.{option_copied};
 ghost use Rattle.nats_subs.specs.declared.subs.subscription.Alteration.TheVariants as alterations;
 ghost use Rattle.nats_tables.specs.Numbers.{at_number, item_of};
-ghost use Rattle.nats_history.specs.History.{next_subscribed, is_open_at, kept};
+ghost use Rattle.nats_history.specs.History.{next_subscribed, is_open_at, kept, all_again};
 ghost use Rattle.nats_history.specs.Parts.{at_in};
 ghost use Rattle.nats_history.specs.Schedule.{take_reply_of, is_there};
-ghost use Rattle.nats_subs.specs.Delivery.{deliver, take_from, delivery_at, youngest, given_one, subscribed_one, with_rows, rows_with, rows_named};
+ghost use Rattle.nats_subs.specs.Delivery.{deliver, take_from, delivery_at, youngest, given_one, subscribed_one, with_rows, rows_with, rows_named, rows_each, again_at};
 
 mod subscription;
 
-use nats_history::{Config, Message, NoMemory, TakeReply};
+use nats_history::{Config, Interest, Message, NoMemory, TakeReply};
 use nats_tables::Table;
+use nats_wire::ClientOp;
 use std::alloc::Global;
 use std::marker::Model;
 pub use subscription::{Alteration, Delivery};
@@ -31,6 +32,38 @@ impl Model for Subscriptions {
     ghost Value = { Subs };
 
     ghost view = { λ t. record { given = length t.table; subscribed = t.subscribed; rows = t.table } };
+}
+
+fn alter_rows(table: &mut Table<Subscription>, alteration: Alteration)
+    ensures { table.new ≡ rows_each alteration table.old }
+{
+    'rows: for index in 0..table.len() {
+        table.alter(index + 1, &alteration);
+    }
+}
+
+fn push_again(
+    alloc: Global,
+    table: &Table<Subscription>,
+    sid: u64,
+    ops: &mut Vec<ClientOp>,
+) -> Result<(), NoMemory>
+    ensures { OnOk result (ops.new.items ≡ ops.old.items ++ again_at sid (item_of sid table.now)) }
+{
+    match table.item(sid) {
+        Some(row) => row.push_again(alloc, sid, ops),
+        None => Ok(()),
+    }
+}
+
+fn again_in(alloc: Global, table: &Table<Subscription>) -> Result<Vec<ClientOp>, NoMemory>
+    ensures { IfOk result (λ ops. ops.items ≡ all_again 1 table.now) }
+{
+    let mut ops = Vec::new(alloc);
+    'rows: for index in 0..table.len() {
+        push_again(alloc, table, index + 1, &mut ops)?;
+    }
+    Ok(ops)
 }
 
 impl Subscriptions {
@@ -61,12 +94,20 @@ impl Subscriptions {
         None
     }
 
-    /// Gives the next number to a subscription that is not open yet.
-    pub fn give(&mut self, alloc: Global) -> Result<(), NoMemory>
-        ensures ok { OnOk result (self.new ≡ given_one self.old) }
+    /// Gives the next number to a subscription that asks for this, and is not open yet.
+    pub fn give(&mut self, alloc: Global, interest: Interest) -> Result<(), NoMemory>
+        ensures ok { OnOk result (self.new ≡ given_one interest self.old) }
         ensures err { OnErr result (self.new ≡ self.old) }
     {
-        self.table.give(Subscription::new(alloc))
+        self.table.give(Subscription::new(alloc, interest))
+    }
+
+    /// The commands that subscribe all again on a new link: each one that is open and not shut, by number, with what is left
+    /// of its limit.
+    pub fn again(&self, alloc: Global) -> Result<Vec<ClientOp>, NoMemory>
+        ensures { IfOk result (λ ops. ops.items ≡ all_again 1 self.now.rows) }
+    {
+        again_in(alloc, &self.table)
     }
 
     /// A subscribe is handled: the subscription of the next number that was given opens.
@@ -93,6 +134,13 @@ impl Subscriptions {
         if let Some(sid) = name {
             self.alter(sid, alteration);
         }
+    }
+
+    /// Something happens to each subscription.
+    pub fn alter_each(&mut self, alteration: Alteration)
+        ensures { self.new ≡ with_rows (rows_each alteration self.old.rows) self.old }
+    {
+        alter_rows(&mut self.table, alteration);
     }
 
     /// Brings a message to a subscription.

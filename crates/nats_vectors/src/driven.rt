@@ -4,7 +4,7 @@ ghost use Rattle.nats_history.specs.declared.turn.Turn.TheVariants as turns;
 ghost use Rattle.nats_session.specs.Handler.{can_play};
 
 use crate::words::{say, say_due, say_event, say_last, say_number, say_reply, say_take};
-use nats_names::{Bytes, NoMemory};
+use nats_names::{Bytes, NoMemory, State};
 use nats_script::{Script, print_transcript, read_script};
 use nats_session::{Call, Config, ConnectionHandler, ServerInfo, Turn, run};
 use std::alloc::Global;
@@ -45,6 +45,42 @@ fn write(handler: &mut ConnectionHandler, out: &mut Vec<u8>, n: u64) -> Result<(
     say(out, "written")
 }
 
+fn tick(alloc: Global, handler: &mut ConnectionHandler, out: &mut Vec<u8>) -> Result<(), NoMemory>
+    requires { IsTrue (can_play handler.old.parts turns.Tick) }
+{
+    handler.tick(alloc)?;
+    say(out, "ticked")
+}
+
+fn lose(alloc: Global, handler: &mut ConnectionHandler, out: &mut Vec<u8>) -> Result<(), NoMemory>
+    requires { IsTrue (can_play handler.old.parts turns.Lost) }
+{
+    handler.lost(alloc)?;
+    say(out, "lost")
+}
+
+fn give_up(
+    alloc: Global,
+    handler: &mut ConnectionHandler,
+    out: &mut Vec<u8>,
+) -> Result<(), NoMemory>
+    requires { IsTrue (can_play handler.old.parts turns.GiveUp) }
+{
+    handler.give_up(alloc)?;
+    say(out, "given up")
+}
+
+fn hang_up(
+    alloc: Global,
+    handler: &mut ConnectionHandler,
+    out: &mut Vec<u8>,
+) -> Result<(), NoMemory>
+    requires { IsTrue (can_play handler.old.parts turns.Hangup) }
+{
+    handler.hang_up(alloc)?;
+    say(out, "hung up")
+}
+
 fn submit(
     alloc: Global,
     handler: &mut ConnectionHandler,
@@ -83,6 +119,10 @@ fn play_own(
         Turn::Up(info) => bring_up(alloc, handler, out, info),
         Turn::Piece(bytes) => feed(alloc, handler, out, bytes.as_slice()),
         Turn::Write(n) => write(handler, out, *n),
+        Turn::Tick => tick(alloc, handler, out),
+        Turn::Lost => lose(alloc, handler, out),
+        Turn::GiveUp => give_up(alloc, handler, out),
+        Turn::Hangup => hang_up(alloc, handler, out),
         Turn::Do(call) => submit(alloc, handler, out, call),
         Turn::Take(s) => take(alloc, handler, out, *s),
     }
@@ -167,9 +207,22 @@ fn play_turn(
 
 // ---- what a session tells of itself at the end
 
+fn say_if(out: &mut Vec<u8>, is_so: bool, word: &str) -> Result<(), NoMemory> {
+    if is_so { say(out, word) } else { Ok(()) }
+}
+
+fn say_state(out: &mut Vec<u8>, handler: &ConnectionHandler) -> Result<(), NoMemory> {
+    say_if(out, handler.state() == State::Pending, " none yet")?;
+    say_if(out, handler.is_up(), " up")?;
+    say_if(out, handler.state() == State::Disconnected, " down")?;
+    say_if(out, handler.is_closed(), " closed")?;
+    say_if(out, !handler.has_room(), " full")
+}
+
 fn say_link(out: &mut Vec<u8>, handler: &ConnectionHandler) -> Result<(), NoMemory> {
     say_number(out, "link", handler.link())?;
-    say(out, if handler.is_up() { " up" } else { " down" })?;
+    say_state(out, handler)?;
+    say_number(out, " most", handler.max_payload())?;
     say_number(out, " pending", handler.pending())
 }
 

@@ -38,6 +38,7 @@ pub fn say_reply(out: &mut Vec<u8>, reply: &CallReply) -> Result<(), NoMemory> {
         CallReply::InvalidSubject => say(out, "invalid-subject"),
         CallReply::InvalidQueueName => say(out, "invalid-queue-name"),
         CallReply::MaxPayloadExceeded { limit, size } => say_sizes(out, *limit, *size),
+        CallReply::Closed => say(out, "closed"),
         CallReply::NoNumber => say(out, "no-number"),
         CallReply::Full => say(out, "full"),
     }

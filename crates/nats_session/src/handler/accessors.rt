@@ -1,16 +1,18 @@
 //! What a session tells of itself.
-ghost use Rattle.std.specs.Prelude.{◌≡◌, length, drop, is_some};
+ghost use Rattle.std.specs.Prelude.{◌≡◌, length, drop, is_some, not};
 ghost use Rattle.std.specs.Option.{option_copied};
 ghost use Rattle.nats_history.specs.Queue.{first};
 ghost use Rattle.nats_tables.specs.Numbers.{item_of};
+ghost use Rattle.nats_history.specs.declared.turn.Turn.TheVariants as turns;
 ghost use Rattle.nats_history.specs.History.{names};
-ghost use Rattle.nats_history.specs.Schedule.{due, refusal, may_name, is_valid_turn};
+ghost use Rattle.nats_history.specs.Schedule.{due, refusal, may_name, is_full, is_valid_turn, own_steps};
 ghost use Rattle.nats_subs.specs.Delivery.{youngest};
-ghost use Rattle.nats_session.specs.Handler.{can_play, HandsOut};
+ghost use Rattle.nats_session.specs.Handler.{can_play, HandsOut, end_in, state_of};
 
-use super::ConnectionHandler;
+use super::{ConnectionHandler, TICK_LIMIT};
 use crate::refusals::{has_group, has_subjects, size_of, subscribes};
-use nats_history::{Call, CallReply, Event, Message, Turn};
+use nats_history::{Call, CallReply, Event, LinkWord, Message, Turn};
+use nats_names::State;
 
 impl ConnectionHandler {
     /// The number of the newest link, from 1; 0 before any. Our own count: the crate numbers no links.
@@ -48,8 +50,9 @@ impl ConnectionHandler {
         ensures { result ≡ is_valid_turn self.now.parts turn.now }
     {
         match turn {
-            Turn::Up(_) => self.link == 0,
-            Turn::Piece(_) | Turn::Write(_) => self.is_up,
+            Turn::Piece(_) | Turn::Write(_) | Turn::Tick | Turn::Lost => self.is_up,
+            Turn::Up(_) | Turn::GiveUp => !self.is_up && !self.is_closed,
+            Turn::Hangup => !self.is_closed,
             Turn::Do(call) => self.may_name(call),
             Turn::Take(sid) => self.subs.has(*sid),
         }
@@ -59,7 +62,7 @@ impl ConnectionHandler {
         ensures { result ≡ may_name self.now.parts (names call.now) }
     {
         match call {
-            Call::Publish(_) | Call::Subscribe { .. } => true,
+            Call::Publish(_) | Call::Subscribe { .. } | Call::Reconnect => true,
             Call::Unsubscribe(sid) | Call::Limit(sid, _) | Call::DropSub(sid) => {
                 self.subs.has(*sid)
             }
@@ -81,6 +84,9 @@ impl ConnectionHandler {
         if size > limit {
             return Some(CallReply::MaxPayloadExceeded { limit, size });
         }
+        if self.is_closed {
+            return Some(CallReply::Closed);
+        }
         if subscribes(call) && self.subs.given() == u64::MAX {
             return Some(CallReply::NoNumber);
         }
@@ -93,6 +99,62 @@ impl ConnectionHandler {
         ensures { result ≡ self.now.parts.link.is_up }
     {
         self.is_up
+    }
+
+    /// How the session stands: `Pending` before its first link, `Connected` while a link is up, else `Disconnected`. The
+    /// crate's `connection_state`.
+    pub fn state(&self) -> State
+        ensures { result ≡ state_of self.now.parts }
+    {
+        if self.is_up {
+            State::Connected
+        } else if self.link == 0 {
+            State::Pending
+        } else {
+            State::Disconnected
+        }
+    }
+
+    /// Whether there is room for a call: fewer accepted ones wait than the client capacity. Own call.
+    pub fn has_room(&self) -> bool
+        ensures { result ≡ not (is_full self.now.parts) }
+    {
+        let is_full = self.calls.len() as u64 >= self.config.client_capacity;
+        !is_full
+    }
+
+    /// The limit of a payload's size with its header block, in bytes: that of the newest link's server, 1,048,576 before any.
+    pub fn max_payload(&self) -> u64
+        ensures { result ≡ self.now.parts.link.max_payload }
+    {
+        self.max_payload
+    }
+
+    /// Whether the session closed.
+    pub fn is_closed(&self) -> bool
+        ensures { result ≡ self.now.parts.is_closed }
+    {
+        self.is_closed
+    }
+
+    /// The word by which a link that is up ends as the user hangs up; `None` where no link is up.
+    pub(crate) fn hangup_word(&self) -> Option<LinkWord>
+        ensures { result ≡ end_in (own_steps self.now.parts turns.Hangup) }
+    {
+        if self.is_up {
+            return Some(LinkWord::Hangup);
+        }
+        None
+    }
+
+    /// The word by which the link ends at a tick, if it does.
+    pub(crate) fn tick_word(&self) -> Option<LinkWord>
+        ensures { result ≡ end_in (own_steps self.now.parts turns.Tick) }
+    {
+        if self.pings >= TICK_LIMIT {
+            return Some(LinkWord::Ticks);
+        }
+        None
     }
 
     /// How many bytes wait to be taken by the link; 0 while no link is up.

@@ -2,32 +2,49 @@
 ghost use Rattle.std.specs.Prelude.{◌≡◌, ◌<◌, [], ◌∷◌, ◌++◌, OnOk, OnErr, IfOk, IfErr, IsTrue, min, length, is_some};
 ghost use Rattle.nats_wire.specs.Commands.{one_piece};
 ghost use Rattle.nats_history.specs.declared.turn.Turn.TheVariants as turns;
-ghost use Rattle.nats_history.specs.History.{opened, fed, taken, took};
+ghost use Rattle.nats_history.specs.declared.transcript.LinkWord.TheVariants as word;
+ghost use Rattle.nats_history.specs.History.{opened, fed, ticked, taken, took, link_end, closed, all_again};
+ghost use Rattle.nats_history.specs.After.{after, write_all};
 ghost use Rattle.nats_history.specs.Schedule.{own_steps, due, due_chain, take_reply};
-ghost use Rattle.nats_session.specs.Handler.{LeadTo, TakesIn, Submits, Advances, can_play, seen_after};
+ghost use Rattle.nats_session.specs.Handler.{LeadTo, TakesIn, Submits, Advances, can_play, seen_after, seen_all};
 
-use super::ConnectionHandler;
-use crate::refusals::{lets_go, shuts, subscribes};
-use nats_subs::Alteration;
+use super::{ConnectionHandler, TICK_LIMIT};
+use crate::refusals::{interest_of, lets_go, shuts};
 use nats_history::{Bytes, Call, CallReply, Due, Event, NoMemory, ServerInfo, TakeReply};
-use nats_wire::Connection;
+use nats_subs::{Alteration, Subscriptions};
+use nats_wire::{ClientOp, Connection};
 use std::alloc::Global;
+
+/// A new link's buffers, where the texts wait that subscribe again.
+fn subscribed_again(alloc: Global, subs: &Subscriptions) -> Result<Connection, NoMemory>
+    ensures { IfOk result
+        (λ connection. connection ≡ record { unread = []; waiting = write_all (all_again 1 subs.now.rows) [] }) }
+{
+    let ops = subs.again(alloc)?;
+    let mut connection = Connection::new(alloc);
+    connection.enqueue_write_ops(alloc, ops.as_slice())?;
+    Ok(connection)
+}
 
 impl ConnectionHandler {
     fn open_link(&mut self, alloc: Global, info: &ServerInfo) -> Result<(), NoMemory>
         ensures ok { OnOk result (self.new ≡ seen_after self.old (opened info.now)) }
         ensures err { OnErr result (self.new ≡ self.old) }
     {
+        let connection = subscribed_again(alloc, &self.subs)?;
         self.events.push(Event::Connected)?;
         self.link = self.link.saturating_add(1);
         self.is_up = true;
         self.max_payload = info.max_payload;
-        self.connection = Connection::new(alloc);
+        self.pings = 0;
+        self.connection = connection;
+        self.subs.alter_each(Alteration::Renew);
         Ok(())
     }
 
-    /// A link came up, and its server said `info`. Its condition is `check` of that turn: no link came up yet, as a second
-    /// link is not built. The crate's connector answers so.
+    /// A link came up, and its server said `info`. Each subscription that is open and not shut is subscribed again, by number,
+    /// with what is left of its limit; one that is shut ends. Its condition is `check` of that turn: no link is up, and the
+    /// session did not close. The crate's connector answers so.
     ///
     /// # Errors
     ///
@@ -80,6 +97,146 @@ impl ConnectionHandler {
         self.let_go(n);
     }
 
+    /// Drops the link with its bytes.
+    pub(crate) fn drop_link(&mut self, alloc: Global)
+        ensures { self.new ≡ record self.old { parts = after self.old.parts (link_end word.Hangup) } }
+    {
+        self.is_up = false;
+        self.pings = 0;
+        self.connection = Connection::new(alloc);
+    }
+
+    /// Drops the calls that wait, and ends each subscription.
+    fn shut_down(&mut self)
+        ensures { self.new ≡ record self.old { parts = after self.old.parts closed } }
+    {
+        self.is_closed = true;
+        self.calls.clear();
+        self.subs.alter_each(Alteration::Close);
+    }
+
+    /// Ends the link, and the session goes on without one.
+    pub(crate) fn disconnect(&mut self, alloc: Global) -> Result<(), NoMemory>
+        ensures ok { OnOk result (self.new ≡ seen_after self.old (link_end word.Lost)) }
+        ensures err { OnErr result (self.new ≡ self.old) }
+    {
+        self.events.push(Event::Disconnected)?;
+        self.drop_link(alloc);
+        Ok(())
+    }
+
+    fn close(&mut self) -> Result<(), NoMemory>
+        ensures ok { OnOk result (self.new ≡ seen_after self.old closed) }
+        ensures err { OnErr result (self.new ≡ self.old) }
+    {
+        self.events.push(Event::Closed)?;
+        self.shut_down();
+        Ok(())
+    }
+
+    fn close_with_link(&mut self, alloc: Global) -> Result<(), NoMemory>
+        ensures ok { OnOk result (self.new ≡ seen_after (seen_after self.old (link_end word.Hangup)) closed) }
+        ensures err { OnErr result (self.new ≡ self.old) }
+    {
+        self.events.push(Event::Closed)?;
+        self.drop_link(alloc);
+        self.shut_down();
+        Ok(())
+    }
+
+    fn end_all(&mut self, alloc: Global) -> Result<(), NoMemory>
+        ensures ok { OnOk result (self.new ≡ seen_all self.old (own_steps self.old.parts turns.Hangup)) }
+        ensures err { OnErr result (self.new ≡ self.old) }
+    {
+        if self.is_up {
+            self.close_with_link(alloc)
+        } else {
+            self.close()
+        }
+    }
+
+    fn write_ping(&mut self, alloc: Global) -> Result<(), NoMemory>
+        requires { IsTrue self.old.parts.link.is_up }
+        ensures ok { OnOk result (self.new ≡ seen_after self.old ticked) }
+        ensures err { OnErr result (self.new ≡ self.old) }
+    {
+        self.connection.enqueue_write_op(alloc, &ClientOp::Ping)?;
+        self.pings = self.pings.saturating_add(1);
+        Ok(())
+    }
+
+    fn ping_or_end(&mut self, alloc: Global) -> Result<(), NoMemory>
+        requires { IsTrue self.old.parts.link.is_up }
+        ensures ok { OnOk result (self.new ≡ seen_all self.old (own_steps self.old.parts turns.Tick)) }
+        ensures err { OnErr result (self.new ≡ self.old) }
+    {
+        if self.pings >= TICK_LIMIT {
+            self.disconnect(alloc)
+        } else {
+            self.write_ping(alloc)
+        }
+    }
+
+    /// So long passed that the link is to show that it still works: a `PING` is written, or the link ends where two ticks of
+    /// this link have no answer yet. Its condition is `check` of that turn. The crate's timer of pings does so.
+    ///
+    /// # Errors
+    ///
+    /// `NoMemory` leaves the session unchanged, and the same call may be made again.
+    pub fn tick(&mut self, alloc: Global) -> Result<(), NoMemory>
+        requires { IsTrue (can_play self.old.parts turns.Tick) }
+        ensures ok { OnOk result (self.new ≡ seen_all self.old (own_steps self.old.parts turns.Tick)) }
+        ensures stands { OnOk result (LeadTo self.old (own_steps self.old.parts turns.Tick) self.new) }
+        ensures err { OnErr result (self.new ≡ self.old) }
+    {
+        self.ping_or_end(alloc)
+    }
+
+    /// The link was lost: it ends, the bytes that waited for it go, and accepted calls wait for the next one. Its condition is
+    /// `check` of that turn. The crate's handler does so after a fault of its stream.
+    ///
+    /// # Errors
+    ///
+    /// `NoMemory` leaves the session unchanged, and the same call may be made again.
+    pub fn lost(&mut self, alloc: Global) -> Result<(), NoMemory>
+        requires { IsTrue (can_play self.old.parts turns.Lost) }
+        ensures ok { OnOk result (self.new ≡ seen_all self.old (own_steps self.old.parts turns.Lost)) }
+        ensures stands { OnOk result (LeadTo self.old (own_steps self.old.parts turns.Lost) self.new) }
+        ensures err { OnErr result (self.new ≡ self.old) }
+    {
+        self.disconnect(alloc)
+    }
+
+    /// No further link is tried: the session closes, so its calls are dropped and each subscription ends. Its condition is
+    /// `check` of that turn. The crate's handler does so when it may reconnect no more.
+    ///
+    /// # Errors
+    ///
+    /// `NoMemory` leaves the session unchanged, and the same call may be made again.
+    pub fn give_up(&mut self, _alloc: Global) -> Result<(), NoMemory>
+        requires { IsTrue (can_play self.old.parts turns.GiveUp) }
+        ensures ok { OnOk result (self.new ≡ seen_all self.old (own_steps self.old.parts turns.GiveUp)) }
+        ensures stands { OnOk result (LeadTo self.old (own_steps self.old.parts turns.GiveUp) self.new) }
+        ensures err { OnErr result (self.new ≡ self.old) }
+    {
+        self.close()
+    }
+
+    /// The user hangs up: a link that is up ends without an event of its own, and the session closes. Its condition is `check`
+    /// of that turn. Own choice: the crate closes its connection when the last of its clients is dropped.
+    ///
+    /// # Errors
+    ///
+    /// `NoMemory` leaves the session unchanged, and the same call may be made again.
+    pub fn hang_up(&mut self, alloc: Global) -> Result<(), NoMemory>
+        requires { IsTrue (can_play self.old.parts turns.Hangup) }
+        ensures ok { OnOk result (self.new ≡ seen_all self.old (own_steps self.old.parts turns.Hangup)) }
+        ensures stands { OnOk result (LeadTo self.old (own_steps self.old.parts turns.Hangup) self.new) }
+        ensures err { OnErr result (self.new ≡ self.old) }
+    {
+        self.end_all(alloc)
+    }
+
     /// Takes in a call or refuses it, and lets no subscription go.
     fn take_in(&mut self, alloc: Global, call: Call) -> Result<CallReply, Call>
         ensures { TakesIn self.old call result self.new }
@@ -87,16 +244,18 @@ impl ConnectionHandler {
         if let Some(refused) = self.refusal(&call) {
             return Ok(refused);
         }
-        let subscribes = subscribes(&call);
+        let Ok(interest) = interest_of(alloc, &call) else {
+            return Err(call);
+        };
         let shut = shuts(&call);
         if let Err(refused) = self.calls.push(call) {
             return Err(refused.value);
         }
-        if !subscribes {
+        let Some(interest) = interest else {
             self.subs.alter_named(shut, Alteration::Shut);
             return Ok(CallReply::Accepted);
-        }
-        match self.subs.give(alloc) {
+        };
+        match self.subs.give(alloc, interest) {
             Ok(()) => Ok(CallReply::Numbered(self.subs.given())),
             Err(NoMemory) => match self.calls.pop_back() {
                 Some(call) => Err(call),

@@ -5,19 +5,21 @@ ghost use Rattle.nats_wire.specs.Operations.{front, unfinished, got, op_view};
 ghost use Rattle.nats_wire.specs.Commands.{command_text};
 ghost use Rattle.nats_history.specs.declared.transcript.LinkWord.TheVariants.{Fault};
 ghost use Rattle.nats_history.specs.declared.turn.Due.TheVariants as due_names;
+ghost use Rattle.nats_history.specs.Queue.{first};
 ghost use Rattle.nats_tables.specs.Numbers.{item_of};
 ghost use Rattle.nats_history.specs.History.{link_end, read, handled, unsubscribe_command, is_open_at, commands, info_events};
 ghost use Rattle.nats_history.specs.Parts.{at_in};
 ghost use Rattle.nats_history.specs.Schedule.{due, due_chain};
 ghost use Rattle.nats_history.specs.After.{written, subs_after};
 ghost use Rattle.nats_subs.specs.Delivery.{with_rows, rows_with};
-ghost use Rattle.nats_session.specs.Handler.{Advances, Sees, is_nothing, look_message, handled_first, seen_after, own_name, delivery_of, delivery_name, after_message, end_in, push_all};
+ghost use Rattle.nats_session.specs.Handler.{Advances, Sees, command_end, seen_handled, is_nothing, look_message, handled_first, seen_after, own_name, delivery_of, delivery_name, after_message, end_in, push_all};
 
 use super::ConnectionHandler;
-use nats_subs::{Alteration, Delivery, Subscriptions};
+use crate::refusals::ends_link;
 use nats_history::{
     Call, Config, Due, Event, LinkWord, Message, NoMemory, OutboundMessage, Subject,
 };
+use nats_subs::{Alteration, Delivery, Subscriptions};
 use nats_wire::{ClientOp, Connection, Peeked, ServerOp, WireError, copy_headers, copy_subject};
 use std::alloc::Global;
 
@@ -173,6 +175,7 @@ fn handle_call(
         Call::Unsubscribe(sid) | Call::DropSub(sid) => {
             unsubscribe(connection, subs, alloc, *sid, None, Alteration::End)
         }
+        Call::Reconnect => Ok(()),
         Call::Limit(sid, limit) => {
             let alteration = Alteration::Limit(*limit);
             unsubscribe(connection, subs, alloc, *sid, Some(*limit), alteration)
@@ -215,7 +218,18 @@ impl ConnectionHandler {
     {
         match look {
             Look::Fault => Some(LinkWord::Fault),
-            Look::Nothing | Look::Read(_) | Look::Command => None,
+            Look::Command => self.command_end(),
+            Look::Nothing | Look::Read(_) => None,
+        }
+    }
+
+    /// The word by which the link ends as the oldest waiting call is handled, if it does.
+    fn command_end(&self) -> Option<LinkWord>
+        ensures { result ≡ command_end (first self.now.parts.calls) }
+    {
+        match self.calls.front() {
+            Some(call) => ends_link(call),
+            None => None,
         }
     }
 
@@ -240,9 +254,7 @@ impl ConnectionHandler {
         ensures name { IfOk result (λ name. name ≡ due_names.Ended) }
         ensures err { OnErr result (self.new ≡ self.old) }
     {
-        self.events.push(Event::Disconnected)?;
-        self.is_up = false;
-        self.connection = Connection::new(alloc);
+        self.disconnect(alloc)?;
         Ok(Due::Ended)
     }
 
@@ -276,7 +288,12 @@ impl ConnectionHandler {
                 self.connection.consume(len);
                 Ok(Due::Read)
             }
-            ServerOp::Ok | ServerOp::Pong => {
+            ServerOp::Pong => {
+                self.pings = self.pings.saturating_sub(1);
+                self.connection.consume(len);
+                Ok(Due::Read)
+            }
+            ServerOp::Ok => {
                 self.connection.consume(len);
                 Ok(Due::Read)
             }
@@ -316,12 +333,39 @@ impl ConnectionHandler {
     }
 
     fn handle_command(&mut self, alloc: Global) -> Result<Due, NoMemory>
-        requires { IsTrue self.old.parts.link.is_up }
+        requires up { IsTrue self.old.parts.link.is_up }
+        requires some { IsTrue (is_some (first self.old.parts.calls)) }
         ensures ok { IfOk result (λ name. Advances (handled_first self.old.parts) self.old name self.new) }
         ensures err { OnErr result (self.new ≡ self.old) }
     {
+        match self.command_end() {
+            Some(_) => self.handle_last(alloc),
+            None => {
+                self.handle_next(alloc)?;
+                Ok(Due::Handled)
+            }
+        }
+    }
+
+    /// Handles a call by which the link ends.
+    fn handle_last(&mut self, alloc: Global) -> Result<Due, NoMemory>
+        requires { IsTrue (is_some (command_end (first self.old.parts.calls))) }
+        ensures ok { IfOk result (λ name. Advances (handled_first self.old.parts) self.old name self.new) }
+        ensures err { OnErr result (self.new ≡ self.old) }
+    {
+        self.events.push(Event::Disconnected)?;
+        self.calls.discard();
+        self.drop_link(alloc);
+        Ok(Due::Ended)
+    }
+
+    fn handle_next(&mut self, alloc: Global) -> Result<(), NoMemory>
+        requires { IsTrue self.old.parts.link.is_up }
+        ensures ok { OnOk result (self.new ≡ seen_handled (first self.old.parts.calls) self.old) }
+        ensures err { OnErr result (self.new ≡ self.old) }
+    {
         let Some(call) = self.calls.front() else {
-            return Ok(Due::Nothing);
+            return Ok(());
         };
         handle_call(
             &mut self.connection,
@@ -331,6 +375,6 @@ impl ConnectionHandler {
             call,
         )?;
         self.calls.discard();
-        Ok(Due::Handled)
+        Ok(())
     }
 }

@@ -1,22 +1,24 @@
 //! One subscription.
-ghost use Rattle.std.specs.Prelude.{◌≡◌, true, OnErr, IfOk, OnOk};
+ghost use Rattle.std.specs.Prelude.{◌≡◌, ◌∷◌, [], ◌++◌, true, OnErr, IfOk, OnOk};
 ghost use Rattle.std.proofs.Common.{refl};
 ghost use Rattle.std.specs.Option.{option_copied};
-ghost use Rattle.nats_history.specs.History.{is_open, is_over, forgotten, open_if, end_if, reached};
-ghost use Rattle.nats_history.specs.After.{new_sub};
+ghost use Rattle.nats_history.specs.History.{is_open, is_over, forgotten, open_if, end_if, reached, again, limit_commands};
+ghost use Rattle.nats_wire.specs.declared.op.ClientOp.TheVariants as client;
 ghost use Rattle.nats_history.specs.Schedule.{sub_take};
-ghost use Rattle.nats_subs.specs.Delivery.{altered, deliver, take_from, delivery, youngest_of};
+ghost use Rattle.nats_subs.specs.Delivery.{asked_sub, altered, deliver, take_from, delivery, youngest_of};
 ghost use Rattle.nats_subs.specs.Forgetting.{still};
 
 use crate::queue::Queue;
-use nats_history::{Config, Message, NoMemory, Stage, TakeReply};
+use nats_history::{Config, Interest, Message, NoMemory, Stage, TakeReply};
 use nats_tables::{Change, Row, TryChange};
+use nats_wire::ClientOp;
 use std::alloc::Global;
 use std::marker::Model;
 
 /// A subscription: how far it came, what was asked of it, and the messages that wait to be taken.
 #[derive(Drop)]
 pub struct Subscription {
+    interest: Option<Interest>,
     stage: Stage,
     is_shut: bool,
     is_gone: bool,
@@ -31,6 +33,7 @@ impl Model for Subscription {
     ghost Value = { Sub };
 
     ghost view = { λ s. record {
+      interest = s.interest;
       stage = s.stage;
       is_shut = s.is_shut;
       is_gone = s.is_gone;
@@ -79,6 +82,10 @@ pub enum Alteration {
     Limit(u64),
     /// Its user lets it go.
     LetGo,
+    /// A new link came up.
+    Renew,
+    /// The session closes.
+    Close,
 }
 
 impl Change<Subscription> for Alteration {
@@ -170,12 +177,50 @@ fn is_reached(limit: Option<u64>, count: u64) -> bool
     }
 }
 
+fn push_subscribe(
+    alloc: Global,
+    ops: &mut Vec<ClientOp>,
+    sid: u64,
+    interest: &Interest,
+) -> Result<(), NoMemory>
+    ensures { OnOk result (ops.new.items
+        ≡ ops.old.items ++ client.Subscribe sid interest.now.subject interest.now.queue_group ∷ []) }
+{
+    let Interest {
+        subject,
+        queue_group,
+    } = interest.copy(alloc)?;
+    ops.push(ClientOp::Subscribe {
+        sid,
+        subject,
+        queue_group,
+    })?;
+    Ok(())
+}
+
+/// Adds what is left of a limit after so many puts, if there is one.
+fn push_limit(
+    ops: &mut Vec<ClientOp>,
+    sid: u64,
+    puts: u64,
+    limit: Option<u64>,
+) -> Result<(), NoMemory>
+    ensures { OnOk result (ops.new.items ≡ ops.old.items ++ limit_commands sid puts limit) }
+{
+    if let Some(limit) = limit {
+        let max = Some(limit.saturating_sub(puts));
+        ops.push(ClientOp::Unsubscribe { sid, max })?;
+    }
+    Ok(())
+}
+
 impl Subscription {
     /// Not open yet, and nothing waits. It takes no memory.
-    pub fn new(alloc: Global) -> Subscription
-        ensures { result ≡ new_sub }
+    pub fn new(alloc: Global, interest: Interest) -> Subscription
+        ensures { result ≡ asked_sub interest }
     {
         Subscription {
+            interest: Some(interest),
             stage: Stage::Asked,
             is_shut: false,
             is_gone: false,
@@ -201,6 +246,8 @@ impl Subscription {
                 self.is_gone = true;
                 self.waiting.clear();
             }
+            Alteration::Renew => self.stage = ended_if(self.is_shut, self.stage),
+            Alteration::Close => self.stage = ended_if(true, opened(self.stage)),
         }
     }
 
@@ -235,6 +282,25 @@ impl Subscription {
             None if self.is_shut || matches!(self.stage, Stage::Ended) => TakeReply::Ended,
             None => TakeReply::Empty,
         }
+    }
+
+    /// Adds the commands that subscribe it again on a new link: where it is open and not shut, with what is left of its limit.
+    pub fn push_again(
+        &self,
+        alloc: Global,
+        sid: u64,
+        ops: &mut Vec<ClientOp>,
+    ) -> Result<(), NoMemory>
+        ensures { OnOk result (ops.new.items ≡ ops.old.items ++ again sid self.now) }
+    {
+        if !self.is_open() || self.is_shut {
+            return Ok(());
+        }
+        let Some(interest) = &self.interest else {
+            return Ok(());
+        };
+        push_subscribe(alloc, ops, sid, interest)?;
+        push_limit(ops, sid, self.puts, self.limit)
     }
 
     pub fn is_open(&self) -> bool

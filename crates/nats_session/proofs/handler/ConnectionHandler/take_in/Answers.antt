@@ -5,14 +5,14 @@ use Rattle.nats_subs.specs.Delivery.{rows_named, with_rows}
 use Rattle.nats_session.proofs.Handlers.{numbered_by, shut_by}
 use Rattle.nats_session.proofs.handler.ConnectionHandler.take_in.Goals as goal
 
-pub returns-in-Ok : goal.returns-in-Ok
-returns-in-Ok c =
-    numbered_by _ c.args.self.now c.args.call c.push.new.self c.give.new.self c.given.result c.self.view_is (sym c.in_default.ensures)
-    (sym c.if-not-subscribes.ensures) c.in_default-push.ensures.ok c.in-Ok.ensures.ok c.given.ensures
+pub returns-in-Ok-give : goal.returns-in-Ok-give
+returns-in-Ok-give c =
+    numbered_by _ c.args.self.now c.args.call c.in-Some-interest.interest c.push.new.self c.give.new.self c.given.result c.self.view_is (sym c.in_default.ensures)
+    (sym c.in-Ok.ensures ∙ c.in-Some-interest.is) c.in_default-push.ensures.ok c.in-Ok-give.ensures.ok c.given.ensures
 
-pub returns-then-not-subscribes : goal.returns-then-not-subscribes
-returns-then-not-subscribes c =
+pub returns-in_default-interest : goal.returns-in_default-interest
+returns-in_default-interest c =
     let subs = c.self.inside.subs in
     shut_by _ c.args.self.now c.args.call c.push.new.self c.alter_named.new.self c.self.view_is (sym c.in_default.ensures)
-    (sym c.if-not-subscribes.ensures) c.in_default-push.ensures.ok
+    (sym c.in-Ok.ensures ∙ c.in_default-interest.is) c.in_default-push.ensures.ok
     (c.alter_named.ensures ∙ ap (λ name. with_rows (rows_named name alterations.Shut subs.rows) subs) c.shuts-shut.ensures)
