@@ -59,6 +59,7 @@ fn number_of(reply: &CallReply) -> Option<u64> {
         | CallReply::InvalidSubject
         | CallReply::InvalidQueueName
         | CallReply::MaxPayloadExceeded { .. }
+        | CallReply::Closed
         | CallReply::NoNumber
         | CallReply::Full => None,
     }
