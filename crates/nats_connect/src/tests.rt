@@ -24,54 +24,78 @@ fn plain(alloc: Global) -> Result<ConnectInfo, NoMemory> {
     })
 }
 
-fn says(alloc: Global, info: &ConnectInfo, text: &str) -> Result<bool, NoMemory> {
-    Ok(connect_text(alloc, info)?.as_slice() == text.as_bytes())
+fn says(alloc: Global, info: ConnectInfo, text: &str) -> Result<bool, NoMemory> {
+    Ok(connect_text(alloc, &info)?.as_slice() == text.as_bytes())
+}
+
+const PLAIN: &str = "CONNECT {\"verbose\":false,\"pedantic\":false,\"jwt\":null,\"nkey\":null,\
+        \"sig\":null,\"name\":null,\"echo\":false,\"lang\":\"Rust\",\"version\":\"1.0.0\",\"protocol\":1,\
+        \"tls_required\":false,\"user\":null,\"pass\":null,\"auth_token\":null,\"headers\":false,\
+        \"no_responders\":false}\r\n";
+
+const ESCAPED: &str = "CONNECT {\"verbose\":false,\"pedantic\":false,\"jwt\":null,\"nkey\":null,\
+        \"sig\":null,\"name\":\"a\\\"b\\\\\\n\\u0001ü\",\"echo\":true,\"lang\":\"Rust\",\"version\":\"1.0.0\",\
+        \"protocol\":0,\"tls_required\":false,\"user\":null,\"pass\":null,\"auth_token\":null,\"headers\":false,\
+        \"no_responders\":false}\r\n";
+
+fn renamed(mut info: ConnectInfo, name: Option<Text>) -> ConnectInfo {
+    info.name = name;
+    info.protocol = Protocol::Original;
+    info.echo = true;
+    info
+}
+
+fn escaped(alloc: Global) -> Result<ConnectInfo, NoMemory> {
+    let name = some(alloc, "a\"b\\\n\u{1}ü")?;
+    Ok(renamed(plain(alloc)?, name))
 }
 
 #[test]
 fn absent_texts_are_null_and_others_are_escaped(rt: HostRuntime) -> Result<(), Fail> {
     let alloc = rt.alloc();
-    let mut info = plain(alloc)?;
-    assert!(rt;
-        says(
-            alloc,
-            &info,
-            "CONNECT {\"verbose\":false,\"pedantic\":false,\"jwt\":null,\"nkey\":null,\
-        \"sig\":null,\"name\":null,\"echo\":false,\"lang\":\"Rust\",\"version\":\"1.0.0\",\"protocol\":1,\
-        \"tls_required\":false,\"user\":null,\"pass\":null,\"auth_token\":null,\"headers\":false,\
-        \"no_responders\":false}\r\n"
-        )?
-    );
-    info.name = Some(Text::from_text(alloc, "a\"b\\\n\u{1}ü")?);
-    info.protocol = Protocol::Original;
-    info.echo = true;
-    assert!(rt;
-        says(
-            alloc,
-            &info,
-            "CONNECT {\"verbose\":false,\"pedantic\":false,\"jwt\":null,\"nkey\":null,\
-        \"sig\":null,\"name\":\"a\\\"b\\\\\\n\\u0001ü\",\"echo\":true,\"lang\":\"Rust\",\"version\":\"1.0.0\",\
-        \"protocol\":0,\"tls_required\":false,\"user\":null,\"pass\":null,\"auth_token\":null,\"headers\":false,\
-        \"no_responders\":false}\r\n"
-        )?
-    );
+    assert!(rt; says(alloc, plain(alloc)?, PLAIN)?);
+    assert!(rt; says(alloc, escaped(alloc)?, ESCAPED)?);
     Ok(())
 }
 
+fn some(alloc: Global, text: &str) -> Result<Option<Text>, NoMemory> {
+    Ok(Some(Text::from_text(alloc, text)?))
+}
+
+fn keep(
+    mut info: ConnectInfo,
+    user_jwt: Option<Text>,
+    signature: Option<Text>,
+    pass: Option<Text>,
+    auth_token: Option<Text>,
+) -> ConnectInfo {
+    info.user_jwt = user_jwt;
+    info.signature = signature;
+    info.pass = pass;
+    info.auth_token = auth_token;
+    info
+}
+
 fn with_secrets(alloc: Global, secret: &str) -> Result<ConnectInfo, NoMemory> {
-    let mut info = plain(alloc)?;
-    info.user_jwt = Some(Text::from_text(alloc, secret)?);
-    info.signature = Some(Text::from_text(alloc, secret)?);
-    info.pass = Some(Text::from_text(alloc, secret)?);
-    info.auth_token = Some(Text::from_text(alloc, secret)?);
-    Ok(info)
+    let user_jwt = some(alloc, secret)?;
+    let signature = some(alloc, secret)?;
+    let pass = some(alloc, secret)?;
+    let auth_token = some(alloc, secret)?;
+    Ok(keep(plain(alloc)?, user_jwt, signature, pass, auth_token))
+}
+
+fn printed(alloc: Global, info: &ConnectInfo) -> Result<String, NoMemory> {
+    Ok(format!(in alloc; "{info:?}")?)
+}
+
+fn printed_with(alloc: Global, secret: &str) -> Result<String, NoMemory> {
+    let info = with_secrets(alloc, secret)?;
+    printed(alloc, &info)
 }
 
 fn prints_alike(alloc: Global, secret: &str, other: &str) -> Result<bool, NoMemory> {
-    let one = with_secrets(alloc, secret)?;
-    let two = with_secrets(alloc, other)?;
-    let first = format!(in alloc; "{one:?}")?;
-    let second = format!(in alloc; "{two:?}")?;
+    let first = printed_with(alloc, secret)?;
+    let second = printed_with(alloc, other)?;
     Ok(first.as_str() == second.as_str())
 }
 
