@@ -1,6 +1,7 @@
 //! What no clause says: texts of the protocol with what they mean, and each call once with ample memory.
 use crate::{
-    Bytes, ClientOp, Connection, HeaderMap, Message, OutboundMessage, ServerOp, Subject, WireError,
+    Bytes, ClientOp, ConnectInfo, Connection, HeaderMap, Message, OutboundMessage, Protocol, ServerOp,
+    Subject, Text, WireError,
 };
 use nats_names::NoMemory;
 use std::alloc::Global;
@@ -196,5 +197,43 @@ fn a_message_can_be_copied(rt: HostRuntime) -> Result<(), Fail> {
         headers: Some(one_header(rt.alloc())?),
     };
     assert_eq!(rt; message.copy(rt.alloc())?, message);
+    Ok(())
+}
+
+// What a client tells of itself that has nothing to tell.
+fn plain_info(alloc: Global) -> Result<ConnectInfo, NoMemory> {
+    Ok(ConnectInfo {
+        verbose: false,
+        pedantic: false,
+        user_jwt: None,
+        nkey: None,
+        signature: None,
+        name: None,
+        echo: false,
+        lang: Text::from_text(alloc, "Rust")?,
+        version: Text::from_text(alloc, "1.0.0")?,
+        protocol: Protocol::Dynamic,
+        tls_required: false,
+        user: None,
+        pass: None,
+        auth_token: None,
+        headers: false,
+        no_responders: false,
+    })
+}
+
+#[test]
+fn connect_is_one_line(rt: HostRuntime) -> Result<(), Fail> {
+    let mut connection = Connection::new(rt.alloc());
+    let op = ClientOp::Connect(plain_info(rt.alloc())?);
+    connection.enqueue_write_op(rt.alloc(), &op)?;
+    assert_eq!(rt;
+        connection.waiting(),
+        b"CONNECT {\"verbose\":false,\"pedantic\":false,\"jwt\":null,\"nkey\":null,\"sig\":null,\
+        \"name\":null,\"echo\":false,\"lang\":\"Rust\",\"version\":\"1.0.0\",\"protocol\":1,\
+        \"tls_required\":false,\"user\":null,\"pass\":null,\"auth_token\":null,\"headers\":false,\
+        \"no_responders\":false}\r\n"
+            .as_slice()
+    );
     Ok(())
 }
