@@ -1,5 +1,5 @@
 -- What is told of an answer is told of what follows from it.
-use Rattle.std.proofs.Common.{◌≡◌, refl, ℕ, List, Option, Result, Ok, Err}
+use Rattle.std.proofs.Common.{ℕ, List, Option, Result, Ok, Err}
 use Rattle.nats_names.specs.declared.cause.Cause.{Cause}
 use Rattle.nats_pool.specs.declared.auth.Auth.{Auth}
 use Rattle.nats_pool.specs.Auths.{AuthValue, auth_value}

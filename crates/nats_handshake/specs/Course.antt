@@ -1,12 +1,11 @@
 -- What a server says in a handshake.
-use Rattle.std.specs.Prelude.{◌≡◌, ℕ, zero, suc, Bool, List, [], ◌++◌, drop, Option, Some, None}
+use Rattle.std.specs.Prelude.{◌≡◌, ℕ, zero, suc, List, [], ◌++◌, drop, Some}
 use Rattle.nats_names.specs.declared.cause.Cause.{Cause}
 use Rattle.nats_names.specs.declared.cause.Cause.TheVariants as cause
 use Rattle.nats_names.specs.declared.cause.OpWord.{OpWord}
 use Rattle.nats_names.specs.declared.cause.OpWord.TheVariants as word
 use Rattle.nats_names.specs.declared.server_error.ServerError.{ServerError}
 use Rattle.nats_names.specs.declared.server_error.ServerError.TheVariants as server_error
-use Rattle.nats_info.specs.declared.info.ServerInfo.{ServerInfo}
 use Rattle.nats_wire.specs.declared.op.ClientOp.TheVariants as client
 use Rattle.nats_wire.specs.Commands.{command_text}
 use Rattle.nats_wire.specs.Operations.{Operation, message, info_op, error_op, ok_op, ping_op, pong_op, Front, unfinished, got, fault, front}
