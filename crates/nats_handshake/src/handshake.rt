@@ -1,7 +1,8 @@
 //! The handshake of a link, as a machine that is fed what the server sends and says what is to be written.
 ghost use Rattle.std.specs.Prelude.{◌≡◌, ◌≤◌, Some, length, take, drop, option_map, IfOk};
 ghost use Rattle.nats_pool.specs.Auths.{auth_value};
-ghost use Rattle.nats_pool.specs.Discovery.{Discovers};
+ghost use Rattle.nats_handshake.specs.Pooled.{PoolTakes};
+ghost use Rattle.nats_names.specs.declared.cause.Cause.TheVariants as cause;
 ghost use Rattle.nats_handshake.specs.declared.error.ConnectErrorKind.TheVariants as kind;
 ghost use Rattle.nats_handshake.specs.Course.{greeting_at};
 ghost use Rattle.nats_handshake.specs.Credentials.{SignerAnswers, AuthAnswers, Offers};
@@ -63,14 +64,20 @@ fn drop_front(text: &mut Vec<u8>, len: usize)
     text.truncate(left);
 }
 
-#[tactic(none)]
+fn unspelled(error: AddrError) -> Refusal
+    ensures { result ≡ (kind.ServerParse, Some (cause.Addr error)) }
+{
+    Refusal::by(ConnectErrorKind::ServerParse, Cause::Addr(error))
+}
+
 fn discover(alloc: Global, info: &ServerInfo, pool: &mut Pool) -> Result<(), Refusal>
-    ensures { Discovered (λ urls r. Discovers urls pool.old pool.new r) (pool.new ≡ pool.old) info.now.connect_urls result }
+    ensures { Discovered (PoolTakes pool.old pool.new) (pool.new ≡ pool.old) info.now.connect_urls result }
 {
     match pool.discover(alloc, info.connect_urls.as_slice()) {
         Ok(()) => Ok(()),
         Err(AddrError::NoMemory) => Err(Refusal::new(ConnectErrorKind::NoMemory)),
-        Err(error) => Err(Refusal::by(ConnectErrorKind::ServerParse, Cause::Addr(error))),
+        Err(AddrError::Url) => Err(unspelled(AddrError::Url)),
+        Err(AddrError::Scheme) => Err(unspelled(AddrError::Scheme)),
     }
 }
 
@@ -94,9 +101,8 @@ fn welcome(
     options: &ConnectOptions,
     pool: &mut Pool,
 ) -> Result<Vec<u8>, Refusal>
-    ensures { Welcomes (λ urls r. Discovers urls pool.old pool.new r) (pool.new ≡ pool.old)
-        (λ nonce r. Offers SignerAnswers AuthAnswers
-        options.now.signer options.now.auth_callback (auth_value options.now.auth) nonce r)
+    ensures { Welcomes (PoolTakes pool.old pool.new) (pool.new ≡ pool.old)
+        (Offers SignerAnswers AuthAnswers options.now.signer options.now.auth_callback (auth_value options.now.auth))
         options.now.tls_required options.now.name options.now.no_echo is_tls info.now result }
 {
     if options.tls_required || is_tls || info.tls_required {
@@ -208,9 +214,8 @@ impl Handshake {
         options: &ConnectOptions,
         pool: &mut Pool,
     ) -> Result<Shake, Refusal>
-        ensures { Hears (λ urls r. Discovers urls pool.old pool.new r) (pool.new ≡ pool.old)
-            (λ nonce r. Offers SignerAnswers AuthAnswers
-            options.now.signer options.now.auth_callback (auth_value options.now.auth) nonce r)
+        ensures { Hears (PoolTakes pool.old pool.new) (pool.new ≡ pool.old)
+            (Offers SignerAnswers AuthAnswers options.now.signer options.now.auth_callback (auth_value options.now.auth))
             options.now.tls_required options.now.name options.now.no_echo
             (greeting_at (front self.old.unread)) self.old result self.new }
     {
@@ -242,9 +247,8 @@ impl Handshake {
         options: &ConnectOptions,
         pool: &mut Pool,
     ) -> Result<Shake, Refusal>
-        ensures { Heeds (λ urls r. Discovers urls pool.old pool.new r) (pool.new ≡ pool.old)
-            (λ nonce r. Offers SignerAnswers AuthAnswers
-            options.now.signer options.now.auth_callback (auth_value options.now.auth) nonce r)
+        ensures { Heeds (PoolTakes pool.old pool.new) (pool.new ≡ pool.old)
+            (Offers SignerAnswers AuthAnswers options.now.signer options.now.auth_callback (auth_value options.now.auth))
             options.now.tls_required options.now.name options.now.no_echo
             self.old.stage self.old result self.new }
     {
@@ -292,9 +296,8 @@ impl Handshake {
         options: &ConnectOptions,
         pool: &mut Pool,
     ) -> Result<Shake, ConnectError>
-        ensures { Feeds (λ urls r. Discovers urls pool.old pool.new r) (pool.new ≡ pool.old)
-            (λ nonce r. Offers SignerAnswers AuthAnswers
-            options.now.signer options.now.auth_callback (auth_value options.now.auth) nonce r)
+        ensures { Feeds (PoolTakes pool.old pool.new) (pool.new ≡ pool.old)
+            (Offers SignerAnswers AuthAnswers options.now.signer options.now.auth_callback (auth_value options.now.auth))
             options.now.tls_required options.now.name options.now.no_echo
             self.old bytes.now result self.new }
     {
@@ -315,9 +318,8 @@ impl Handshake {
         options: &ConnectOptions,
         pool: &mut Pool,
     ) -> Result<Shake, ConnectError>
-        ensures { FedOpen (λ urls r. Discovers urls pool.old pool.new r) (pool.new ≡ pool.old)
-            (λ nonce r. Offers SignerAnswers AuthAnswers
-            options.now.signer options.now.auth_callback (auth_value options.now.auth) nonce r)
+        ensures { FedOpen (PoolTakes pool.old pool.new) (pool.new ≡ pool.old)
+            (Offers SignerAnswers AuthAnswers options.now.signer options.now.auth_callback (auth_value options.now.auth))
             options.now.tls_required options.now.name options.now.no_echo
             self.old.stage self.old bytes.now result self.new }
     {
@@ -337,9 +339,8 @@ impl Handshake {
         options: &ConnectOptions,
         pool: &mut Pool,
     ) -> Result<Shake, ConnectError>
-        ensures { Settles (λ urls r. Discovers urls pool.old pool.new r) (pool.new ≡ pool.old)
-            (λ nonce r. Offers SignerAnswers AuthAnswers
-            options.now.signer options.now.auth_callback (auth_value options.now.auth) nonce r)
+        ensures { Settles (PoolTakes pool.old pool.new) (pool.new ≡ pool.old)
+            (Offers SignerAnswers AuthAnswers options.now.signer options.now.auth_callback (auth_value options.now.auth))
             options.now.tls_required options.now.name options.now.no_echo
             self.old.stage before self.old result self.new }
     {
