@@ -26,6 +26,7 @@ use Rattle.nats_handshake.specs.declared.course.Course as code
 use Rattle.nats_handshake.specs.declared.course.Greeting.{Greeting}
 use Rattle.nats_handshake.specs.declared.course.Greeting.TheVariants as greeting
 use Rattle.nats_handshake.specs.Course.{Course, course, behind_out, greeting_at}
+use Rattle.nats_handshake.specs.Credentials.{RefusedAs}
 use Rattle.nats_handshake.specs.Greeting.{connect_info_of}
 
 -- how many operations may come behind the INFO
@@ -145,6 +146,13 @@ is_wanting kind.MaxReconnects = false
 -- after a refusal: want of memory leaves the handshake as it was, any other kind is kept
 abbrev pub left_by : ConnectErrorKind → Talk → Talk → Talk
 left_by kind old t = if is_wanting kind then old else record t { stage = stage.Refused kind }
+
+-- the opening for a nonce, or a refusal of what the client offers
+abbrev pub Opens : (List ℕ → Result AuthValue (List ℕ) → Type 0) → Option (List ℕ) → Bool → List ℕ
+    → Result (Vec ℕ) Failure → Type 0
+Opens Offers name no_echo nonce (Ok out) =
+    (auth : AuthValue) × Offers nonce (Ok auth) × (out.items ≡ opening name no_echo auth)
+Opens Offers name no_echo nonce (Err e) = RefusedAs e.0 e.1 (Offers nonce)
 
 -- `Discovers urls r` says that the pool takes the addresses of these texts in with the answer r, `Stays` that it is as it was,
 -- `Offers nonce r` that r is what the client authenticates by for a nonce; TLS is wanted by option, or isn't; the client has

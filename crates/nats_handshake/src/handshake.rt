@@ -6,7 +6,7 @@ ghost use Rattle.nats_names.specs.declared.cause.Cause.TheVariants as cause;
 ghost use Rattle.nats_handshake.specs.declared.error.ConnectErrorKind.TheVariants as kind;
 ghost use Rattle.nats_handshake.specs.Course.{greeting_at};
 ghost use Rattle.nats_handshake.specs.Credentials.{SignerAnswers, AuthAnswers, Offers};
-ghost use Rattle.nats_handshake.specs.Shaking.{IsNew, Discovered, Welcomes, opening, Shakes, Took, WentOn, Hears, Heeds, Settles, FedOpen, Feeds, Expires, ExpiresOpen, advanced, closed, is_late, is_wanting, end_cause, finished, by_content, left_by};
+ghost use Rattle.nats_handshake.specs.Shaking.{IsNew, Discovered, Opens, Welcomes, opening, Shakes, Took, WentOn, Hears, Heeds, Settles, FedOpen, Feeds, Expires, ExpiresOpen, advanced, closed, is_late, is_wanting, end_cause, finished, by_content, left_by};
 ghost use Rattle.nats_wire.specs.Operations.{front};
 
 use crate::course::{
@@ -92,7 +92,21 @@ fn opening(alloc: Global, options: &ConnectOptions, auth: &Auth) -> Result<Vec<u
     Ok(out)
 }
 
-#[tactic(none)]
+// What a client writes for an INFO's nonce, or why its signer or its callback refused.
+fn offer_opening(
+    alloc: Global,
+    info: &ServerInfo,
+    options: &ConnectOptions,
+) -> Result<Vec<u8>, Refusal>
+    ensures { Opens (Offers SignerAnswers AuthAnswers options.now.signer options.now.auth_callback (auth_value options.now.auth))
+        options.now.name options.now.no_echo info.now.nonce result }
+{
+    match credentials(alloc, options, info.nonce.as_str().as_bytes()) {
+        Ok(auth) => Ok(opening(alloc, options, &auth)?),
+        Err(refusal) => Err(refusal),
+    }
+}
+
 // What a client writes for an INFO, or why it ends the handshake.
 fn welcome(
     alloc: Global,
@@ -108,9 +122,10 @@ fn welcome(
     if options.tls_required || is_tls || info.tls_required {
         return Err(Refusal::new(ConnectErrorKind::Tls));
     }
-    discover(alloc, info, pool)?;
-    let auth = credentials(alloc, options, info.nonce.as_str().as_bytes())?;
-    Ok(opening(alloc, options, &auth)?)
+    match discover(alloc, info, pool) {
+        Ok(()) => offer_opening(alloc, info, options),
+        Err(refusal) => Err(refusal),
+    }
 }
 
 fn is_wanting(kind: ConnectErrorKind) -> bool
