@@ -27,8 +27,8 @@ fn subscribed_again(alloc: Global, subs: &Subscriptions) -> Result<Connection, N
 }
 
 impl ConnectionHandler {
-    fn open_link(&mut self, alloc: Global, info: &ServerInfo) -> Result<(), NoMemory>
-        ensures ok { OnOk result (self.new ≡ seen_after self.old (opened info.now)) }
+    fn open_link(&mut self, alloc: Global, info: ServerInfo) -> Result<(), NoMemory>
+        ensures ok { OnOk result (self.new ≡ seen_after self.old (opened info)) }
         ensures err { OnErr result (self.new ≡ self.old) }
     {
         let connection = subscribed_again(alloc, &self.subs)?;
@@ -36,6 +36,7 @@ impl ConnectionHandler {
         self.link = self.link.saturating_add(1);
         self.is_up = true;
         self.max_payload = info.max_payload;
+        self.info = Some(info);
         self.pings = 0;
         self.connection = connection;
         self.subs.alter_each(Alteration::Renew);
@@ -55,7 +56,7 @@ impl ConnectionHandler {
         ensures stands { OnOk result (LeadTo self.old (own_steps self.old.parts (turns.Up info)) self.new) }
         ensures err { OnErr result (self.new ≡ self.old) }
     {
-        self.open_link(alloc, &info)
+        self.open_link(alloc, info)
     }
 
     fn feed(&mut self, alloc: Global, bytes: &[u8]) -> Result<(), NoMemory>
