@@ -1,7 +1,7 @@
 //! What no clause says: texts of the protocol with what they mean, and each call once with ample memory.
 use crate::{
-    Bytes, ClientOp, ConnectInfo, Connection, HeaderMap, Message, OutboundMessage, Protocol, ServerOp,
-    Subject, Text, WireError,
+    Bytes, ClientOp, ConnectInfo, Connection, HeaderMap, Message, OutboundMessage, Protocol,
+    ServerOp, Subject, Text, WireError,
 };
 use nats_names::NoMemory;
 use std::alloc::Global;
