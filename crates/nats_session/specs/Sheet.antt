@@ -80,13 +80,13 @@ write_take place reply row = record row { takes = row.takes ++ (place, reply) �
 -- a message of a subscription that was put or dropped
 abbrev pub write_delivery : ℕ → ℕ → Message → Delivery → List SubRow → List SubRow
 write_delivery place sid m Put rows = at_number sid (write_put place m) rows
-write_delivery place sid m (Dropped dropped) rows = at_number sid (write_drop place m) rows
+write_delivery place sid m Dropped rows = at_number sid (write_drop place m) rows
 write_delivery place sid m Unwanted rows = rows
 write_delivery place sid m Ignored rows = rows
 
 abbrev pub rows_written : ℕ → Parts → Step → List SubRow → List SubRow
 rows_written place p (accepted call) rows = if subscribes call then rows ++ new_row ∷ [] else rows
-rows_written place p (read (message sid m)) rows = write_delivery place sid m (delivery_at p.config m (item_of sid p.subs.rows)) rows
+rows_written place p (read (message sid m)) rows = write_delivery place sid m (delivery_at p.config (item_of sid p.subs.rows)) rows
 rows_written place p step rows = rows
 
 -- what a step writes at a place but for its events, where these are the parts before it
@@ -132,7 +132,6 @@ pub record Tells (c : Config) (h : History) (answers : List (ℕ × Answer)) (p 
 
 -- what a note writes into a row
 abbrev pub write_note : ℕ → Note → SubRow → SubRow
-write_note place (notes.Put m) row = write_put place m row
 write_note place (notes.Drop m) row = write_drop place m row
 write_note place (notes.Take reply) row = write_take place reply row
 

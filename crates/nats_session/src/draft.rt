@@ -4,7 +4,7 @@ ghost use Rattle.nats_history.specs.declared.transcript.LinkWord.TheVariants.{Up
 ghost use Rattle.nats_history.specs.History.{at_place};
 ghost use Rattle.nats_tables.specs.Numbers.{at_number};
 ghost use Rattle.nats_session.specs.Machine.{write_due};
-ghost use Rattle.nats_session.specs.Sheet.{Sheet, empty_sheet, new_row, added, write_note, write_events, finished, row_with};
+ghost use Rattle.nats_session.specs.Sheet.{Sheet, empty_sheet, new_row, added, write_put, write_note, write_events, finished, row_with};
 
 use crate::handler::ConnectionHandler;
 use crate::places::place_of;
@@ -91,6 +91,20 @@ impl Draft {
         Ok(())
     }
 
+    /// A message is put into the queue of subscription `sid`; its copy shares the bytes.
+    pub fn note_put(
+        &mut self,
+        alloc: Global,
+        place: u64,
+        sid: u64,
+        message: &Message,
+    ) -> Result<(), NoMemory>
+        ensures { OnOk result
+            (self.new ≡ record self.old { subs = at_number sid (write_put place message.now) self.old.subs }) }
+    {
+        put_in(&mut self.subs, alloc, place, sid, message)
+    }
+
     /// Something happened to subscription `sid`.
     pub fn note(&mut self, alloc: Global, place: u64, sid: u64, note: Note) -> Result<(), NoMemory>
         ensures { OnOk result
@@ -99,23 +113,13 @@ impl Draft {
         note_in(&mut self.subs, alloc, place, sid, note)
     }
 
-    /// A due step was played, read this message, and was named so.
-    pub fn note_due(
-        &mut self,
-        alloc: Global,
-        place: u64,
-        came: Option<Message>,
-        due: Due,
-    ) -> Result<(), NoMemory>
-        ensures { OnOk result (self.new ≡ write_due place came due self.old) }
+    /// A due step was played, and was named so.
+    pub fn note_due(&mut self, alloc: Global, place: u64, due: Due) -> Result<(), NoMemory>
+        ensures { OnOk result (self.new ≡ write_due place due self.old) }
     {
         match due {
-            Due::Put(sid) => match came {
-                Some(message) => self.note(alloc, place, sid, Note::Put(message)),
-                None => Ok(()),
-            },
             Due::Dropped(sid, message) => self.note(alloc, place, sid, Note::Drop(message)),
-            Due::Nothing | Due::Read | Due::Handled | Due::Ended => Ok(()),
+            Due::Put(_) | Due::Nothing | Due::Read | Due::Handled | Due::Ended => Ok(()),
         }
     }
 
@@ -186,8 +190,6 @@ impl Draft {
 /// What can happen to a subscription.
 #[derive(Drop)]
 pub enum Note {
-    /// A message was put into its queue.
-    Put(Message),
     /// A message met its full queue.
     Drop(Message),
     /// A take was answered.
@@ -198,9 +200,34 @@ fn note_on(row: &mut SubRow, alloc: Global, place: u64, note: Note) -> Result<()
     ensures { OnOk result (row.new ≡ write_note place note row.old) }
 {
     match note {
-        Note::Put(message) => row.puts.push(alloc, (place, message)),
         Note::Drop(message) => row.drops.push(alloc, (place, message)),
         Note::Take(reply) => row.takes.push(alloc, (place, reply)),
+    }
+}
+
+fn put_on(
+    row: &mut SubRow,
+    alloc: Global,
+    place: u64,
+    message: &Message,
+) -> Result<(), NoMemory>
+    ensures { OnOk result (row.new ≡ write_put place message.now row.old) }
+{
+    row.puts.push(alloc, (place, message.copy(alloc)?))
+}
+
+fn put_in(
+    rows: &mut [SubRow],
+    alloc: Global,
+    place: u64,
+    sid: u64,
+    message: &Message,
+) -> Result<(), NoMemory>
+    ensures { OnOk result (rows.new ≡ at_number sid (write_put place message.now) rows.old) }
+{
+    match place_of(sid, rows.len()) {
+        Some(index) => put_on(&mut rows[index], alloc, place, message),
+        None => Ok(()),
     }
 }
 

@@ -4,12 +4,14 @@ ghost use Rattle.nats_history.specs.declared.turn.Turn.TheVariants as turns;
 ghost use Rattle.nats_history.specs.Schedule.{due};
 ghost use Rattle.nats_history.specs.Transcripts.{Plays};
 ghost use Rattle.nats_session.specs.Handler.{can_play, end_in, Sees, is_nothing};
-ghost use Rattle.nats_session.specs.Machine.{quiet, own_parts, own_sheet, settled_parts, settled_sheet, turn_parts, turn_sheet, write_end, Notes};
+ghost use Rattle.nats_session.specs.Machine.{quiet, own_parts, own_sheet, settled_parts, settled_sheet, turn_parts, turn_sheet, write_look, write_end, Notes};
 ghost use Rattle.nats_history.specs.declared.transcript.RunError.TheVariants as refused;
 
 use crate::draft::{Draft, Note};
 use crate::handler::{ConnectionHandler, Look};
 use nats_history::{Call, Config, LinkWord, NoMemory, RunError, ServerInfo, Transcript, Turn};
+use nats_subs::Delivery;
+use nats_wire::ServerOp;
 use std::alloc::Global;
 
 fn play_up(
@@ -202,6 +204,32 @@ fn note_end(
     }
 }
 
+/// A message that the step of `look` is to put is written down from the look, so that it is copied once.
+fn note_coming(
+    alloc: Global,
+    handler: &ConnectionHandler,
+    draft: &mut Draft,
+    place: u64,
+    look: &Look,
+) -> Result<(), NoMemory>
+    ensures { OnOk result (draft.new ≡ write_look place handler.now.parts look.now draft.old) }
+{
+    let Look::Read(peeked) = look else {
+        return Ok(());
+    };
+    match &*peeked.op {
+        ServerOp::Message { sid, message } => match handler.delivery(*sid) {
+            Delivery::Put => draft.note_put(alloc, place, *sid, message),
+            Delivery::Dropped | Delivery::Unwanted | Delivery::Ignored => Ok(()),
+        },
+        ServerOp::Ok
+        | ServerOp::Info(_)
+        | ServerOp::Ping
+        | ServerOp::Pong
+        | ServerOp::Error(_) => Ok(()),
+    }
+}
+
 /// Plays and writes the step that `look` told of.
 fn play_due(
     alloc: Global,
@@ -215,10 +243,10 @@ fn play_due(
     ensures { OnOk result (Notes (due handler.old.parts) place handler.old.parts draft.old handler.new draft.new) }
 {
     let end = handler.end_by(&look);
-    let came = look.message(alloc)?;
+    note_coming(alloc, handler, draft, place, &look)?;
     note_end(alloc, handler, draft, end)?;
     let name = handler.advance_by(alloc, look)?;
-    draft.note_due(alloc, place, came, name)?;
+    draft.note_due(alloc, place, name)?;
     draft.note_events(place, handler)
 }
 

@@ -143,16 +143,25 @@ impl Subscriptions {
         alter_rows(&mut self.table, alteration);
     }
 
-    /// Brings a message to a subscription.
+    /// What becomes of a message that comes for a subscription.
+    pub fn delivery(&self, config: &Config, sid: u64) -> Delivery
+        ensures { result ≡ delivery_at config.now (item_of sid self.now.rows) }
+    {
+        match self.table.item(sid) {
+            Some(row) => row.delivery(config),
+            None => Delivery::Ignored,
+        }
+    }
+
+    /// Brings a message to a subscription, which takes it in where `delivery` says so.
     pub fn deliver(
         &mut self,
         config: &Config,
         sid: u64,
         message: Message,
-    ) -> Result<Delivery, NoMemory>
+    ) -> Result<(), NoMemory>
         ensures ok { OnOk result
             (self.new ≡ with_rows (at_number sid (λ sub. kept (deliver config.now message sub)) self.old.rows) self.old) }
-        ensures answer { IfOk result (λ d. d ≡ delivery_at config.now message (item_of sid self.old.rows)) }
         ensures err { OnErr result (self.new ≡ self.old) }
     {
         self.table.try_alter(sid, Arrival { config, message })
