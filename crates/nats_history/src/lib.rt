@@ -1,11 +1,12 @@
 //! What a NATS session is told by: its settings, calls, turns and transcript as plain values, and beside them the words on
-//! histories and their laws. It plays nothing. Lengths are in bytes; subscriptions, links and places of turns are numbered
+//! histories and their laws, and what tells calls apart. It plays nothing. Lengths are in bytes; subscriptions, links and places of turns are numbered
 //! from 1.
 #![tactic(auto)]
 
 mod call;
 mod config;
 pub mod laws;
+pub mod refusals;
 mod stage;
 mod transcript;
 mod turn;

@@ -112,11 +112,6 @@ write_look place p looks.Nothing sheet = sheet
 write_look place p looks.Fault sheet = sheet
 write_look place p looks.Command sheet = sheet
 
--- what is written of a step by its name, once it was played
-abbrev pub write_due : ℕ → Due → Sheet → Sheet
-write_due place (due_names.Dropped sid m) sheet = record sheet { subs = at_number sid (write_drop place m) sheet.subs }
-write_due place name sheet = sheet
-
 -- the step that is due was played and written with what follows it at once
 abbrev pub Notes : Option Step → ℕ → Parts → Sheet → Seen → Sheet → Type 0
 Notes None place p sheet seen sheet' = (seen ≡ quiet p) × (sheet' ≡ sheet)

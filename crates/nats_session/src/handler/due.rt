@@ -15,7 +15,7 @@ ghost use Rattle.nats_subs.specs.Delivery.{with_rows, rows_with};
 ghost use Rattle.nats_session.specs.Handler.{Advances, Sees, command_end, seen_handled, is_nothing, handled_first, seen_after, own_name, delivery_of, delivery_name, after_message, end_in, push_all};
 
 use super::ConnectionHandler;
-use crate::refusals::ends_link;
+use nats_history::refusals::ends_link;
 use nats_history::{
     Call, Config, Due, Event, LinkWord, Message, NoMemory, OutboundMessage, Subject,
 };

@@ -15,5 +15,5 @@ returns c =
     (c.in_ok-note_coming.ensures ∙ look_written c.args.place old.parts c.args.look c.args.draft.now c.requires.sees)) in
     on_ok_both c.note_events.result c.note_events.ensures.written c.note_events.ensures.handed_out (λ written handed.
     noted c.args.place (due old.parts) old c.advance_by.new.self c.note_events.new.handler c.in_ok-name.name
-    c.args.draft.now c.note_end.new.draft c.note_due.new.self c.note_events.new.self refl c.requires.none c.in_ok-name.ensures.ok
+    c.args.draft.now c.note_end.new.draft c.note_due.new.self c.note_events.new.draft refl c.requires.none c.in_ok-name.ensures.ok
     ended c.in_ok-note_due.ensures written handed)
