@@ -16,7 +16,7 @@ use Rattle.nats_subs.specs.declared.subs.subscription.Delivery.TheVariants.{Put,
 use Rattle.nats_subs.specs.declared.subs.subscription.Alteration.TheVariants as alterations
 use Rattle.nats_subs.specs.Delivery.{delivery_at, is_unwanted, delivery_events, deliver, rows_with, with_rows}
 use Rattle.nats_subs.proofs.Deliveries.{closing_at, events_at, rows_by, rows_came}
-use Rattle.nats_session.specs.Handler.{Seen, push_all, seen_after, delivered_seen, after_message}
+use Rattle.nats_session.specs.Handler.{Seen, push_all, seen_after, delivery_of, delivered_seen, after_message}
 
 -- ---- the handler
 
@@ -68,31 +68,18 @@ abbrev pub taken_in : ℕ → Message → Seen → Subs
 taken_in sid m seen = with_rows (at_number sid (λ sub. kept (deliver seen.parts.config m sub)) seen.parts.subs.rows) seen.parts.subs
 
 pub delivered : (seen old : Seen) (sid : ℕ) (m : Message) (subs : Subs) (d : Delivery) → seen ≡ old → subs ≡ taken_in sid m seen
-    → delivery_at seen.parts.config (item_of sid seen.parts.subs.rows) ≡ d → after_message sid m d seen ≡ delivered_seen sid m seen
+    → delivery_of old.parts sid ≡ d → after_message sid m d seen ≡ delivered_seen sid m seen
     → record seen { parts = record seen.parts { subs = subs } } ≡ read_seen sid m old
 delivered seen old sid m subs d same a is keeps =
     ap (λ x. record seen { parts = record seen.parts { subs = x } }) a
-    ∙ (sym keeps ∙ (sym (ap (λ e. after_message sid m e seen) is) ∙ ap (read_seen sid m) same))
+    ∙ (sym keeps ∙ (ap (after_message sid m d) same ∙ sym (ap (λ e. after_message sid m e old) is)))
 
 pub dropped_one : (seen old : Seen) (sid : ℕ) (m : Message) (events : List Event) → seen ≡ old
-    → delivery_at seen.parts.config (item_of sid seen.parts.subs.rows) ≡ Dropped → events ≡ seen.events ++ SlowConsumer sid ∷ []
+    → delivery_of old.parts sid ≡ Dropped → events ≡ seen.events ++ SlowConsumer sid ∷ []
     → record seen { events = events } ≡ read_seen sid m old
 dropped_one seen old sid m events same is b =
     ap (λ es. record seen { events = es }) b
-    ∙ (sym (ap (λ e. after_message sid m e seen) is) ∙ ap (read_seen sid m) same)
-
-abbrev with_wire : Seen → Wire → Subs → Seen
-with_wire seen wire subs = record seen { parts = record seen.parts { link = record seen.parts.link { wire = wire }; subs = subs } }
-
-pub unwanted_one : (seen old : Seen) (sid : ℕ) (m : Message) (wire : Wire) (subs : Subs) → seen ≡ old
-    → delivery_at seen.parts.config (item_of sid seen.parts.subs.rows) ≡ Unwanted
-    → wire ≡ record seen.parts.link.wire { waiting = seen.parts.link.wire.waiting ++ command_text (client.Unsubscribe sid None) }
-    → subs ≡ with_rows (rows_with sid alterations.End seen.parts.subs.rows) seen.parts.subs
-    → with_wire seen wire subs ≡ read_seen sid m old
-unwanted_one seen old sid m wire subs same is b d =
-    ap (λ x. with_wire seen x subs) b
-    ∙ (ap (with_wire seen (record seen.parts.link.wire { waiting = seen.parts.link.wire.waiting ++ command_text (client.Unsubscribe sid None) })) d
-    ∙ (sym (ap (λ e. after_message sid m e seen) is) ∙ ap (read_seen sid m) same))
+    ∙ (ap (after_message sid m Dropped) same ∙ sym (ap (λ e. after_message sid m e old) is))
 
 abbrev with_link : Seen → Wire → Seen
 with_link seen wire = record seen { parts = record seen.parts { link = record seen.parts.link { wire = wire } } }

@@ -29,8 +29,8 @@ use Rattle.nats_history.specs.After.{after, after_all, due_steps}
 use Rattle.nats_history.proofs.Dues.{bound_falls, none_due, one_due, after_append}
 use Rattle.nats_subs.specs.Delivery.{delivery_at}
 use Rattle.nats_session.specs.Handler.{Seen, delivery_name, delivery_of, end_in, name_of, Advances, Sees, is_nothing}
-use Rattle.nats_session.specs.Sheet.{Sheet, write_drop, write_delivery, write_events}
-use Rattle.nats_session.specs.Machine.{quiet, sheet_noted, sheet_recorded, sheet_written, settled_parts, settled_sheet, write_look, write_before, write_coming, write_end, write_due, Notes}
+use Rattle.nats_session.specs.Sheet.{Sheet, write_delivery, write_due, write_events}
+use Rattle.nats_session.specs.Machine.{quiet, sheet_noted, sheet_recorded, sheet_written, settled_parts, settled_sheet, write_look, write_before, write_coming, write_end, Notes}
 use Rattle.nats_session.proofs.Chains.{no_events, end_written, played}
 
 -- ---- what can be due

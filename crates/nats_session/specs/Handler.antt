@@ -112,8 +112,9 @@ delivered_seen sid m old = record old {
   };
 }
 
-abbrev pub after_message : ℕ → Message → Delivery → Seen → Seen
-after_message sid m Unwanted old = record old {
+-- a subscription that is open and shut ends, and the server is told
+abbrev pub unwanted_seen : ℕ → Seen → Seen
+unwanted_seen sid old = record old {
   parts = record old.parts {
     link = record old.parts.link {
       wire = record old.parts.link.wire {
@@ -123,6 +124,9 @@ after_message sid m Unwanted old = record old {
     subs = with_rows (rows_with sid alterations.End old.parts.subs.rows) old.parts.subs;
   };
 }
+
+abbrev pub after_message : ℕ → Message → Delivery → Seen → Seen
+after_message sid m Unwanted old = unwanted_seen sid old
 after_message sid m Dropped old = record old { events = old.events ++ SlowConsumer sid ∷ [] }
 after_message sid m Put old = delivered_seen sid m old
 after_message sid m Ignored old = delivered_seen sid m old

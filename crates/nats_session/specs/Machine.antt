@@ -5,8 +5,6 @@ use Rattle.nats_wire.specs.Operations.{Operation, message, op_view}
 use Rattle.nats_history.specs.declared.transcript.LinkWord.{LinkWord}
 use Rattle.nats_history.specs.declared.turn.Turn.{Turn}
 use Rattle.nats_history.specs.declared.turn.Turn.TheVariants.{Do, Take}
-use Rattle.nats_history.specs.declared.turn.Due.{Due}
-use Rattle.nats_history.specs.declared.turn.Due.TheVariants as due_names
 use Rattle.nats_history.specs.History.{Step, read}
 use Rattle.nats_tables.specs.Numbers.{at_number}
 use Rattle.nats_history.specs.Parts.{Parts}
@@ -18,7 +16,7 @@ use Rattle.nats_subs.specs.declared.subs.subscription.Delivery.TheVariants.{Put,
 use Rattle.nats_session.specs.declared.handler.due.Look.{Look}
 use Rattle.nats_session.specs.declared.handler.due.Look.TheVariants as looks
 use Rattle.nats_session.specs.Handler.{Seen, delivery_of}
-use Rattle.nats_session.specs.Sheet.{Sheet, row_with, write_put, write_drop, write_step, write_answer, write_events}
+use Rattle.nats_session.specs.Sheet.{Sheet, row_with, write_put, write_step, write_answer, write_events}
 
 -- a handler with these parts, all of whose events were handed out
 abbrev pub quiet : Parts → Seen

@@ -12,7 +12,7 @@ ghost use Rattle.nats_history.specs.Parts.{at_in};
 ghost use Rattle.nats_history.specs.Schedule.{due, due_chain};
 ghost use Rattle.nats_history.specs.After.{written, subs_after};
 ghost use Rattle.nats_subs.specs.Delivery.{with_rows, rows_with};
-ghost use Rattle.nats_session.specs.Handler.{Advances, Sees, command_end, seen_handled, is_nothing, handled_first, seen_after, own_name, delivery_of, delivery_name, after_message, end_in, push_all};
+ghost use Rattle.nats_session.specs.Handler.{Advances, Sees, command_end, seen_handled, is_nothing, handled_first, seen_after, own_name, delivery_of, delivery_name, unwanted_seen, after_message, end_in, push_all};
 
 use super::ConnectionHandler;
 use nats_history::refusals::ends_link;
@@ -312,8 +312,7 @@ impl ConnectionHandler {
                 Ok(Due::Dropped(sid, message))
             }
             Delivery::Unwanted => {
-                write_unsubscribe(&mut self.connection, alloc, true, sid, None)?;
-                self.subs.alter(sid, Alteration::End);
+                self.end_unwanted(alloc, sid)?;
                 Ok(Due::Read)
             }
             Delivery::Ignored => {
@@ -321,6 +320,16 @@ impl ConnectionHandler {
                 Ok(Due::Read)
             }
         }
+    }
+
+    /// Ends a subscription that wants no more, and tells the server.
+    fn end_unwanted(&mut self, alloc: Global, sid: u64) -> Result<(), NoMemory>
+        ensures ok { OnOk result (self.new ≡ unwanted_seen sid self.old) }
+        ensures err { OnErr result (self.new ≡ self.old) }
+    {
+        write_unsubscribe(&mut self.connection, alloc, true, sid, None)?;
+        self.subs.alter(sid, Alteration::End);
+        Ok(())
     }
 
     /// What becomes of a message that comes for the subscription of a number.
