@@ -1,12 +1,15 @@
 -- Going through the rows that are not over, in the order of their numbers.
-use Rattle.std.proofs.Common.{◌≡◌, map, ℕ, zero, suc, ◌+◌, ◌-◌, ◌<◌, ◌≤◌, Bool, true, false, cond, List, [], ◌∷◌, drop, Option, Some, None, IfSome, IsSome, Less, Greater, nat_cmp, nat_lt, is_gt, unwrap_or, slice_get, BTreeMap, refl, sym, ◌∙◌, ap, subst, arith}
+use Rattle.std.proofs.Common.{◌≡◌, map, ℕ, zero, suc, ◌+◌, ◌-◌, ◌<◌, ◌≤◌, Bool, true, false, cond, List, [], ◌∷◌, drop, length, Option, Some, None, IfSome, IsSome, Less, Greater, nat_cmp, nat_lt, is_gt, unwrap_or, slice_get, BTreeMap, refl, sym, ◌∙◌, ap, subst, arith}
 use Rattle.std.proofs.lemmas.Bool.{false≢true}
+use Rattle.std.proofs.lemmas.List.{length-drop}
+use Rattle.std.proofs.lemmas.Option.{none-some, cond_some}
 use Rattle.std.specs.Cmp.{ranks, nat_cmp_is}
 use Rattle.std.specs.Ordering.{MatchOrdering}
 use Rattle.std.specs.BTreeMap.Range.{IsRangeOf, IsEntryInRange}
 use Rattle.std.specs.declared.ops.Bound.TheVariants.{Excluded, Unbounded}
-use Rattle.nats_tables.specs.Numbers.{count_from}
+use Rattle.nats_tables.specs.Numbers.{count_from, at_index, at_number}
 use Rattle.nats_tables.specs.Rows.{look, row_in, rows_in, first_kept, Tidy, Stays, KeepsOnly, Keeps}
+use Rattle.nats_tables.proofs.Numbers.{same_cons}
 
 -- ---- numbers
 
@@ -112,3 +115,94 @@ module _ {A : Type 0} (overs : A → Bool) (gone : A) (given n : ℕ) (m : BTree
       let here : IsEntryInRange nat_cmp (Excluded n) Unbounded m e = subst (λ o. IfSome o (IsEntryInRange nat_cmp (Excluded n) Unbounded m)) first range.1 in
       let least : (q : ℕ) → n < q → IsSome (look q m.entries) → is_gt (nat_cmp e.0 q) ≡ false = λ q past some. subst (λ o. IfSome o (λ x. is_gt (nat_cmp x.0 q) ≡ false)) first (range.2 q (below n q past, tt) some) in
       sym (least_kept overs gone given m.entries keeps n e.0 e.1 here.1 (is_below n e.0 here.0.0) (λ q past less. none_below e.0 q (look q m.entries) less (least q past)))
+
+-- ---- a loop over the rows that are not over
+
+pub same_some : {A : Type 0} (x y : A) → Some x ≡ Some y → x ≡ y
+same_some x y is = (cond_some true x y is).1
+
+pub kept_low : {A : Type 0} (overs : A → Bool) (s k : ℕ) (xs : List A) → first_kept overs s xs ≡ Some k → s ≤ k
+kept_low overs s k [] is = absurd (none-some k is)
+kept_low overs s k (x ∷ xs) is = by (overs x) is (kept_low overs (suc s) k xs)
+  where
+    by : (b : Bool) → cond b (first_kept overs (suc s) xs) (Some s) ≡ Some k → (first_kept overs (suc s) xs ≡ Some k → suc s ≤ k) → s ≤ k
+    by true is more = omega (arith, more is)
+    by false is more = omega (arith, same_some s k is)
+
+kept_high : {A : Type 0} (overs : A → Bool) (s k : ℕ) (xs : List A) → first_kept overs s xs ≡ Some k → k < s + length xs
+kept_high overs s k [] is = absurd (none-some k is)
+kept_high overs s k (x ∷ xs) is = by (overs x) is (kept_high overs (suc s) k xs)
+  where
+    by : (b : Bool) → cond b (first_kept overs (suc s) xs) (Some s) ≡ Some k → (first_kept overs (suc s) xs ≡ Some k → k < suc s + length xs) → k < s + length (x ∷ xs)
+    by true is more = omega (arith, more is)
+    by false is more = omega (arith, same_some s k is)
+
+-- the next one is above, and was given
+next_above : {A : Type 0} (overs : A → Bool) (n k : ℕ) (xs : List A) → first_kept overs (suc n) (drop n xs) ≡ Some k → (n < k) × (k ≤ length xs)
+next_above overs n k xs is =
+    let low = kept_low overs (suc n) k (drop n xs) is in
+    let high = kept_high overs (suc n) k (drop n xs) is in
+    (low, by (length (drop n xs)) (length-drop n xs) low high)
+  where
+    by : (m : ℕ) → m ≡ length xs - n → suc n ≤ k → k < suc n + m → k ≤ length xs
+    by m e low high = omega (arith, e, low, high)
+
+-- so fewer are left behind it
+pub fewer_left : {A B : Type 0} (overs : A → Bool) (n k : ℕ) (xs : List A) (ys : List B) → length ys ≡ length xs → first_kept overs (suc n) (drop n xs) ≡ Some k → length ys - k < length xs - n
+fewer_left overs n k xs ys same is =
+    let next = next_above overs n k xs is in
+    omega (arith, same, next.0, next.1)
+
+-- the first so many are as they are, and the others are changed
+abbrev pub rest_changed : {A : Type 0} → ℕ → (A → A) → List A → List A
+rest_changed zero f xs = map f xs
+rest_changed (suc n) f [] = []
+rest_changed (suc n) f (x ∷ xs) = x ∷ rest_changed n f xs
+
+module _ {A : Type 0} (overs : A → Bool) (gone : A) (f : A → A) (still : f gone ≡ gone) where
+  over_still : (x : A) → (overs x ≡ true → x ≡ gone) → overs x ≡ true → f x ≡ x
+  over_still x tidy over = ap f (tidy over) ∙ (still ∙ sym (tidy over))
+
+  first_step : (s d k : ℕ) (xs : List A) → k ≡ s + d → Tidy overs gone xs → first_kept overs s xs ≡ Some k → map f xs ≡ rest_changed (suc d) f (at_index d f xs)
+  first_step s d k [] e tidy is = absurd (none-some k is)
+  first_step s zero k (x ∷ xs) e tidy is = by (overs x) is (kept_low overs (suc s) k xs)
+    where
+      by : (b : Bool) → cond b (first_kept overs (suc s) xs) (Some s) ≡ Some k → (first_kept overs (suc s) xs ≡ Some k → suc s ≤ k) → map f (x ∷ xs) ≡ f x ∷ map f xs
+      by true is low = absurd (omega (arith, low is, e))
+      by false is low = refl
+  first_step s (suc d) k (x ∷ xs) e tidy is = by (overs x) refl is (first_step (suc s) d k xs (omega (arith, e)) tidy.1)
+    where
+      by : (b : Bool) → overs x ≡ b → cond b (first_kept overs (suc s) xs) (Some s) ≡ Some k
+          → (first_kept overs (suc s) xs ≡ Some k → map f xs ≡ rest_changed (suc d) f (at_index d f xs)) → f x ∷ map f xs ≡ x ∷ rest_changed (suc d) f (at_index d f xs)
+      by true over is more = same_cons (f x) x _ _ (over_still x tidy.0 over) (more is)
+      by false over is more = absurd (omega (arith, same_some s k is, e))
+
+  step_behind : (n s d i k : ℕ) (xs : List A) → i ≡ n + d → k ≡ s + d → Tidy overs gone xs → first_kept overs s (drop n xs) ≡ Some k
+      → rest_changed n f xs ≡ rest_changed (suc i) f (at_index i f xs)
+  step_behind zero s d i k xs a b tidy is =
+      let e : d ≡ i = omega (arith, a) in
+      first_step s d k xs b tidy is ∙ ap (λ j. rest_changed (suc j) f (at_index j f xs)) e
+  step_behind (suc n) s d i k [] a b tidy is = absurd (none-some k is)
+  step_behind (suc n) s d zero k (x ∷ xs) a b tidy is = absurd (omega (arith, a))
+  step_behind (suc n) s d (suc i) k (x ∷ xs) a b tidy is = ap (λ ys. x ∷ ys) (step_behind n s d i k xs (omega (arith, a)) b tidy.1 is)
+
+  -- the next one is changed, and those that are passed over need no change
+  pub next_changed : (n k : ℕ) (xs : List A) → Tidy overs gone xs → first_kept overs (suc n) (drop n xs) ≡ Some k → rest_changed n f xs ≡ rest_changed k f (at_number k f xs)
+  next_changed n zero xs tidy is = absurd (omega (arith, kept_low overs (suc n) zero (drop n xs) is))
+  next_changed n (suc i) xs tidy is =
+      let low = kept_low overs (suc n) (suc i) (drop n xs) is in
+      step_behind n (suc n) (i - n) i (suc i) xs (omega (arith, low)) (omega (arith, low)) tidy is
+
+  none_first : (s : ℕ) (xs : List A) → Tidy overs gone xs → first_kept overs s xs ≡ None → map f xs ≡ xs
+  none_first s [] tidy is = refl
+  none_first s (x ∷ xs) tidy is = by (overs x) refl is (none_first (suc s) xs tidy.1)
+    where
+      by : (b : Bool) → overs x ≡ b → cond b (first_kept overs (suc s) xs) (Some s) ≡ None → (first_kept overs (suc s) xs ≡ None → map f xs ≡ xs) → f x ∷ map f xs ≡ x ∷ xs
+      by true over is more = same_cons (f x) x _ _ (over_still x tidy.0 over) (more is)
+      by false over is more = absurd (none-some s (sym is))
+
+  -- none is left to change
+  pub none_changed : (s n : ℕ) (xs : List A) → Tidy overs gone xs → first_kept overs s (drop n xs) ≡ None → rest_changed n f xs ≡ xs
+  none_changed s zero xs tidy is = none_first s xs tidy is
+  none_changed s (suc n) [] tidy is = refl
+  none_changed s (suc n) (x ∷ xs) tidy is = ap (λ ys. x ∷ ys) (none_changed s n xs tidy.1 is)
