@@ -1,11 +1,13 @@
 -- All subscriptions, as a table of rows with a count of those subscribed.
 use Rattle.std.specs.Prelude.{slice_get}
-use Rattle.std.proofs.Common.{◌≡◌, Bool, true, false, not, ◌&&◌, cond, nat_lt, if◌then◌else◌, ℕ, zero, suc, ◌+◌, ◌≤◌, List, [], ◌∷◌, ◌++◌, length, map, Option, Some, None, refl, sym, ◌∙◌, ap, arith, add-one}
+use Rattle.std.proofs.Common.{◌≡◌, Bool, true, false, not, ◌&&◌, cond, nat_lt, if◌then◌else◌, ℕ, zero, suc, ◌+◌, ◌-◌, ◌≤◌, List, [], ◌∷◌, ◌++◌, length, drop, map, Option, Some, None, refl, sym, ◌∙◌, ap, arith, add-one}
 use Rattle.std.proofs.lemmas.List.{append-nil, append_assoc, length-append, length-map}
+use Rattle.std.proofs.lemmas.Option.{none-some}
 use Rattle.nats_wire.specs.declared.op.ClientOp.{ClientOp}
 use Rattle.nats_tables.specs.Numbers.{at_index, at_number, item_of}
-use Rattle.nats_tables.specs.Rows.{kept_row}
+use Rattle.nats_tables.specs.Rows.{kept_row, first_kept}
 use Rattle.nats_tables.proofs.Numbers.{length-at_number}
+use Rattle.nats_tables.proofs.Walks.{same_some, kept_low}
 use Rattle.nats_history.specs.declared.call.Interest.{Interest}
 use Rattle.nats_history.specs.History.{Sub, is_open, is_ended, is_over, kept, subscribed_again, again, all_again}
 use Rattle.nats_history.specs.Parts.{Subs}
@@ -33,36 +35,7 @@ next_opens subscribed rows new next is =
       rows = rows_named (if b then Some (suc subscribed) else None) alterations.Open rows;
     }) next)
 
--- ---- each row, one by one
-
--- the first of some rows were changed
-abbrev pub changed_to : {A : Type 0} → ℕ → (A → A) → List A → List A
-changed_to zero f xs = xs
-changed_to (suc i) f [] = []
-changed_to (suc i) f (x ∷ xs) = f x ∷ changed_to i f xs
-
-changed_next : {A : Type 0} (i : ℕ) (f : A → A) (xs : List A) → at_index i f (changed_to i f xs) ≡ changed_to (suc i) f xs
-changed_next zero f [] = refl
-changed_next zero f (x ∷ xs) = refl
-changed_next (suc i) f [] = refl
-changed_next (suc i) f (x ∷ xs) = ap (λ ys. f x ∷ ys) (changed_next i f xs)
-
--- one more was changed, which is told by its number
-pub one_changed : {A : Type 0} (i : ℕ) (f : A → A) (xs old new : List A) → old ≡ changed_to i f xs → new ≡ at_number (i + 1) f old → new ≡ changed_to (i + 1) f xs
-one_changed i f xs old new before is =
-    let next = add-one i in
-    is ∙ (ap (λ k. at_number k f old) next ∙ (ap (at_index i f) before ∙ (changed_next i f xs ∙ sym (ap (λ k. changed_to k f xs) next))))
-
-pub length-changed_to : {A : Type 0} (i : ℕ) (f : A → A) (xs : List A) → length (changed_to i f xs) ≡ length xs
-length-changed_to zero f xs = refl
-length-changed_to (suc i) f [] = refl
-length-changed_to (suc i) f (x ∷ xs) = ap suc (length-changed_to i f xs)
-
-pub changed_all : {A : Type 0} (i : ℕ) (f : A → A) (xs : List A) → length xs ≤ i → changed_to i f xs ≡ map f xs
-changed_all zero f [] past = refl
-changed_all zero f (x ∷ xs) past = absurd (omega arith)
-changed_all (suc i) f [] past = refl
-changed_all (suc i) f (x ∷ xs) past = ap (λ ys. f x ∷ ys) (changed_all i f xs (omega arith))
+-- ---- each row
 
 -- each was changed, and no number was given
 pub rows_altered : (subscribed : ℕ) (f : Sub → Sub) (rows new : List Sub) → new ≡ map f rows → as_subs subscribed new ≡ record (as_subs subscribed rows) { rows = map f rows }
@@ -85,46 +58,67 @@ one_given subscribed asked rows new is =
 -- ---- subscribing again
 
 -- one that is over is not subscribed again
+again_over : (s : ℕ) (sub : Sub) → is_over sub ≡ true → again s sub ≡ []
+again_over s sub over =
+    ap (λ stage. cond (is_open stage && not sub.is_shut) (subscribed_again s sub sub.interest) []) (ended_is sub.stage (both_true sub.is_gone (is_ended sub.stage) over).1)
+
 pub again_kept : (s : ℕ) (row : Option Sub) → again_at s (kept_row is_over row) ≡ again_at s row
 again_kept s None = refl
 again_kept s (Some sub) = by_over (is_over sub) refl
   where
     by_over : (b : Bool) → is_over sub ≡ b → again_at s (cond b None (Some sub)) ≡ again s sub
-    by_over true over =
-        sym (ap (λ stage. cond (is_open stage && not sub.is_shut) (subscribed_again s sub sub.interest) []) (ended_is sub.stage (both_true sub.is_gone (is_ended sub.stage) over).1))
+    by_over true over = sym (again_over s sub over)
     by_over false over = refl
 
--- the commands of the first rows
-abbrev pub again_to : ℕ → ℕ → List Sub → List ClientOp
-again_to zero s rows = []
-again_to (suc i) s [] = []
-again_to (suc i) s (sub ∷ more) = again s sub ++ again_to i (suc s) more
+abbrev Next : ℕ → ℕ → ℕ → List Sub → Type 0
+Next s d k subs = all_again s subs ≡ again_at k (slice_get subs d) ++ all_again (suc k) (drop (suc d) subs)
 
-again_next : (i s : ℕ) (rows : List Sub) → again_to (suc i) s rows ≡ again_to i s rows ++ again_at (s + i) (slice_get rows i)
-again_next zero s [] = refl
-again_next zero s (sub ∷ more) =
-    let same : s ≡ s + 0 = omega arith in
-    append-nil (again s sub) ∙ ap (λ k. again k sub) same
-again_next (suc i) s [] = refl
-again_next (suc i) s (sub ∷ more) =
-    let same : suc s + i ≡ s + suc i = omega arith in
-    ap (λ ops. again s sub ++ ops) (again_next i (suc s) more ∙ ap (λ k. again_to i (suc s) more ++ again_at k (slice_get more i)) same)
-    ∙ sym (append_assoc (again s sub) (again_to i (suc s) more) (again_at (s + suc i) (slice_get more i)))
+first_again : (s d k : ℕ) (subs : List Sub) → k ≡ s + d → first_kept is_over s subs ≡ Some k → Next s d k subs
+first_again s d k [] e is = absurd (none-some k is)
+first_again s zero k (sub ∷ more) e is = by (is_over sub) is (kept_low is_over (suc s) k more)
+  where
+    by : (b : Bool) → cond b (first_kept is_over (suc s) more) (Some s) ≡ Some k → (first_kept is_over (suc s) more ≡ Some k → suc s ≤ k) → Next s zero k (sub ∷ more)
+    by true is low = absurd (omega (arith, low is, e))
+    by false is low = ap (λ j. again j sub ++ all_again (suc j) more) (same_some s k is)
+first_again s (suc d) k (sub ∷ more) e is = by (is_over sub) refl is (first_again (suc s) d k more (omega (arith, e)))
+  where
+    by : (b : Bool) → is_over sub ≡ b → cond b (first_kept is_over (suc s) more) (Some s) ≡ Some k → (first_kept is_over (suc s) more ≡ Some k → Next (suc s) d k more) → Next s (suc d) k (sub ∷ more)
+    by true over is next = ap (λ ops. ops ++ all_again (suc s) more) (again_over s sub over) ∙ next is
+    by false over is next = absurd (omega (arith, same_some s k is, e))
 
--- one more row's, by its number
-pub one_again : (i : ℕ) (rows : List Sub) (old new : List ClientOp) → old ≡ again_to i 1 rows → new ≡ old ++ again_at (i + 1) (item_of (i + 1) rows)
-    → new ≡ again_to (i + 1) 1 rows
-one_again i rows old new before is =
-    let next = add-one i in
-    let same : suc i ≡ 1 + i = omega arith in
-    is
-    ∙ (ap (λ ops. ops ++ again_at (i + 1) (item_of (i + 1) rows)) before
-    ∙ (ap (λ k. again_to i 1 rows ++ again_at k (item_of k rows)) next
-    ∙ (ap (λ k. again_to i 1 rows ++ again_at k (slice_get rows i)) same
-    ∙ (sym (again_next i 1 rows) ∙ ap (λ k. again_to k 1 rows) (sym next)))))
+behind_again : (n s d i k : ℕ) (rows : List Sub) → i ≡ n + d → k ≡ s + d → first_kept is_over s (drop n rows) ≡ Some k
+    → all_again s (drop n rows) ≡ again_at k (slice_get rows i) ++ all_again (suc k) (drop (suc i) rows)
+behind_again zero s d i k rows a b is =
+    let e : d ≡ i = omega (arith, a) in
+    first_again s d k rows b is ∙ ap (λ j. again_at k (slice_get rows j) ++ all_again (suc k) (drop (suc j) rows)) e
+behind_again (suc n) s d i k [] a b is = absurd (none-some k is)
+behind_again (suc n) s d zero k (row ∷ rows) a b is = absurd (omega (arith, a))
+behind_again (suc n) s d (suc i) k (row ∷ rows) a b is = behind_again n s d i k rows (omega (arith, a)) b is
 
-pub again_all : (i s : ℕ) (rows : List Sub) → length rows ≤ i → again_to i s rows ≡ all_again s rows
-again_all zero s [] past = refl
-again_all zero s (sub ∷ more) past = absurd (omega arith)
-again_all (suc i) s [] past = refl
-again_all (suc i) s (sub ∷ more) past = ap (λ ops. again s sub ++ ops) (again_all i (suc s) more (omega arith))
+next_again : (n k : ℕ) (rows : List Sub) → first_kept is_over (suc n) (drop n rows) ≡ Some k
+    → all_again (suc n) (drop n rows) ≡ again_at k (item_of k rows) ++ all_again (suc k) (drop k rows)
+next_again n zero rows is = absurd (omega (arith, kept_low is_over (suc n) zero (drop n rows) is))
+next_again n (suc i) rows is =
+    let low = kept_low is_over (suc n) (suc i) (drop n rows) is in
+    behind_again n (suc n) (i - n) i (suc i) rows (omega (arith, low)) (omega (arith, low)) is
+
+-- the commands of the next row that is not over, where those behind the first n are left
+pub one_again : (n k : ℕ) (rows : List Sub) (old new all : List ClientOp) → old ++ all_again (suc n) (drop n rows) ≡ all → first_kept is_over (suc n) (drop n rows) ≡ Some k
+    → new ≡ old ++ again_at k (item_of k rows) → new ++ all_again (suc k) (drop k rows) ≡ all
+one_again n k rows old new all before next is =
+    ap (λ ops. ops ++ all_again (suc k) (drop k rows)) is
+    ∙ (append_assoc old (again_at k (item_of k rows)) (all_again (suc k) (drop k rows))
+    ∙ (ap (λ ops. old ++ ops) (sym (next_again n k rows next)) ∙ before))
+
+none_again : (s : ℕ) (subs : List Sub) → first_kept is_over s subs ≡ None → all_again s subs ≡ []
+none_again s [] is = refl
+none_again s (sub ∷ more) is = by (is_over sub) refl is (none_again (suc s) more)
+  where
+    by : (b : Bool) → is_over sub ≡ b → cond b (first_kept is_over (suc s) more) (Some s) ≡ None → (first_kept is_over (suc s) more ≡ None → all_again (suc s) more ≡ []) → all_again s (sub ∷ more) ≡ []
+    by true over is next = ap (λ ops. ops ++ all_again (suc s) more) (again_over s sub over) ∙ next is
+    by false over is next = absurd (none-some s (sym is))
+
+-- no row is left
+pub again_done : (n : ℕ) (rows : List Sub) (ops all : List ClientOp) → ops ++ all_again (suc n) (drop n rows) ≡ all → first_kept is_over (suc n) (drop n rows) ≡ None → ops ≡ all
+again_done n rows ops all before none =
+    sym (append-nil ops) ∙ (ap (λ more. ops ++ more) (sym (none_again (suc n) (drop n rows) none)) ∙ before)

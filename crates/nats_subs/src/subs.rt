@@ -37,8 +37,10 @@ impl Model for Subscriptions {
 fn alter_rows(table: &mut Table<Subscription>, alteration: Alteration)
     ensures { table.new ≡ rows_each alteration table.old }
 {
-    'rows: for index in 0..table.len() {
-        table.alter(index + 1, &alteration);
+    let mut last = 0;
+    'rows: while let Some(sid) = table.next_after(last) {
+        table.alter(sid, &alteration);
+        last = sid;
     }
 }
 
@@ -60,8 +62,10 @@ fn again_in(alloc: Global, table: &Table<Subscription>) -> Result<Vec<ClientOp>,
     ensures { IfOk result (λ ops. ops.items ≡ all_again 1 table.now) }
 {
     let mut ops = Vec::new(alloc);
-    'rows: for index in 0..table.len() {
-        push_again(alloc, table, index + 1, &mut ops)?;
+    let mut last = 0;
+    'rows: while let Some(sid) = table.next_after(last) {
+        push_again(alloc, table, sid, &mut ops)?;
+        last = sid;
     }
     Ok(ops)
 }
