@@ -4,13 +4,13 @@ use Rattle.nats_wire.specs.declared.op.ServerOp.{ServerOp}
 use Rattle.nats_wire.specs.declared.op.WireError.{WireError}
 use Rattle.nats_wire.specs.declared.op.WireError.TheVariants as refused
 use Rattle.nats_wire.specs.declared.connection.Peeked.{Peeked}
-use Rattle.nats_wire.specs.Operations.{Front, unfinished, got, fault, op_view}
+use Rattle.nats_wire.specs.Operations.{Front, unfinished, got, fault, op_view, peeked_view}
 use Rattle.nats_wire.specs.Wire.{Wire}
 
 -- a look at the front of the unread bytes tells what stands there; memory can be wanting only for an operation, and at a fault
 -- where memory is taken to tell it
 abbrev pub Looks : Front → Bool → Result (Option Peeked) WireError → Type 0
-Looks (got operation n) takes (Ok (Some peeked)) = (op_view peeked.op.value ≡ operation) × (peeked.len ≡ n)
+Looks (got operation n) takes (Ok (Some peeked)) = (peeked_view peeked.op ≡ operation) × (peeked.len ≡ n)
 Looks unfinished takes (Ok None) = Unit {0}
 Looks (fault n) takes (Err refused.ReadFault) = Unit {0}
 Looks (got operation n) takes (Err refused.NoMemory) = Unit {0}

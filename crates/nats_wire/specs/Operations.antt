@@ -14,6 +14,8 @@ use Rattle.nats_block.specs.Block.{block_of}
 use Rattle.nats_wire.specs.declared.message.Message.{Message}
 use Rattle.nats_wire.specs.declared.op.ServerOp.{ServerOp}
 use Rattle.nats_wire.specs.declared.op.ServerOp.TheVariants as server
+use Rattle.nats_wire.specs.declared.op.PeekedOp.{PeekedOp}
+use Rattle.nats_wire.specs.declared.op.PeekedOp.TheVariants as peeked
 use Rattle.nats_wire.specs.declared.decode.Word.{Word}
 use Rattle.nats_wire.specs.declared.decode.Word.TheVariants as word
 
@@ -31,6 +33,15 @@ op_view (server.Error error) = error_op error
 op_view server.Ok = ok_op
 op_view server.Ping = ping_op
 op_view server.Pong = pong_op
+
+-- the same of one that is handed on before it is consumed
+abbrev pub peeked_view : PeekedOp → Operation
+peeked_view (peeked.Message sid m) = message sid m.value
+peeked_view (peeked.Info info) = info_op info.value
+peeked_view (peeked.Error error) = error_op error
+peeked_view peeked.Ok = ok_op
+peeked_view peeked.Ping = ping_op
+peeked_view peeked.Pong = pong_op
 
 -- what stands at the front of a text: less than an operation, one operation in its first n bytes, or a fault that
 -- takes the first n bytes

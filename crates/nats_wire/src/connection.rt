@@ -8,7 +8,7 @@ ghost use Rattle.nats_wire.specs.Connection.{Looks, Reads};
 use crate::command;
 use crate::decode::{self, Sight};
 use crate::front::{Front, front_of};
-use crate::op::{ClientOp, ServerOp, WireError};
+use crate::op::{ClientOp, PeekedOp, ServerOp, WireError};
 use bytes::BytesMut;
 use nats_names::{Bytes, NoMemory};
 use std::alloc::Global;
@@ -17,11 +17,10 @@ use std::marker::Model;
 /// The number of waiting bytes from which on the write buffer counts as full. The crate's limit.
 pub const SOFT_WRITE_BUF_LIMIT: usize = 65_535;
 
-/// An operation at the front of the unread bytes, in a box of its own so that it costs little to hand on, and how many bytes
-/// it takes there.
+/// An operation at the front of the unread bytes, and how many bytes it takes there.
 #[derive(Debug, Drop, PartialEq, Eq)]
 pub struct Peeked {
-    pub op: Box<ServerOp>,
+    pub op: PeekedOp,
     pub len: usize,
 }
 
@@ -119,7 +118,7 @@ impl Connection {
             Ok(Front::Unfinished) => Ok(None),
             Ok(Front::Got(op, len)) => {
                 self.consume(len);
-                Ok(Some(Box::into_inner(op)))
+                Ok(Some(op.into_op()))
             }
             Ok(Front::Fault(n)) => {
                 self.consume(n);

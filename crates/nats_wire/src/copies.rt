@@ -2,13 +2,13 @@
 ghost use Rattle.std.specs.Prelude.{◌≡◌, IfOk, option_map};
 ghost use Rattle.nats_info.specs.Fields.{info_at};
 ghost use Rattle.nats_block.specs.Block.{block_of};
-ghost use Rattle.nats_wire.specs.Operations.{info_op, message, with_block, op_of};
-ghost use Rattle.nats_wire.specs.Decoder.{op_text_view, message_view, error_view, boxed_view};
+ghost use Rattle.nats_wire.specs.Operations.{info_op, message, with_block, peeked_view, op_of};
+ghost use Rattle.nats_wire.specs.Decoder.{op_text_view, message_view, error_view};
 
 use crate::decode::{MessageText, OpText};
 use crate::error_line::ErrorText;
 use crate::message::Message;
-use crate::op::ServerOp;
+use crate::op::PeekedOp;
 use nats_block::{BlockError, read_block};
 use nats_info::{InfoError, read_info};
 use nats_names::{Bytes, NoMemory, ServerError, Subject, Text};
@@ -47,14 +47,11 @@ fn error(alloc: Global, text: &ErrorText<'_>) -> Result<ServerError, NoMemory>
 }
 
 // The INFO of a text, where it has one.
-fn info(alloc: Global, text: &[u8]) -> Result<Option<Box<ServerOp>>, NoMemory>
-    ensures { IfOk result (λ op. option_map boxed_view op ≡ option_map info_op (info_at text.now)) }
+fn info(alloc: Global, text: &[u8]) -> Result<Option<PeekedOp>, NoMemory>
+    ensures { IfOk result (λ op. option_map peeked_view op ≡ option_map info_op (info_at text.now)) }
 {
     match read_info(alloc, text) {
-        Ok(info) => {
-            let info = Box::new(alloc, info)?;
-            Ok(Some(Box::new(alloc, ServerOp::Info(info))?))
-        }
+        Ok(info) => Ok(Some(PeekedOp::Info(Box::new(alloc, info)?))),
         Err(InfoError::Unreadable) => Ok(None),
         Err(InfoError::NoMemory) => Err(NoMemory),
     }
@@ -67,8 +64,8 @@ fn header_message(
     sid: u64,
     text: &MessageText<'_>,
     block: &[u8],
-) -> Result<Option<Box<ServerOp>>, NoMemory>
-    ensures { IfOk result (λ op. option_map boxed_view op
+) -> Result<Option<PeekedOp>, NoMemory>
+    ensures { IfOk result (λ op. option_map peeked_view op
         ≡ option_map (λ b. message sid (with_block (message_view text.now) b)) (block_of block.now)) }
 {
     match read_block(alloc, block) {
@@ -80,25 +77,26 @@ fn header_message(
                 description: block.description,
                 ..message
             };
-            Ok(Some(Box::new(alloc, ServerOp::Message { sid, message })?))
+            let message = Box::new(alloc, message)?;
+            Ok(Some(PeekedOp::Message { sid, message }))
         }
         Err(BlockError::Malformed) => Ok(None),
         Err(BlockError::NoMemory) => Err(NoMemory),
     }
 }
 
-/// The operation of a text, in a box of its own; `None` where it turns out to be none.
-pub fn operation(alloc: Global, text: &OpText<'_>) -> Result<Option<Box<ServerOp>>, NoMemory>
-    ensures { IfOk result (λ op. option_map boxed_view op ≡ op_of (op_text_view text.now)) }
+/// The operation of a text; `None` where it turns out to be none.
+pub fn operation(alloc: Global, text: &OpText<'_>) -> Result<Option<PeekedOp>, NoMemory>
+    ensures { IfOk result (λ op. option_map peeked_view op ≡ op_of (op_text_view text.now)) }
 {
-    let op = match text {
-        OpText::Ok => ServerOp::Ok,
-        OpText::Ping => ServerOp::Ping,
-        OpText::Pong => ServerOp::Pong,
-        OpText::Error(text) => ServerOp::Error(error(alloc, text)?),
-        OpText::Message { sid, message: text } => ServerOp::Message {
+    Ok(Some(match text {
+        OpText::Ok => PeekedOp::Ok,
+        OpText::Ping => PeekedOp::Ping,
+        OpText::Pong => PeekedOp::Pong,
+        OpText::Error(text) => PeekedOp::Error(error(alloc, text)?),
+        OpText::Message { sid, message: text } => PeekedOp::Message {
             sid: *sid,
-            message: message(alloc, text)?,
+            message: Box::new(alloc, message(alloc, text)?)?,
         },
         OpText::Info(text) => return info(alloc, text),
         OpText::HeaderMessage {
@@ -106,6 +104,5 @@ pub fn operation(alloc: Global, text: &OpText<'_>) -> Result<Option<Box<ServerOp
             message: text,
             block,
         } => return header_message(alloc, *sid, text, block),
-    };
-    Ok(Some(Box::new(alloc, op)?))
+    }))
 }

@@ -5,16 +5,16 @@ ghost use Rattle.nats_wire.specs.Decoder.{front_view, taken_by};
 
 use crate::copies;
 use crate::decode::{self, Sight};
-use crate::op::ServerOp;
+use crate::op::PeekedOp;
 use nats_names::NoMemory;
 use std::alloc::Global;
 
 /// What stands at the front of a text: less than an operation, one and the number of its bytes, or a fault that takes some
-/// bytes. An operation is boxed, so that it costs little to hand on.
+/// bytes.
 #[derive(Drop)]
 pub enum Front {
     Unfinished,
-    Got(Box<ServerOp>, usize),
+    Got(PeekedOp, usize),
     Fault(usize),
 }
 

@@ -19,7 +19,7 @@ pub use nats_connect::{ConnectInfo, Protocol};
 pub use nats_header::{HeaderError, HeaderMap, HeaderName, HeaderValue};
 pub use nats_info::ServerInfo;
 pub use nats_names::{Bytes, Event, NoMemory, Seq, ServerError, StatusCode, Subject, Text, Token};
-pub use op::{ClientOp, ServerOp, WireError};
+pub use op::{ClientOp, PeekedOp, ServerOp, WireError};
 
 #[cfg(test)]
 mod tests;

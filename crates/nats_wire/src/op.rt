@@ -1,5 +1,6 @@
 //! Operations: what a server sends, and what a client sends.
 ghost use Rattle.std.specs.Prelude.{◌≡◌, Some};
+ghost use Rattle.nats_wire.specs.Operations.{op_view, peeked_view};
 ghost use Rattle.nats_wire.specs.Wire.{wire_error_text};
 ghost use Rattle.nats_wire.specs.declared.op.WireError.TheVariants as refused;
 
@@ -26,6 +27,42 @@ pub enum ServerOp {
     Error(ServerError),
     /// The protocol's `MSG`, and `HMSG` with headers: a message delivered to the subscription `sid`.
     Message { sid: u64, message: Message },
+}
+
+/// A `ServerOp` as it is handed on before it is consumed: a message is in a box of its own, so that it costs little. Own type.
+#[derive(Debug, Drop, PartialEq, Eq)]
+pub enum PeekedOp {
+    /// The protocol's `+OK`.
+    Ok,
+    /// The protocol's `INFO`.
+    Info(Box<ServerInfo>),
+    /// The protocol's `PING`.
+    Ping,
+    /// The protocol's `PONG`.
+    Pong,
+    /// The protocol's `-ERR`.
+    Error(ServerError),
+    /// The protocol's `MSG` or `HMSG`.
+    Message { sid: u64, message: Box<Message> },
+}
+
+impl PeekedOp {
+    /// The operation itself. It takes no memory.
+    pub fn into_op(self) -> ServerOp
+        ensures { op_view result ≡ peeked_view self }
+    {
+        match self {
+            PeekedOp::Ok => ServerOp::Ok,
+            PeekedOp::Info(info) => ServerOp::Info(info),
+            PeekedOp::Ping => ServerOp::Ping,
+            PeekedOp::Pong => ServerOp::Pong,
+            PeekedOp::Error(error) => ServerOp::Error(error),
+            PeekedOp::Message { sid, message } => ServerOp::Message {
+                sid,
+                message: Box::into_inner(message),
+            },
+        }
+    }
 }
 
 /// An operation for the server, by the NATS client protocol. The crate's `ClientOp`.
