@@ -8,7 +8,7 @@ use Rattle.nats_names.specs.declared.event.Event.TheVariants.{SlowConsumer}
 use Rattle.nats_wire.specs.declared.op.ClientOp.TheVariants as client
 use Rattle.nats_wire.specs.Commands.{command_text}
 use Rattle.nats_wire.specs.declared.message.Message.{Message}
-use Rattle.nats_wire.specs.Operations.{Operation, message, op_view, got, front}
+use Rattle.nats_wire.specs.Operations.{Operation, message, peeked_view, got, front}
 use Rattle.nats_wire.specs.Wire.{fresh}
 use Rattle.nats_history.specs.declared.config.Config.{Config}
 use Rattle.nats_history.specs.declared.call.Call.{Call}
@@ -173,8 +173,8 @@ seen_handled (Some call) old = seen_after old (handled call)
 abbrev pub Sees : Parts → Look → Type 0
 Sees p looks.Nothing = due p ≡ None
 Sees p (looks.Read peeked) =
-    (due p ≡ Some (read (op_view peeked.op.value)))
-    × (front p.link.wire.unread ≡ got (op_view peeked.op.value) peeked.len)
+    (due p ≡ Some (read (peeked_view peeked.op)))
+    × (front p.link.wire.unread ≡ got (peeked_view peeked.op) peeked.len)
     × (peeked.len ≤ length p.link.wire.unread) × (p.link.is_up ≡ true)
 Sees p looks.Fault = due p ≡ Some (link_end word.Fault)
 Sees p looks.Command = (due p ≡ handled_first p) × (is_some (first p.calls) ≡ true) × (p.link.is_up ≡ true)

@@ -1,7 +1,7 @@
 -- Turns over parts and a sheet alone: what playing leaves, with each event handed out as it comes.
 use Rattle.std.specs.Prelude.{◌≡◌, ℕ, suc, Bool, true, false, List, [], ◌∷◌, ◌++◌, Option, Some, None, if◌then◌else◌}
 use Rattle.nats_wire.specs.declared.message.Message.{Message}
-use Rattle.nats_wire.specs.Operations.{Operation, message, op_view}
+use Rattle.nats_wire.specs.Operations.{Operation, message, peeked_view}
 use Rattle.nats_history.specs.declared.transcript.LinkWord.{LinkWord}
 use Rattle.nats_history.specs.declared.turn.Turn.{Turn}
 use Rattle.nats_history.specs.declared.turn.Turn.TheVariants.{Do, Take}
@@ -105,7 +105,7 @@ write_before place p next sheet = sheet
 
 -- the same of a look
 abbrev pub write_look : ℕ → Parts → Look → Sheet → Sheet
-write_look place p (looks.Read peeked) sheet = write_op place p (op_view peeked.op.value) sheet
+write_look place p (looks.Read peeked) sheet = write_op place p (peeked_view peeked.op) sheet
 write_look place p looks.Nothing sheet = sheet
 write_look place p looks.Fault sheet = sheet
 write_look place p looks.Command sheet = sheet

@@ -12,7 +12,7 @@ use crate::handler::{ConnectionHandler, Look};
 use nats_draft::{Draft, Note};
 use nats_history::{Call, Config, LinkWord, NoMemory, RunError, ServerInfo, Transcript, Turn};
 use nats_subs::Delivery;
-use nats_wire::ServerOp;
+use nats_wire::PeekedOp;
 use std::alloc::Global;
 
 fn play_up(
@@ -233,16 +233,16 @@ fn note_coming(
     let Look::Read(peeked) = look else {
         return Ok(());
     };
-    match &*peeked.op {
-        ServerOp::Message { sid, message } => match handler.delivery(*sid) {
+    match &peeked.op {
+        PeekedOp::Message { sid, message } => match handler.delivery(*sid) {
             Delivery::Put => draft.note_put(alloc, place, *sid, message),
             Delivery::Dropped | Delivery::Unwanted | Delivery::Ignored => Ok(()),
         },
-        ServerOp::Ok
-        | ServerOp::Info(_)
-        | ServerOp::Ping
-        | ServerOp::Pong
-        | ServerOp::Error(_) => Ok(()),
+        PeekedOp::Ok
+        | PeekedOp::Info(_)
+        | PeekedOp::Ping
+        | PeekedOp::Pong
+        | PeekedOp::Error(_) => Ok(()),
     }
 }
 

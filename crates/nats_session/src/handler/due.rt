@@ -1,7 +1,7 @@
 //! Due steps.
 ghost use Rattle.std.specs.Prelude.{◌≡◌, ◌++◌, ◌≤◌, length, OnOk, OnErr, IfOk, IsTrue, true, is_some};
 ghost use Rattle.nats_wire.specs.declared.op.ClientOp.TheVariants as client;
-ghost use Rattle.nats_wire.specs.Operations.{front, unfinished, got, op_view};
+ghost use Rattle.nats_wire.specs.Operations.{front, unfinished, got, peeked_view};
 ghost use Rattle.nats_wire.specs.Commands.{command_text};
 ghost use Rattle.nats_history.specs.declared.transcript.LinkWord.TheVariants.{Fault};
 ghost use Rattle.nats_history.specs.declared.turn.Due.TheVariants as due_names;
@@ -20,7 +20,7 @@ use nats_history::{
     Call, Config, Due, Event, LinkWord, Message, NoMemory, OutboundMessage, Subject,
 };
 use nats_subs::{Alteration, Delivery, Subscriptions};
-use nats_wire::{ClientOp, Connection, Peeked, ServerOp, WireError, copy_headers, copy_subject};
+use nats_wire::{ClientOp, Connection, Peeked, PeekedOp, WireError, copy_headers, copy_subject};
 use std::alloc::Global;
 
 /// Which step is due.
@@ -244,41 +244,41 @@ impl ConnectionHandler {
     fn handle_server_op(&mut self, alloc: Global, peeked: Peeked) -> Result<Due, NoMemory>
         requires fits { peeked.len ≤ length self.old.parts.link.wire.unread }
         requires up { IsTrue self.old.parts.link.is_up }
-        requires front { front self.old.parts.link.wire.unread ≡ got (op_view peeked.op.value) peeked.len }
-        ensures ok { OnOk result (self.new ≡ seen_after self.old (read (op_view peeked.op.value))) }
-        ensures name { IfOk result (λ name. name ≡ own_name self.old.parts (read (op_view peeked.op.value))) }
+        requires front { front self.old.parts.link.wire.unread ≡ got (peeked_view peeked.op) peeked.len }
+        ensures ok { OnOk result (self.new ≡ seen_after self.old (read (peeked_view peeked.op))) }
+        ensures name { IfOk result (λ name. name ≡ own_name self.old.parts (read (peeked_view peeked.op))) }
         ensures err { OnErr result (self.new ≡ self.old) }
     {
         let Peeked { op, len } = peeked;
-        match Box::into_inner(op) {
-            ServerOp::Message { sid, message } => {
+        match op {
+            PeekedOp::Message { sid, message } => {
                 let name = self.read_message(alloc, sid, message);
                 if name.is_ok() {
                     self.connection.consume(len);
                 }
                 name
             }
-            ServerOp::Ping => {
+            PeekedOp::Ping => {
                 self.connection.enqueue_write_op(alloc, &ClientOp::Pong)?;
                 self.connection.consume(len);
                 Ok(Due::Read)
             }
-            ServerOp::Error(error) => {
+            PeekedOp::Error(error) => {
                 self.events.push(Event::ServerError(error))?;
                 self.connection.consume(len);
                 Ok(Due::Read)
             }
-            ServerOp::Info(info) => {
+            PeekedOp::Info(info) => {
                 self.note_info(info.lame_duck_mode)?;
                 self.connection.consume(len);
                 Ok(Due::Read)
             }
-            ServerOp::Pong => {
+            PeekedOp::Pong => {
                 self.pings = self.pings.saturating_sub(1);
                 self.connection.consume(len);
                 Ok(Due::Read)
             }
-            ServerOp::Ok => {
+            PeekedOp::Ok => {
                 self.connection.consume(len);
                 Ok(Due::Read)
             }
@@ -297,9 +297,14 @@ impl ConnectionHandler {
     }
 
     /// Brings a message to its subscription.
-    fn read_message(&mut self, alloc: Global, sid: u64, message: Message) -> Result<Due, NoMemory>
-        ensures ok { OnOk result (self.new ≡ after_message sid message (delivery_of self.old.parts sid) self.old) }
-        ensures name { IfOk result (λ name. name ≡ delivery_name sid message (delivery_of self.old.parts sid)) }
+    fn read_message(
+        &mut self,
+        alloc: Global,
+        sid: u64,
+        message: Box<Message>,
+    ) -> Result<Due, NoMemory>
+        ensures ok { OnOk result (self.new ≡ after_message sid message.value (delivery_of self.old.parts sid) self.old) }
+        ensures name { IfOk result (λ name. name ≡ delivery_name sid message.value (delivery_of self.old.parts sid)) }
         ensures err { OnErr result (self.new ≡ self.old) }
     {
         match self.delivery(sid) {
@@ -309,7 +314,7 @@ impl ConnectionHandler {
             }
             Delivery::Dropped => {
                 self.events.push(Event::SlowConsumer(sid))?;
-                Ok(Due::Dropped(sid, message))
+                Ok(Due::Dropped(sid, Box::into_inner(message)))
             }
             Delivery::Unwanted => {
                 self.end_unwanted(alloc, sid)?;

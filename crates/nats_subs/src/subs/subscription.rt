@@ -129,13 +129,13 @@ impl Change<Subscription> for Take {
 #[derive(Drop)]
 pub struct Arrival<'a> {
     pub config: &'a Config,
-    pub message: Message,
+    pub message: Box<Message>,
 }
 
 impl TryChange<Subscription> for Arrival<'_> {
     type Answer = ();
 
-    ghost changes = { λ a. deliver a.config.now a.message };
+    ghost changes = { λ a. deliver a.config.now a.message.value };
 
     ghost answers = { λ _ _. record {} };
 
@@ -272,14 +272,14 @@ impl Subscription {
     }
 
     /// Takes in a message where it is open, not shut, and has room.
-    pub fn deliver(&mut self, config: &Config, message: Message) -> Result<(), NoMemory>
-        ensures ok { OnOk result (self.new ≡ deliver config.now message self.old) }
+    pub fn deliver(&mut self, config: &Config, message: Box<Message>) -> Result<(), NoMemory>
+        ensures ok { OnOk result (self.new ≡ deliver config.now message.value self.old) }
         ensures err { OnErr result (self.new ≡ self.old) }
     {
         if !self.is_open() || self.is_shut || !self.has_room(config) {
             return Ok(());
         }
-        self.waiting.append(message)?;
+        self.waiting.append(Box::into_inner(message))?;
         self.puts = self.puts.saturating_add(1);
         self.stage = ended_if(is_reached(self.limit, self.puts), self.stage);
         Ok(())
