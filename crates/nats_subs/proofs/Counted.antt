@@ -7,12 +7,14 @@ use Rattle.nats_tables.specs.Numbers.{at_index, at_number, item_of}
 use Rattle.nats_tables.specs.Rows.{kept_row}
 use Rattle.nats_tables.proofs.Numbers.{length-at_number}
 use Rattle.nats_history.specs.declared.call.Interest.{Interest}
-use Rattle.nats_history.specs.History.{Sub, is_open, is_ended, is_over, kept, subscribed_again, again, all_again}
+use Rattle.nats_history.specs.History.{Sub, is_open, is_ended, is_over, kept, unsubscribe_command, subscribed_again, commands_from}
 use Rattle.nats_history.specs.Parts.{Subs}
 use Rattle.nats_history.specs.After.{new_sub}
 use Rattle.nats_history.proofs.Rows.{both_true, ended_is}
 use Rattle.nats_subs.specs.declared.subs.subscription.Alteration.TheVariants as alterations
-use Rattle.nats_subs.specs.Delivery.{altered, asked_sub, asking, rows_with, rows_named, given_one, subscribed_one, again_at}
+use Rattle.nats_subs.specs.Delivery.{altered, asked_sub, asking, rows_with, rows_named, given_one, subscribed_one, commands_by, commands_at}
+use Rattle.nats_subs.specs.declared.subs.subscription.Texts.{Texts}
+use Rattle.nats_subs.specs.declared.subs.subscription.Texts.TheVariants as which
 
 abbrev pub as_subs : ℕ → List Sub → Subs
 as_subs subscribed rows = record { given = length rows; subscribed = subscribed; rows = rows }
@@ -82,49 +84,54 @@ one_given subscribed asked rows new is =
     ∙ (ap (λ n. record (as_subs subscribed (rows ++ asked_sub asked ∷ [])) { given = n }) more
     ∙ ap (λ rs. record (as_subs subscribed rows) { given = suc (length rows); rows = rs }) (sym (at_last (asking asked) rows new_sub)))
 
--- ---- subscribing again
+-- ---- commands of each
 
--- one that is over is not subscribed again
-pub again_kept : (s : ℕ) (row : Option Sub) → again_at s (kept_row is_over row) ≡ again_at s row
-again_kept s None = refl
-again_kept s (Some sub) = by_over (is_over sub) refl
+-- one that is over has none
+over_quiet : (t : Texts) (s : ℕ) (sub : Sub) → is_over sub ≡ true → commands_by t s sub ≡ []
+over_quiet which.Again s sub over =
+    ap (λ stage. cond (is_open stage && not sub.is_shut) (subscribed_again s sub sub.interest) []) (ended_is sub.stage (both_true sub.is_gone (is_ended sub.stage) over).1)
+over_quiet which.Unsubscribe s sub over =
+    ap (λ stage. unsubscribe_command (is_open stage) s None) (ended_is sub.stage (both_true sub.is_gone (is_ended sub.stage) over).1)
+
+pub commands_kept : (t : Texts) (s : ℕ) (row : Option Sub) → commands_at t s (kept_row is_over row) ≡ commands_at t s row
+commands_kept t s None = refl
+commands_kept t s (Some sub) = by_over (is_over sub) refl
   where
-    by_over : (b : Bool) → is_over sub ≡ b → again_at s (cond b None (Some sub)) ≡ again s sub
-    by_over true over =
-        sym (ap (λ stage. cond (is_open stage && not sub.is_shut) (subscribed_again s sub sub.interest) []) (ended_is sub.stage (both_true sub.is_gone (is_ended sub.stage) over).1))
+    by_over : (b : Bool) → is_over sub ≡ b → commands_at t s (cond b None (Some sub)) ≡ commands_by t s sub
+    by_over true over = sym (over_quiet t s sub over)
     by_over false over = refl
 
 -- the commands of the first rows
-abbrev pub again_to : ℕ → ℕ → List Sub → List ClientOp
-again_to zero s rows = []
-again_to (suc i) s [] = []
-again_to (suc i) s (sub ∷ more) = again s sub ++ again_to i (suc s) more
+abbrev pub commands_to : Texts → ℕ → ℕ → List Sub → List ClientOp
+commands_to t zero s rows = []
+commands_to t (suc i) s [] = []
+commands_to t (suc i) s (sub ∷ more) = commands_by t s sub ++ commands_to t i (suc s) more
 
-again_next : (i s : ℕ) (rows : List Sub) → again_to (suc i) s rows ≡ again_to i s rows ++ again_at (s + i) (slice_get rows i)
-again_next zero s [] = refl
-again_next zero s (sub ∷ more) =
+commands_next : (t : Texts) (i s : ℕ) (rows : List Sub) → commands_to t (suc i) s rows ≡ commands_to t i s rows ++ commands_at t (s + i) (slice_get rows i)
+commands_next t zero s [] = refl
+commands_next t zero s (sub ∷ more) =
     let same : s ≡ s + 0 = omega arith in
-    append-nil (again s sub) ∙ ap (λ k. again k sub) same
-again_next (suc i) s [] = refl
-again_next (suc i) s (sub ∷ more) =
+    append-nil (commands_by t s sub) ∙ ap (λ k. commands_by t k sub) same
+commands_next t (suc i) s [] = refl
+commands_next t (suc i) s (sub ∷ more) =
     let same : suc s + i ≡ s + suc i = omega arith in
-    ap (λ ops. again s sub ++ ops) (again_next i (suc s) more ∙ ap (λ k. again_to i (suc s) more ++ again_at k (slice_get more i)) same)
-    ∙ sym (append_assoc (again s sub) (again_to i (suc s) more) (again_at (s + suc i) (slice_get more i)))
+    ap (λ ops. commands_by t s sub ++ ops) (commands_next t i (suc s) more ∙ ap (λ k. commands_to t i (suc s) more ++ commands_at t k (slice_get more i)) same)
+    ∙ sym (append_assoc (commands_by t s sub) (commands_to t i (suc s) more) (commands_at t (s + suc i) (slice_get more i)))
 
 -- one more row's, by its number
-pub one_again : (i : ℕ) (rows : List Sub) (old new : List ClientOp) → old ≡ again_to i 1 rows → new ≡ old ++ again_at (i + 1) (item_of (i + 1) rows)
-    → new ≡ again_to (i + 1) 1 rows
-one_again i rows old new before is =
+pub one_command : (t : Texts) (i : ℕ) (rows : List Sub) (old new : List ClientOp) → old ≡ commands_to t i 1 rows → new ≡ old ++ commands_at t (i + 1) (item_of (i + 1) rows)
+    → new ≡ commands_to t (i + 1) 1 rows
+one_command t i rows old new before is =
     let next = add-one i in
     let same : suc i ≡ 1 + i = omega arith in
     is
-    ∙ (ap (λ ops. ops ++ again_at (i + 1) (item_of (i + 1) rows)) before
-    ∙ (ap (λ k. again_to i 1 rows ++ again_at k (item_of k rows)) next
-    ∙ (ap (λ k. again_to i 1 rows ++ again_at k (slice_get rows i)) same
-    ∙ (sym (again_next i 1 rows) ∙ ap (λ k. again_to k 1 rows) (sym next)))))
+    ∙ (ap (λ ops. ops ++ commands_at t (i + 1) (item_of (i + 1) rows)) before
+    ∙ (ap (λ k. commands_to t i 1 rows ++ commands_at t k (item_of k rows)) next
+    ∙ (ap (λ k. commands_to t i 1 rows ++ commands_at t k (slice_get rows i)) same
+    ∙ (sym (commands_next t i 1 rows) ∙ ap (λ k. commands_to t k 1 rows) (sym next)))))
 
-pub again_all : (i s : ℕ) (rows : List Sub) → length rows ≤ i → again_to i s rows ≡ all_again s rows
-again_all zero s [] past = refl
-again_all zero s (sub ∷ more) past = absurd (omega arith)
-again_all (suc i) s [] past = refl
-again_all (suc i) s (sub ∷ more) past = ap (λ ops. again s sub ++ ops) (again_all i (suc s) more (omega arith))
+pub commands_all : (t : Texts) (i s : ℕ) (rows : List Sub) → length rows ≤ i → commands_to t i s rows ≡ commands_from (commands_by t) s rows
+commands_all t zero s [] past = refl
+commands_all t zero s (sub ∷ more) past = absurd (omega arith)
+commands_all t (suc i) s [] past = refl
+commands_all t (suc i) s (sub ∷ more) past = ap (λ ops. commands_by t s sub ++ ops) (commands_all t i (suc s) more (omega arith))
