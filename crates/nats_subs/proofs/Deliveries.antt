@@ -1,7 +1,6 @@
 -- What a message that comes makes of its subscription, by what becomes of it.
 use Rattle.std.proofs.Common.{◌≡◌, ℕ, suc, Bool, true, false, not, cond, ◌&&◌, ◌||◌, List, [], ◌∷◌, ◌++◌, Option, Some, None, refl, sym, ◌∙◌, ap}
 use Rattle.std.proofs.lemmas.Bool.{false≢true}
-use Rattle.nats_names.specs.declared.event.Event.{Event}
 use Rattle.nats_names.specs.declared.event.Event.TheVariants.{SlowConsumer}
 use Rattle.nats_wire.specs.declared.message.Message.{Message}
 use Rattle.nats_history.specs.declared.config.Config.{Config}

@@ -1,5 +1,5 @@
 //! The PINGs of a link that wait for their PONGs.
-ghost use Rattle.std.specs.Prelude.{◌≡◌, [], ◌∷◌, ◌++◌, drop, OnOk, OnErr, Some};
+ghost use Rattle.std.specs.Prelude.{◌≡◌, ◌<◌, [], ◌∷◌, ◌++◌, length, drop, OnOk, OnErr, Some};
 ghost use Rattle.nats_history.specs.Queue.{first};
 ghost use Rattle.nats_history.specs.History.{tick_of, ticks};
 
@@ -12,7 +12,7 @@ use std::marker::Model;
 #[derive(Drop)]
 pub struct Pings {
     waiting: Queue<Ping>,
-    ticks: u64,
+    tick_count: u64,
 }
 
 impl Model for Pings {
@@ -24,7 +24,7 @@ impl Model for Pings {
 
     ghost view = { λ p. p.waiting };
 
-    ghost invariant = { λ p. p.ticks ≡ ticks p.waiting };
+    ghost invariant = { λ p. p.tick_count ≡ ticks p.waiting };
 }
 
 fn tick_of(ping: Ping) -> u64
@@ -43,7 +43,7 @@ impl Pings {
     {
         Pings {
             waiting: Queue::new(alloc),
-            ticks: 0,
+            tick_count: 0,
         }
     }
 
@@ -51,7 +51,7 @@ impl Pings {
     pub fn ticks(&self) -> u64
         ensures { result ≡ ticks self.now }
     {
-        self.ticks
+        self.tick_count
     }
 
     /// The oldest one.
@@ -66,22 +66,23 @@ impl Pings {
         ensures ok { OnOk result (self.new ≡ self.old ++ ping ∷ []) }
         ensures err { OnErr result (self.new ≡ self.old) }
     {
-        let Some(ticks) = self.ticks.checked_add(tick_of(ping)) else {
+        let Some(ticks) = self.tick_count.checked_add(tick_of(ping)) else {
             return Err(NoMemory);
         };
         let Ok(()) = self.waiting.push(ping) else {
             return Err(NoMemory);
         };
-        self.ticks = ticks;
+        self.tick_count = ticks;
         Ok(())
     }
 
     /// The youngest one is not written after all.
     pub fn pop_back(&mut self)
+        requires { 0 < length self.old }
         ensures { (pings : _) (ping : _) → self.old ≡ pings ++ ping ∷ [] → self.new ≡ pings }
     {
         if let Some(ping) = self.waiting.pop_back() {
-            self.ticks -= tick_of(ping);
+            self.tick_count -= tick_of(ping);
         }
     }
 
@@ -90,7 +91,7 @@ impl Pings {
         ensures { self.new ≡ drop 1 self.old }
     {
         if let Some(ping) = self.waiting.pop() {
-            self.ticks -= tick_of(ping);
+            self.tick_count -= tick_of(ping);
         }
     }
 
@@ -99,6 +100,6 @@ impl Pings {
         ensures { self.new ≡ [] }
     {
         self.waiting.clear();
-        self.ticks = 0;
+        self.tick_count = 0;
     }
 }

@@ -1,5 +1,5 @@
 -- One row after another.
-use Rattle.std.proofs.Common.{refl, ◌∙◌, ap, arith}
+use Rattle.std.proofs.Common.{refl, ◌∙◌, arith}
 use Rattle.nats_history.specs.History.{Sub, kept}
 use Rattle.nats_subs.specs.Delivery.{altered}
 use Rattle.nats_subs.proofs.Counted.{one_changed, changed_all}
