@@ -67,18 +67,18 @@ left old end true = refl
 left old end false = refl
 
 -- the same by what the fields of the handler became
-pub left_by : (seen old new : Seen) (end : LinkWord) (b : Bool) (events : List Event) → seen ≡ old → b ≡ closes seen.parts.drain.is_handled end
+pub left_by : (seen old new : Seen) (end : LinkWord) (b : Bool) (events : List Event) → seen ≡ old → b ≡ closes old.parts.drain.is_handled end
     → events ≡ push_all (close_events b) (push_all (end_events end) seen.events) → new ≡ record { parts = after_all seen.parts (link_end word.Hangup ∷ closing b); events = events }
     → new ≡ seen_all old (chain old.parts (link_end end))
 left_by seen old new end b events same closing_is es is =
     is
     ∙ (ap (λ e. record { parts = after_all seen.parts (link_end word.Hangup ∷ closing b); events = e }) es
     ∙ (left seen end b
-    ∙ (ap (λ x. seen_all seen (link_end end ∷ closing x)) closing_is ∙ ap (λ (s : Seen). seen_all s (chain s.parts (link_end end))) same)))
+    ∙ (ap (λ (s : Seen). seen_all s (link_end end ∷ closing b)) same ∙ ap (λ x. seen_all old (link_end end ∷ closing x)) closing_is)))
 
 -- a call by which it ends
 pub last_by : (seen old new : Seen) (end : LinkWord) (b : Bool) (calls : List Call) (events : List Event) → seen ≡ old → command_end (first old.parts.calls) ≡ Some end
-    → b ≡ closes seen.parts.drain.is_handled end → calls ≡ drop 1 seen.parts.calls → events ≡ push_all (close_events b) (push_all (end_events end) seen.events)
+    → b ≡ closes old.parts.drain.is_handled end → calls ≡ drop 1 seen.parts.calls → events ≡ push_all (close_events b) (push_all (end_events end) seen.events)
     → new ≡ record { parts = after_all (record seen.parts { calls = calls }) (link_end word.Hangup ∷ closing b); events = events }
     → Advances (handled_first old.parts) old due_names.Ended new
 last_by seen old new end b calls events same ends closing_is a es is = by_first (first old.parts.calls) ends
@@ -107,6 +107,14 @@ pub answered : (old : Seen) (n : ℕ) → front old.parts.link.wire.unread ≡ g
     → consumed n (pong_read old) ≡ seen_all old (chain old.parts (read pong_op))
 answered old n here none =
     sym (ap (λ end. seen_all (seen_after old (read pong_op)) (ending old.parts.drain.is_handled end)) none ∙ ap (with_unread (pong_read old)) (ap (λ f. past f old.parts.link.wire.unread) here))
+
+-- the same by what the fields of the handler became
+pub answered_by : (seen old : Seen) (wire : Wire) (n : ℕ) → seen ≡ pong_read old → wire ≡ record seen.parts.link.wire { unread = drop n seen.parts.link.wire.unread }
+    → front old.parts.link.wire.unread ≡ got pong_op n → pong_end (first old.parts.link.pings) ≡ None
+    → record seen { parts = record seen.parts { link = record seen.parts.link { wire = wire } } } ≡ seen_all old (chain old.parts (read pong_op))
+answered_by seen old wire n same is here none =
+    ap (λ w. record seen { parts = record seen.parts { link = record seen.parts.link { wire = w } } }) is
+    ∙ (ap (consumed n) same ∙ answered old n here none)
 
 drains_none : (ping : Option Ping) (end : LinkWord) → pong_end ping ≡ Some end → drained_by ping ≡ nobody
 drains_none None end e = absurd (none-some end e)

@@ -1,5 +1,5 @@
 //! What a call asks for, and which calls may not be accepted.
-ghost use Rattle.std.specs.Prelude.{◌≡◌, ◌<◌, ◌^◌, IfOk};
+ghost use Rattle.std.specs.Prelude.{◌≡◌, ◌<◌, ◌^◌, ◌||◌, IfOk};
 ghost use Rattle.nats_wire.specs.Commands.{sent_block};
 ghost use Rattle.nats_wire.specs.Operations.{length_or_0};
 ghost use Rattle.nats_history.specs.History.{asks, subscribes, shuts, drains_all, lets_go};
@@ -93,6 +93,13 @@ pub fn drains_all(call: &Call) -> bool
         | Call::DropSub(_)
         | Call::Reconnect => false,
     }
+}
+
+/// Whether a drain of the whole session was accepted once this call is too.
+pub fn is_drained_with(call: &Call, before: bool) -> bool
+    ensures { result ≡ (drains_all call.now || before) }
+{
+    drains_all(call) || before
 }
 
 /// The subscription that the user of a call lets go, whatever the reply.

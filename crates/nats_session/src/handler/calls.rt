@@ -8,7 +8,7 @@ ghost use Rattle.nats_history.specs.Schedule.{own_steps, due, due_chain, take_re
 ghost use Rattle.nats_session.specs.Handler.{LeadTo, TakesIn, Submits, Advances, can_play, seen_after, seen_all};
 
 use super::{ConnectionHandler, TICK_LIMIT};
-use crate::refusals::{drains_all, interest_of, lets_go, shuts};
+use crate::refusals::{interest_of, is_drained_with, lets_go, shuts};
 use nats_history::{
     Bytes, Call, CallReply, Due, Event, LinkWord, NoMemory, Ping, ServerInfo, TakeReply,
 };
@@ -208,12 +208,12 @@ impl ConnectionHandler {
             return Err(call);
         };
         let shut = shuts(&call);
-        let is_whole = drains_all(&call);
+        let drained = is_drained_with(&call, self.drain_accepted);
         if let Err(refused) = self.calls.push(call) {
             return Err(refused.value);
         }
         let Some(interest) = interest else {
-            self.drain_accepted = is_whole || self.drain_accepted;
+            self.drain_accepted = drained;
             self.subs.alter_named(shut, Alteration::Shut);
             return Ok(CallReply::Accepted);
         };
