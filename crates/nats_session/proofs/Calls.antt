@@ -7,9 +7,9 @@ use Rattle.nats_history.specs.declared.call.CallReply.{CallReply}
 use Rattle.nats_history.specs.declared.call.CallReply.TheVariants.{Accepted, Numbered, InvalidSubject, InvalidQueueName, MaxPayloadExceeded, Closed, NoNumber, Full}
 use Rattle.nats_history.specs.declared.turn.Turn.TheVariants.{Do}
 use Rattle.nats_history.specs.declared.transcript.SubRow.{SubRow}
-use Rattle.nats_history.specs.History.{Step, accepted, subscribes, lets_go}
+use Rattle.nats_history.specs.History.{accepted, subscribes, lets_go}
 use Rattle.nats_history.specs.Parts.{Parts}
-use Rattle.nats_history.specs.Schedule.{has_subjects, has_group, size_of, has_no_number, is_full, takes_no_call, refusal, accepted_reply, reply_by, call_reply, accepted_step, gone_step, call_steps}
+use Rattle.nats_history.specs.Schedule.{has_subjects, has_group, size_of, has_no_number, is_full, takes_no_call, refusal, accepted_reply, reply_by, call_reply, accepted_step, gone_step}
 use Rattle.nats_history.specs.Transcripts.{called}
 use Rattle.nats_history.specs.After.{after}
 use Rattle.nats_session.specs.Sheet.{Sheet, new_row, added, write_answer}

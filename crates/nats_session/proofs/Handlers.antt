@@ -1,6 +1,6 @@
 -- Laws on a handler as it is seen.
 use Rattle.std.proofs.Common.{◌≡◌, ℕ, zero, suc, ◌≤◌, List, [], ◌∷◌, ◌++◌, length, drop, map, Option, Some, None, Result, Ok, Err, OnOk, OnErr, IfOk, Bool, true, false, not, cond, is_some, ◌&&◌, ◌||◌, refl, sym, ◌∙◌, ap, subst, arith}
-use Rattle.std.proofs.lemmas.List.{append-nil, append_assoc, map-append, length-append, length-map, drop-append-le, drop-drop, length-drop}
+use Rattle.std.proofs.lemmas.List.{append-nil, append_assoc, map-append, length-append, length-map, drop-append-le, length-drop}
 use Rattle.std.proofs.lemmas.Bool.{false≢true}
 use Rattle.std.proofs.lemmas.Option.{none-some}
 use Rattle.std.proofs.lemmas.Result.{on_ok_weaker}
@@ -19,8 +19,8 @@ use Rattle.nats_history.specs.declared.turn.Turn.TheVariants.{Do, Take}
 use Rattle.nats_history.specs.declared.turn.Due.{Due}
 use Rattle.nats_history.specs.Queue.{first}
 use Rattle.nats_tables.specs.Numbers.{only, at_number, item_of, named, change}
-use Rattle.nats_history.specs.History.{Step, accepted, took, History, asks, subscribes, shuts, drains_all, lets_go, interest_by, Sub, is_ended, forgotten, kept, second, events_by, at_place, events}
-use Rattle.nats_history.specs.Parts.{Subs, Parts, parts_of}
+use Rattle.nats_history.specs.History.{Step, accepted, took, History, asks, shuts, drains_all, lets_go, interest_by, Sub, is_ended, forgotten, kept, second, events_by, at_place, events}
+use Rattle.nats_history.specs.Parts.{Subs, Parts}
 use Rattle.nats_history.specs.Schedule.{refusal, reply_by, accepted_reply, call_reply, accepted_step, gone_step, call_steps, is_closed_sub, oldest, sub_take, take_reply_of, take_reply, is_there, took_step, own_steps, due, put_steps, chain, due_chain}
 use Rattle.nats_history.specs.After.{new_sub, sub_after, subs_after, after, after_all, events_of}
 use Rattle.nats_history.proofs.Refines.{parts_after}
@@ -28,7 +28,7 @@ use Rattle.nats_tables.proofs.Numbers.{at_number_same, agree_at}
 use Rattle.nats_subs.specs.declared.subs.subscription.Alteration.TheVariants as alterations
 use Rattle.nats_subs.specs.Delivery.{take_from, given_one, rows_named, with_rows}
 use Rattle.nats_session.specs.Machine.{quiet}
-use Rattle.nats_session.specs.Handler.{Seen, HandedOut, StandsFor, push_all, seen_after, seen_all, LeadTo, can_play, Advances, Answers, Submits, next_of, handed, HandsOut}
+use Rattle.nats_session.specs.Handler.{Seen, HandedOut, StandsFor, push_all, seen_after, seen_all, LeadTo, can_play, Advances, Answers, Submits, handed, HandsOut}
 
 -- ---- a take where nothing waits changes nothing
 

@@ -1,16 +1,13 @@
 -- Laws on due steps as they are played, written and played out.
 use Rattle.std.specs.Option.{option_map}
-use Rattle.std.proofs.Common.{◌≡◌, ℕ, zero, suc, ◌<◌, Bool, true, false, cond, ◌&&◌, List, [], ◌∷◌, ◌++◌, Option, Some, None, is_some, refl, sym, ◌∙◌, ap, subst}
+use Rattle.std.proofs.Common.{◌≡◌, ℕ, ◌<◌, Bool, true, false, cond, List, [], ◌∷◌, ◌++◌, Option, Some, None, is_some, refl, sym, ◌∙◌, ap, subst}
 use Rattle.std.proofs.lemmas.Bool.{false≢true}
 use Rattle.std.proofs.lemmas.Option.{none-some, same_Some}
-use Rattle.nats_names.specs.declared.event.Event.{Event}
 use Rattle.nats_wire.specs.declared.message.Message.{Message}
-use Rattle.nats_wire.specs.Operations.{Operation, message, pong_op, Front, got, unfinished, fault, front}
+use Rattle.nats_wire.specs.Operations.{message, pong_op, Front, got, unfinished, fault, front}
 use Rattle.nats_history.specs.declared.config.Config.{Config}
 use Rattle.nats_history.specs.declared.call.Call.{Call}
 use Rattle.nats_history.specs.declared.call.Call.TheVariants.{Reconnect}
-use Rattle.nats_history.specs.declared.call.TakeReply.{TakeReply}
-use Rattle.nats_history.specs.declared.call.TakeReply.TheVariants as takes
 use Rattle.nats_history.specs.declared.turn.Due.{Due}
 use Rattle.nats_history.specs.declared.turn.Due.TheVariants as due_names
 use Rattle.nats_session.specs.declared.handler.due.Look.{Look}
@@ -31,7 +28,7 @@ use Rattle.nats_history.proofs.Dues.{bound_falls, none_due, one_due, after_appen
 use Rattle.nats_subs.specs.Delivery.{delivery_at}
 use Rattle.nats_session.specs.Handler.{Seen, delivery_name, end_in, ended_or, name_of, Advances, Sees, is_nothing, look_message, step_message, message_in}
 use Rattle.nats_session.specs.Sheet.{Sheet, write_drop, write_delivery, write_events}
-use Rattle.nats_session.specs.Machine.{quiet, sheet_noted, sheet_recorded, sheet_written, settled_parts, settled_sheet, write_end, write_due, Notes}
+use Rattle.nats_session.specs.Machine.{sheet_noted, sheet_recorded, sheet_written, settled_parts, settled_sheet, write_end, write_due, Notes}
 use Rattle.nats_session.proofs.Chains.{no_events, end_written, ending_written, played}
 
 dropped_message : (c : Config) (m dropped : Message) (item : Option Sub) → delivery_at c m item ≡ Dropped dropped → dropped ≡ m

@@ -1,5 +1,5 @@
 -- the events so far, then those that wait, are all that waited
-use Rattle.std.proofs.Common.{◌≡◌, ◌++◌, [], length}
+use Rattle.std.proofs.Common.{◌≡◌, ◌++◌, length}
 use Rattle.nats_history.specs.History.{at_place}
 use Rattle.nats_session.proofs.draft.hand_out.Given as goal
 

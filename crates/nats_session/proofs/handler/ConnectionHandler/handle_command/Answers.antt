@@ -1,5 +1,5 @@
 -- The oldest waiting call was handled, and the link may have ended.
-use Rattle.std.proofs.Common.{is_some, sym, ◌∙◌, ap}
+use Rattle.std.proofs.Common.{sym, ◌∙◌}
 use Rattle.nats_session.proofs.Commands.{handled_one}
 use Rattle.nats_session.proofs.handler.ConnectionHandler.handle_command.Goals as goal
 
