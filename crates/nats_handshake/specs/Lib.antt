@@ -1,1 +1,4 @@
 pub mod Greeting
+pub mod Errors
+pub mod Course
+pub mod Credentials

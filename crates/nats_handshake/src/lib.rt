@@ -1,11 +1,18 @@
-//! What a client tells of itself when a link begins, by its options and by what it authenticates.
+//! The handshake of a link: what a client tells of itself, and what it makes of what the server says.
 #![tactic(auto)]
 
+mod course;
+mod error;
 mod greeting;
+pub mod laws;
+mod offer;
 #[cfg(test)]
 mod tests;
 
+pub use course::{Course, Greeting, HANDSHAKE_OPERATIONS, Verdict, read_course, read_greeting};
+pub use error::{ConnectError, ConnectErrorKind, Refusal};
 pub use greeting::{CLIENT_LANG, CLIENT_VERSION, connect_info};
 pub use nats_connect::{ConnectInfo, Protocol, connect_text};
 pub use nats_names::{NoMemory, Text};
 pub use nats_pool::{Auth, ConnectOptions};
+pub use offer::credentials;

@@ -1,5 +1,5 @@
 //! What a NATS session is told by: its settings, calls, turns and transcript as plain values, and beside them the words on
-//! histories and their laws. It plays nothing. Lengths are in bytes; subscriptions, links and places of turns are numbered
+//! histories and their laws, and what tells calls apart. It plays nothing. Lengths are in bytes; subscriptions, links and places of turns are numbered
 //! from 1.
 #![tactic(auto)]
 
@@ -7,6 +7,7 @@ mod call;
 mod config;
 pub mod laws;
 mod ping;
+pub mod refusals;
 mod stage;
 mod transcript;
 mod turn;

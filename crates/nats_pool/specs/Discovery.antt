@@ -1,5 +1,5 @@
 -- The servers that a server tells of.
-use Rattle.std.specs.Prelude.{◌≡◌, ℕ, Bool, true, false, List, [], ◌∷◌, ◌++◌, fold, Option, Result, Ok, Err, if◌then◌else◌}
+use Rattle.std.specs.Prelude.{◌≡◌, ◌≤◌, ℕ, Bool, true, false, List, [], ◌∷◌, ◌++◌, length, fold, Option, Result, Ok, Err, if◌then◌else◌}
 use denote.Param.Members.{Mut}
 use Rattle.std.specs.Global.{Vec}
 use Rattle.url.specs.Parts.{Parts}
@@ -32,7 +32,7 @@ module _ {X Y : Type 0} {F : X → Type 0} {G : Y → Type 0} {g : Mut ((x : X) 
       × (servers_of after ≡ with_all (servers_of before) addrs) × (after ≡ record before { servers = after.servers })
   DiscoversWhere false urls before after (Err refusal.Url) = (addrs_of urls ≡ Err refusal.Url) × (after ≡ before)
   DiscoversWhere false urls before after (Err refusal.Scheme) = (addrs_of urls ≡ Err refusal.Scheme) × (after ≡ before)
-  DiscoversWhere false urls before after (Err refusal.NoMemory) = after ≡ before
+  DiscoversWhere false urls before after (Err refusal.NoMemory) = (1 ≤ length urls) × (after ≡ before)
 
   abbrev pub Discovers : List (List ℕ) → Pool X Y F G g h → Pool X Y F G g h → Result (Unit {0}) AddrError → Type 0
   Discovers urls before after result =

@@ -44,12 +44,12 @@ fn with_all(
 
 impl Pool {
     /// Puts the servers of these addresses behind those of the pool, each that is new, in order; the first text that spells
-    /// no address decides, and a refusal changes nothing. A pool that was told to leave such servers out does nothing. The
-    /// crate's rule.
+    /// no address decides, and a refusal changes nothing. A pool that was told to leave such servers out does nothing. It
+    /// takes no memory where there is no text, or in such a pool. The crate's rule.
     pub fn discover(&mut self, alloc: Global, urls: &[Text]) -> Result<(), AddrError>
         ensures { Discovers urls.now self.old self.new result }
     {
-        if self.options.ignore_discovered_servers {
+        if self.options.ignore_discovered_servers || urls.is_empty() {
             return Ok(());
         }
         let texts = texts_of(alloc, urls)?;

@@ -2,7 +2,6 @@ pub mod Calls
 pub mod Chains
 pub mod Commands
 pub mod Handlers
-pub mod Items
 pub mod Messages
 pub mod Plays
 pub mod Runs

@@ -16,8 +16,8 @@ use Rattle.nats_subs.specs.declared.subs.subscription.Delivery.{Delivery}
 use Rattle.nats_subs.specs.declared.subs.subscription.Delivery.TheVariants.{Put, Dropped, Unwanted, Ignored}
 use Rattle.nats_subs.specs.declared.subs.subscription.Alteration.TheVariants as alterations
 use Rattle.nats_subs.specs.Delivery.{delivery_at, is_unwanted, delivery_events, deliver, rows_with, with_rows}
-use Rattle.nats_subs.proofs.Deliveries.{leaves, left_alone, closing_at, events_at, rows_by, rows_came}
-use Rattle.nats_session.specs.Handler.{Seen, push_all, seen_after, seen_all, delivered_seen, after_message}
+use Rattle.nats_subs.proofs.Deliveries.{closing_at, events_at, rows_by, rows_came}
+use Rattle.nats_session.specs.Handler.{Seen, push_all, seen_after, seen_all, delivery_of, delivered_seen, after_message}
 
 -- ---- the handler
 
@@ -37,76 +37,50 @@ seen_by : (old : Seen) (sid n : ℕ) (m : Message) (d : Delivery)
     → seen_with old (drop n old.parts.link.wire.unread) (written true (unsubscribe_command (is_unwanted d) sid None) old.parts.link.wire.waiting) (rows_by old.parts.config sid m d old.parts.subs.rows) (push_all (delivery_events sid d) old.events)
     ≡ consumed n (after_message sid m d old)
 seen_by old sid n m Unwanted = refl
-seen_by old sid n m (Dropped dropped) = refl
+seen_by old sid n m Dropped = refl
 seen_by old sid n m Put = refl
 seen_by old sid n m Ignored = refl
 
 -- a message that was brought to its subscription and whose bytes were taken away was read
 pub came_seen : (old : Seen) (sid n : ℕ) (m : Message) → old.parts.link.is_up ≡ true → front old.parts.link.wire.unread ≡ got (message sid m) n
-    → consumed n (after_message sid m (delivery_at old.parts.config m (item_of sid old.parts.subs.rows)) old) ≡ seen_after old (came sid m)
+    → consumed n (after_message sid m (delivery_at old.parts.config (item_of sid old.parts.subs.rows)) old) ≡ seen_after old (came sid m)
 came_seen old sid n m up here =
     let c = old.parts.config in
     let rows = old.parts.subs.rows in
     let wire = old.parts.link.wire in
     let item = item_of sid rows in
-    let d = delivery_at c m item in
+    let d = delivery_at c item in
     let command = unsubscribe_command (is_closing_at item) sid None in
     let after = at_number sid (sub_after c (came sid m)) rows in
     let events = push_all (drop_events c sid item) old.events in
     sym (ap (λ unread. seen_with old unread (written old.parts.link.is_up command wire.waiting) after events) (ap (λ f. past f wire.unread) here)
     ∙ (ap (λ b. seen_with old (drop n wire.unread) (written b command wire.waiting) after events) up
-    ∙ (ap (λ b. seen_with old (drop n wire.unread) (written true (unsubscribe_command b sid None) wire.waiting) after events) (closing_at c m item d refl)
+    ∙ (ap (λ b. seen_with old (drop n wire.unread) (written true (unsubscribe_command b sid None) wire.waiting) after events) (closing_at c item d refl)
     ∙ (ap (λ xs. seen_with old (drop n wire.unread) (written true (unsubscribe_command (is_unwanted d) sid None) wire.waiting) xs events) (rows_came c m sid rows d refl)
-    ∙ (ap (λ es. seen_with old (drop n wire.unread) (written true (unsubscribe_command (is_unwanted d) sid None) wire.waiting) (rows_by c sid m d rows) (push_all es old.events)) (events_at c m sid item)
+    ∙ (ap (λ es. seen_with old (drop n wire.unread) (written true (unsubscribe_command (is_unwanted d) sid None) wire.waiting) (rows_by c sid m d rows) (push_all es old.events)) (events_at c sid item)
     ∙ seen_by old sid n m d)))))
 
 -- ---- what becomes of a message, by what the fields of the handler became
 
 abbrev pub read_seen : ℕ → Message → Seen → Seen
-read_seen sid m old = after_message sid m (delivery_at old.parts.config m (item_of sid old.parts.subs.rows)) old
+read_seen sid m old = after_message sid m (delivery_at old.parts.config (item_of sid old.parts.subs.rows)) old
 
 abbrev pub taken_in : ℕ → Message → Seen → Subs
 taken_in sid m seen = with_rows (at_number sid (λ sub. kept (deliver seen.parts.config m sub)) seen.parts.subs.rows) seen.parts.subs
 
--- a delivery that leaves its subscription leaves all of them
-pub left_subs : (seen : Seen) (sid : ℕ) (m : Message) (d : Delivery) → delivery_at seen.parts.config m (item_of sid seen.parts.subs.rows) ≡ d → leaves d ≡ true
-    → taken_in sid m seen ≡ seen.parts.subs
-left_subs seen sid m d is l =
-    ap (λ rows. with_rows rows seen.parts.subs) (left_alone seen.parts.config m sid seen.parts.subs.rows d is l)
-
 pub delivered : (seen old : Seen) (sid : ℕ) (m : Message) (subs : Subs) (d : Delivery) → seen ≡ old → subs ≡ taken_in sid m seen
-    → delivery_at seen.parts.config m (item_of sid seen.parts.subs.rows) ≡ d → after_message sid m d seen ≡ delivered_seen sid m seen
+    → delivery_of old.parts sid ≡ d → after_message sid m d seen ≡ delivered_seen sid m seen
     → record seen { parts = record seen.parts { subs = subs } } ≡ read_seen sid m old
 delivered seen old sid m subs d same a is keeps =
     ap (λ x. record seen { parts = record seen.parts { subs = x } }) a
-    ∙ (sym keeps ∙ (sym (ap (λ e. after_message sid m e seen) is) ∙ ap (read_seen sid m) same))
+    ∙ (sym keeps ∙ (ap (after_message sid m d) same ∙ sym (ap (λ e. after_message sid m e old) is)))
 
-pub dropped_one : (seen old : Seen) (sid : ℕ) (m dropped : Message) (subs : Subs) (events : List Event) → seen ≡ old → subs ≡ taken_in sid m seen
-    → delivery_at seen.parts.config m (item_of sid seen.parts.subs.rows) ≡ Dropped dropped → events ≡ seen.events ++ SlowConsumer sid ∷ []
-    → record { parts = record seen.parts { subs = subs }; events = events } ≡ read_seen sid m old
-dropped_one seen old sid m dropped subs events same a is b =
-    ap (λ x. record { parts = record seen.parts { subs = x }; events = events }) (a ∙ left_subs seen sid m (Dropped dropped) is refl)
-    ∙ (ap (λ es. record seen { events = es }) b
-    ∙ (sym (ap (λ e. after_message sid m e seen) is) ∙ ap (read_seen sid m) same))
-
-abbrev with_wire : Seen → Wire → Subs → Seen
-with_wire seen wire subs = record seen { parts = record seen.parts { link = record seen.parts.link { wire = wire }; subs = subs } }
-
-pub unwanted_one : (seen old : Seen) (sid : ℕ) (m : Message) (wire : Wire) (before subs : Subs) → seen ≡ old → before ≡ taken_in sid m seen
-    → delivery_at seen.parts.config m (item_of sid seen.parts.subs.rows) ≡ Unwanted
-    → wire ≡ record seen.parts.link.wire { waiting = seen.parts.link.wire.waiting ++ command_text (client.Unsubscribe sid None) }
-    → subs ≡ with_rows (rows_with sid alterations.End before.rows) before
-    → with_wire seen wire subs ≡ read_seen sid m old
-unwanted_one seen old sid m wire before subs same a is b d =
-    let kept_subs = a ∙ left_subs seen sid m Unwanted is refl in
-    ap (λ x. with_wire seen x subs) b
-    ∙ (ap (with_wire seen (record seen.parts.link.wire { waiting = seen.parts.link.wire.waiting ++ command_text (client.Unsubscribe sid None) }))
-    (d ∙ ap (λ (x : Subs). with_rows (rows_with sid alterations.End x.rows) x) kept_subs)
-    ∙ (sym (ap (λ e. after_message sid m e seen) is) ∙ ap (read_seen sid m) same))
-
--- want of memory for the text leaves all as it was
-pub unwritten : (seen : Seen) (wire : Wire) (subs : Subs) → wire ≡ seen.parts.link.wire → subs ≡ seen.parts.subs → with_wire seen wire subs ≡ seen
-unwritten seen wire subs a b = rw (a, b) refl
+pub dropped_one : (seen old : Seen) (sid : ℕ) (m : Message) (events : List Event) → seen ≡ old
+    → delivery_of old.parts sid ≡ Dropped → events ≡ seen.events ++ SlowConsumer sid ∷ []
+    → record seen { events = events } ≡ read_seen sid m old
+dropped_one seen old sid m events same is b =
+    ap (λ es. record seen { events = es }) b
+    ∙ (ap (after_message sid m Dropped) same ∙ sym (ap (λ e. after_message sid m e old) is))
 
 abbrev with_link : Seen → Wire → Seen
 with_link seen wire = record seen { parts = record seen.parts { link = record seen.parts.link { wire = wire } } }

@@ -26,21 +26,10 @@ use Rattle.nats_history.specs.Schedule.{ending, pong_end, chain, due_call, due_b
 use Rattle.nats_history.specs.After.{after, after_all, due_steps}
 use Rattle.nats_history.proofs.Dues.{bound_falls, none_due, one_due, after_append}
 use Rattle.nats_subs.specs.Delivery.{delivery_at}
-use Rattle.nats_session.specs.Handler.{Seen, delivery_name, end_in, ended_or, name_of, Advances, Sees, is_nothing, look_message, step_message, message_in}
-use Rattle.nats_session.specs.Sheet.{Sheet, write_drop, write_delivery, write_events}
-use Rattle.nats_session.specs.Machine.{sheet_noted, sheet_recorded, sheet_written, settled_parts, settled_sheet, write_end, write_due, Notes}
+use Rattle.nats_session.specs.Handler.{Seen, delivery_name, delivery_of, end_in, ended_or, name_of, Advances, Sees, is_nothing}
+use Rattle.nats_session.specs.Sheet.{Sheet, write_delivery, write_due, write_events}
+use Rattle.nats_session.specs.Machine.{quiet, sheet_noted, sheet_recorded, sheet_written, settled_parts, settled_sheet, write_look, write_before, write_coming, write_end, Notes}
 use Rattle.nats_session.proofs.Chains.{no_events, end_written, ending_written, played}
-
-dropped_message : (c : Config) (m dropped : Message) (item : Option Sub) → delivery_at c m item ≡ Dropped dropped → dropped ≡ m
-dropped_message c m dropped None e = cc
-dropped_message c m dropped (Some sub) e = by_case sub.stage sub.is_shut (has_room c sub) e
-  where
-    by_case : (stage : Stage) (shut room : Bool) → cond (is_open stage) (cond shut Unwanted (cond room Put (Dropped m))) Ignored ≡ Dropped dropped → dropped ≡ m
-    by_case Asked shut room e = cc
-    by_case Ended shut room e = cc
-    by_case Open true room e = cc
-    by_case Open false true e = cc
-    by_case Open false false e = cc
 
 -- ---- what can be due
 
@@ -70,21 +59,19 @@ can_be_due p step e = by_up p.link.is_up e
 -- ---- what is written of a due step
 
 -- an operation that is no message is written by the link's end alone
-unnamed : (place : ℕ) (end : Option LinkWord) (sheet : Sheet) → write_due place None (ended_or end due_names.Read) sheet ≡ sheet
+unnamed : (place : ℕ) (end : Option LinkWord) (sheet : Sheet) → write_due place (ended_or end due_names.Read) sheet ≡ sheet
 unnamed place None sheet = refl
 unnamed place (Some end) sheet = refl
 
 written_due : (place : ℕ) (p : Parts) (step : Step) (sheet : Sheet) → CanBeDue step
-    → write_due place (step_message step) (name_of p step) (write_end (end_in (chain p step)) p sheet) ≡ sheet_written place (chain p step) p sheet
-written_due place p (read (message sid m)) sheet can = by_delivery (delivery_at p.config m (item_of sid p.subs.rows)) refl
+    → write_due place (name_of p step) (write_end (end_in (chain p step)) p (write_before place p (Some step) sheet)) ≡ sheet_written place (chain p step) p sheet
+written_due place p (read (message sid m)) sheet can = by_delivery (delivery_of p sid)
   where
-    by_delivery : (d : Delivery) → delivery_at p.config m (item_of sid p.subs.rows) ≡ d
-        → write_due place (Some m) (delivery_name sid d) sheet ≡ record sheet { subs = write_delivery place sid m d sheet.subs }
-    by_delivery Put is = refl
-    by_delivery (Dropped dropped) is =
-        ap (λ n. record sheet { subs = at_number sid (write_drop place n) sheet.subs }) (dropped_message p.config m dropped (item_of sid p.subs.rows) is)
-    by_delivery Unwanted is = refl
-    by_delivery Ignored is = refl
+    by_delivery : (d : Delivery) → write_due place (delivery_name sid m d) (write_coming place sid m d sheet) ≡ record sheet { subs = write_delivery place sid m d sheet.subs }
+    by_delivery Put = refl
+    by_delivery Dropped = refl
+    by_delivery Unwanted = refl
+    by_delivery Ignored = refl
 written_due place p (read pong_op) sheet can =
     let end = pong_end (first p.link.pings) in
     let drained = p.drain.is_handled in
@@ -104,21 +91,18 @@ written_due place p closed sheet can = absurd can
 written_due place p ticked sheet can = absurd can
 
 -- a due step that was played, written and whose events were handed out
-pub noted : (place : ℕ) (next : Option Step) (old new last : Seen) (name : Due) (came : Option Message) (s0 s1 s2 s3 : Sheet)
-    → due old.parts ≡ next → old.events ≡ [] → Advances next old name new → came ≡ message_in next
-    → s1 ≡ write_end (end_in (due_chain old.parts next)) old.parts s0 → s2 ≡ write_due place came name s1 → s3 ≡ write_events place new.events s2
+pub noted : (place : ℕ) (next : Option Step) (old new last : Seen) (name : Due) (s0 s1 s2 s3 : Sheet)
+    → due old.parts ≡ next → old.events ≡ [] → Advances next old name new
+    → s1 ≡ write_end (end_in (due_chain old.parts next)) old.parts (write_before place old.parts next s0) → s2 ≡ write_due place name s1 → s3 ≡ write_events place new.events s2
     → last ≡ record new { events = [] } → Notes next place old.parts s0 last s3
-noted place None old new last name came s0 s1 s2 s3 is none plays read_it a b d e = (
+noted place None old new last name s0 s1 s2 s3 is none plays a b d e = (
   e ∙ ap (λ (s : Seen). record s { events = [] }) plays.1,
-  d ∙ (ap (λ (s : Seen). write_events place s.events s2) plays.1 ∙ (ap (λ es. write_events place es s2) none ∙ (no_events place s2 ∙ (b ∙ (ap (λ n. write_due place came n s1) plays.0 ∙ a))))),
+  d ∙ (ap (λ (s : Seen). write_events place s.events s2) plays.1 ∙ (ap (λ es. write_events place es s2) none ∙ (no_events place s2 ∙ (b ∙ (ap (λ n. write_due place n s1) plays.0 ∙ a))))),
 )
-noted place (Some step) old new last name came s0 s1 s2 s3 is none plays read_it a b d e =
+noted place (Some step) old new last name s0 s1 s2 s3 is none plays a b d e =
     let p = old.parts in
-    let by_name : write_due place came name s1 ≡ write_due place (step_message step) (name_of p step) s1 =
-    ap (λ m. write_due place m name s1) read_it ∙ ap (λ n. write_due place (step_message step) n s1) plays.0
-    in
     let written : s2 ≡ sheet_written place (chain p step) p s0 =
-    b ∙ (by_name ∙ (ap (write_due place (step_message step) (name_of p step)) a ∙ written_due place p step s0 (can_be_due p step is)))
+    b ∙ (ap (λ n. write_due place n s1) plays.0 ∙ (ap (write_due place (name_of p step)) a ∙ written_due place p step s0 (can_be_due p step is)))
     in
     played place (chain p step) old new last s0 s2 s3 none plays.1 written d e
 
@@ -134,14 +118,14 @@ some_seen p (looks.Read peeked) sees is = ap is_some sees.0
 some_seen p looks.Fault sees is = ap is_some sees
 some_seen p looks.Command sees is = ap is_some sees.0 ∙ some_handled p.calls sees.1
 
--- the message that a look saw is that of the step that is due
-pub message_seen : (p : Parts) (look : Look) → Sees p look → look_message look ≡ message_in (due p)
-message_seen p looks.Nothing sees = sym (ap message_in sees)
-message_seen p (looks.Read peeked) sees = sym (ap message_in sees.0)
-message_seen p looks.Fault sees = sym (ap message_in sees)
-message_seen p looks.Command sees = sym (ap message_in sees.0 ∙ by_calls p.calls)
+-- what a look has written is what the step that is due writes
+pub look_written : (place : ℕ) (p : Parts) (look : Look) (sheet : Sheet) → Sees p look → write_look place p look sheet ≡ write_before place p (due p) sheet
+look_written place p looks.Nothing sheet sees = sym (ap (λ next. write_before place p next sheet) sees)
+look_written place p (looks.Read peeked) sheet sees = sym (ap (λ next. write_before place p next sheet) sees.0)
+look_written place p looks.Fault sheet sees = sym (ap (λ next. write_before place p next sheet) sees)
+look_written place p looks.Command sheet sees = sym (ap (λ next. write_before place p next sheet) sees.0 ∙ by_calls p.calls)
   where
-    by_calls : (calls : List Call) → message_in (option_map handled (first calls)) ≡ None
+    by_calls : (calls : List Call) → write_before place p (option_map handled (first calls)) sheet ≡ sheet
     by_calls [] = refl
     by_calls (call ∷ more) = refl
 

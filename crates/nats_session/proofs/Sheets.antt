@@ -54,11 +54,11 @@ rows_kept c h answers place step e puts drops =
 -- what a message writes into one row
 abbrev write_one : ℕ → Message → Delivery → SubRow → SubRow
 write_one place m Put row = write_put place m row
-write_one place m (Dropped dropped) row = write_drop place m row
+write_one place m Dropped row = write_drop place m row
 write_one place m Unwanted row = row
 write_one place m Ignored row = row
 
-row_read : (c : Config) (place sid : ℕ) (m : Message) (t : Told) (takes : Takes) → sub_row (told_after c place (read (message sid m)) t) takes ≡ write_one place m (delivery c m (sub_of t)) (sub_row t takes)
+row_read : (c : Config) (place sid : ℕ) (m : Message) (t : Told) (takes : Takes) → sub_row (told_after c place (read (message sid m)) t) takes ≡ write_one place m (delivery c (sub_of t)) (sub_row t takes)
 row_read c place sid m t takes = by_case t.stage t.is_shut (has_room c (sub_of t))
   where
     listening : Stage → Bool → Bool
@@ -66,7 +66,7 @@ row_read c place sid m t takes = by_case t.stage t.is_shut (has_room c (sub_of t
 
     by_case : (stage : Stage) (shut room : Bool)
         → row_of (t.puts ++ cond (listening stage shut && room) ((place, m) ∷ []) []) (t.drops ++ cond (listening stage shut && not room) ((place, m) ∷ []) []) takes
-        ≡ write_one place m (cond (is_open stage) (cond shut Unwanted (cond room Put (Dropped m))) Ignored) (row_of t.puts t.drops takes)
+        ≡ write_one place m (cond (is_open stage) (cond shut Unwanted (cond room Put Dropped)) Ignored) (row_of t.puts t.drops takes)
     by_case Asked shut room = rw (append-nil t.puts, append-nil t.drops) refl
     by_case Ended shut room = rw (append-nil t.puts, append-nil t.drops) refl
     by_case Open true room = rw (append-nil t.puts, append-nil t.drops) refl
@@ -74,18 +74,18 @@ row_read c place sid m t takes = by_case t.stage t.is_shut (has_room c (sub_of t
     by_case Open false false = ap (λ xs. row_of xs (t.drops ++ (place, m) ∷ []) takes) (append-nil t.puts)
 
 -- what is forgotten takes in no message, and what is over takes in none
-delivery_kept : (c : Config) (m : Message) (sub : Sub) → delivery c m (kept sub) ≡ delivery c m sub
-delivery_kept c m sub = by_over (is_over sub) refl
+delivery_kept : (c : Config) (sub : Sub) → delivery c (kept sub) ≡ delivery c sub
+delivery_kept c sub = by_over (is_over sub) refl
   where
-    by_over : (b : Bool) → is_over sub ≡ b → delivery c m (cond b forgotten sub) ≡ delivery c m sub
+    by_over : (b : Bool) → is_over sub ≡ b → delivery c (cond b forgotten sub) ≡ delivery c sub
     by_over true over =
         let both = both_true sub.is_gone (is_ended sub.stage) over in
-        sym (ap (λ s. cond (is_open s) (cond sub.is_shut Unwanted (cond (has_room c sub) Put (Dropped m))) Ignored) (ended_is sub.stage both.1))
+        sym (ap (λ s. cond (is_open s) (cond sub.is_shut Unwanted (cond (has_room c sub) Put Dropped)) Ignored) (ended_is sub.stage both.1))
     by_over false over = refl
 
 -- what becomes of a message hangs on what is told of its number, also of one that was not given
-delivery_is : (c : Config) (h : History) (sid : ℕ) (m : Message) → delivery_at c m (item_of sid (rows_of c h)) ≡ delivery c m (sub_of (told c sid h))
-delivery_is c h sid m = by_given (is_given sid (at_of h)) refl
+delivery_is : (c : Config) (h : History) (sid : ℕ) → delivery_at c (item_of sid (rows_of c h)) ≡ delivery c (sub_of (told c sid h))
+delivery_is c h sid = by_given (is_given sid (at_of h)) refl
   where
     there : (s : ℕ) → is_given s (at_of h) ≡ true → item_of s (rows_of c h) ≡ Some (kept (sub_of (told c s h)))
     there zero e = absurd (false≢true e)
@@ -99,14 +99,14 @@ delivery_is c h sid m = by_given (is_given sid (at_of h)) refl
         let past = ltb-false k (given h) e in
         item_missing (λ s. kept (sub_of (told c s h))) (given h) (suc k) (omega (arith, past))
 
-    by_given : (b : Bool) → is_given sid (at_of h) ≡ b → delivery_at c m (item_of sid (rows_of c h)) ≡ delivery c m (sub_of (told c sid h))
-    by_given true e = ap (delivery_at c m) (there sid e) ∙ delivery_kept c m (sub_of (told c sid h))
+    by_given : (b : Bool) → is_given sid (at_of h) ≡ b → delivery_at c (item_of sid (rows_of c h)) ≡ delivery c (sub_of (told c sid h))
+    by_given true e = ap (delivery_at c) (there sid e) ∙ delivery_kept c (sub_of (told c sid h))
     by_given false e =
-        ap (delivery_at c m) (missing sid e) ∙ sym (ap (λ t. delivery c m (sub_of t)) (told_nothing c sid h e))
+        ap (delivery_at c) (missing sid e) ∙ sym (ap (λ t. delivery c (sub_of t)) (told_nothing c sid h e))
 
 delivery_rows : (place sid : ℕ) (m : Message) (d : Delivery) (rows : List SubRow) → at_number sid (write_one place m d) rows ≡ write_delivery place sid m d rows
 delivery_rows place sid m Put rows = refl
-delivery_rows place sid m (Dropped dropped) rows = refl
+delivery_rows place sid m Dropped rows = refl
 delivery_rows place sid m Unwanted rows = at_number_same sid rows
 delivery_rows place sid m Ignored rows = at_number_same sid rows
 
@@ -125,10 +125,10 @@ rows_told c h answers place step =
     same_up_to _ _ (given_after step (at_of h)) (λ s low high. one_told c place step h s (take_replies s answers) (is_given_to s (at_after step (at_of h)) low high))
 
 rows_read : (c : Config) (h : History) (answers : List (ℕ × Answer)) (place sid : ℕ) (m : Message)
-    → sub_rows c ((place, read (message sid m)) ∷ h) answers ≡ write_delivery place sid m (delivery_at c m (item_of sid (rows_of c h))) (sub_rows c h answers)
+    → sub_rows c ((place, read (message sid m)) ∷ h) answers ≡ write_delivery place sid m (delivery_at c (item_of sid (rows_of c h))) (sub_rows c h answers)
 rows_read c h answers place sid m =
-    let d = delivery c m (sub_of (told c sid h)) in
-    rows_told c h answers place (read (message sid m)) ∙ (numbered (λ s t. sub_row t (take_replies s answers)) (write_one place m d) (λ s. told_after c place (read (message sid m)) (told c s h)) (λ s. told c s h) (given h) sid (row_read c place sid m (told c sid h) (take_replies sid answers)) ∙ (delivery_rows place sid m d (sub_rows c h answers) ∙ sym (ap (λ e. write_delivery place sid m e (sub_rows c h answers)) (delivery_is c h sid m))))
+    let d = delivery c (sub_of (told c sid h)) in
+    rows_told c h answers place (read (message sid m)) ∙ (numbered (λ s t. sub_row t (take_replies s answers)) (write_one place m d) (λ s. told_after c place (read (message sid m)) (told c s h)) (λ s. told c s h) (given h) sid (row_read c place sid m (told c sid h) (take_replies sid answers)) ∙ (delivery_rows place sid m d (sub_rows c h answers) ∙ sym (ap (λ e. write_delivery place sid m e (sub_rows c h answers)) (delivery_is c h sid))))
 
 rows_accepted : (c : Config) (h : History) (answers : List (ℕ × Answer)) (place : ℕ) (call : Call) → AreGiven h answers
     → sub_rows c ((place, accepted call) ∷ h) answers ≡ cond (subscribes call) (sub_rows c h answers ++ new_row ∷ []) (sub_rows c h answers)

@@ -100,15 +100,15 @@ LeadTo old steps new =
 
 -- ---- due steps
 
-abbrev pub delivery_name : ℕ → Delivery → Due
-delivery_name sid Put = due_names.Put sid
-delivery_name sid (Dropped m) = due_names.Dropped sid m
-delivery_name sid Unwanted = due_names.Read
-delivery_name sid Ignored = due_names.Read
+abbrev pub delivery_name : ℕ → Message → Delivery → Due
+delivery_name sid m Put = due_names.Put sid
+delivery_name sid m Dropped = due_names.Dropped sid m
+delivery_name sid m Unwanted = due_names.Read
+delivery_name sid m Ignored = due_names.Read
 
 -- what becomes of a message that comes for the subscription of a number
-abbrev pub delivery_of : Parts → ℕ → Message → Delivery
-delivery_of p sid m = delivery_at p.config m (item_of sid p.subs.rows)
+abbrev pub delivery_of : Parts → ℕ → Delivery
+delivery_of p sid = delivery_at p.config (item_of sid p.subs.rows)
 
 -- what is seen after a message that comes for a subscription, by what became of it
 abbrev pub delivered_seen : ℕ → Message → Seen → Seen
@@ -118,8 +118,9 @@ delivered_seen sid m old = record old {
   };
 }
 
-abbrev pub after_message : ℕ → Message → Delivery → Seen → Seen
-after_message sid m Unwanted old = record old {
+-- a subscription that is open and shut ends, and the server is told
+abbrev pub unwanted_seen : ℕ → Seen → Seen
+unwanted_seen sid old = record old {
   parts = record old.parts {
     link = record old.parts.link {
       wire = record old.parts.link.wire {
@@ -129,7 +130,10 @@ after_message sid m Unwanted old = record old {
     subs = with_rows (rows_with sid alterations.End old.parts.subs.rows) old.parts.subs;
   };
 }
-after_message sid m (Dropped dropped) old = record old { events = old.events ++ SlowConsumer sid ∷ [] }
+
+abbrev pub after_message : ℕ → Message → Delivery → Seen → Seen
+after_message sid m Unwanted old = unwanted_seen sid old
+after_message sid m Dropped old = record old { events = old.events ++ SlowConsumer sid ∷ [] }
 after_message sid m Put old = delivered_seen sid m old
 after_message sid m Ignored old = delivered_seen sid m old
 
@@ -151,7 +155,7 @@ end_in (link_end word ∷ steps) = Some word
 end_in (step ∷ steps) = end_in steps
 
 abbrev pub own_name : Parts → Step → Due
-own_name p (read (message sid m)) = delivery_name sid (delivery_of p sid m)
+own_name p (read (message sid m)) = delivery_name sid m (delivery_of p sid)
 own_name p (read operation) = due_names.Read
 own_name p (handled call) = due_names.Handled
 own_name p step = due_names.Nothing
@@ -191,27 +195,6 @@ Sees p (looks.Read peeked) =
     × (peeked.len ≤ length p.link.wire.unread) × (p.link.is_up ≡ true)
 Sees p looks.Fault = due p ≡ Some (link_end word.Fault)
 Sees p looks.Command = (due p ≡ handled_first p) × (is_some (first p.calls) ≡ true) × (p.link.is_up ≡ true)
-
--- the message of an operation, if it is one
-abbrev pub op_message : Operation → Option Message
-op_message (message sid m) = Some m
-op_message operation = None
-
--- the message that a step reads, if it reads one
-abbrev pub step_message : Step → Option Message
-step_message (read operation) = op_message operation
-step_message step = None
-
-abbrev pub message_in : Option Step → Option Message
-message_in None = None
-message_in (Some step) = step_message step
-
--- the message that a look saw, if it saw one
-abbrev pub look_message : Look → Option Message
-look_message (looks.Read peeked) = op_message (op_view peeked.op.value)
-look_message looks.Nothing = None
-look_message looks.Fault = None
-look_message looks.Command = None
 
 abbrev pub is_nothing : Look → Bool
 is_nothing looks.Nothing = true

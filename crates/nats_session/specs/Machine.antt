@@ -1,19 +1,22 @@
 -- Turns over parts and a sheet alone: what playing leaves, with each event handed out as it comes.
 use Rattle.std.specs.Prelude.{◌≡◌, ℕ, suc, List, [], ◌∷◌, ◌++◌, Option, Some, None, if◌then◌else◌}
 use Rattle.nats_wire.specs.declared.message.Message.{Message}
+use Rattle.nats_wire.specs.Operations.{Operation, message, op_view}
 use Rattle.nats_history.specs.declared.transcript.LinkWord.{LinkWord}
 use Rattle.nats_history.specs.declared.turn.Turn.{Turn}
 use Rattle.nats_history.specs.declared.turn.Turn.TheVariants.{Do, Take}
-use Rattle.nats_history.specs.declared.turn.Due.{Due}
-use Rattle.nats_history.specs.declared.turn.Due.TheVariants as due_names
-use Rattle.nats_history.specs.History.{Step}
+use Rattle.nats_history.specs.History.{Step, read}
 use Rattle.nats_tables.specs.Numbers.{at_number}
 use Rattle.nats_history.specs.Parts.{Parts}
 use Rattle.nats_history.specs.Schedule.{is_valid_turn, own_steps, call_reply, take_reply, chain}
 use Rattle.nats_history.specs.Transcripts.{Answer, nothing, called, asked}
 use Rattle.nats_history.specs.After.{after, after_all, events_of, due_steps}
-use Rattle.nats_session.specs.Handler.{Seen}
-use Rattle.nats_session.specs.Sheet.{Sheet, row_with, write_put, write_drop, write_step, write_answer, write_events}
+use Rattle.nats_subs.specs.declared.subs.subscription.Delivery.{Delivery}
+use Rattle.nats_subs.specs.declared.subs.subscription.Delivery.TheVariants.{Put, Dropped, Unwanted, Ignored}
+use Rattle.nats_session.specs.declared.handler.due.Look.{Look}
+use Rattle.nats_session.specs.declared.handler.due.Look.TheVariants as looks
+use Rattle.nats_session.specs.Handler.{Seen, delivery_of}
+use Rattle.nats_session.specs.Sheet.{Sheet, row_with, write_put, write_step, write_answer, write_events}
 
 -- a handler with these parts, all of whose events were handed out
 abbrev pub quiet : Parts → Seen
@@ -84,15 +87,28 @@ abbrev pub write_end : Option LinkWord → Parts → Sheet → Sheet
 write_end None p sheet = sheet
 write_end (Some end) p sheet = record sheet { links = sheet.links ++ row_with end sheet.taken p.link.wire.waiting ∷ []; taken = [] }
 
-abbrev pub write_message : ℕ → ℕ → Option Message → Sheet → Sheet
-write_message place sid None sheet = sheet
-write_message place sid (Some m) sheet = record sheet { subs = at_number sid (write_put place m) sheet.subs }
+-- what a message writes before it is brought to its subscription: a put, where it is to be put
+abbrev pub write_coming : ℕ → ℕ → Message → Delivery → Sheet → Sheet
+write_coming place sid m Put sheet = record sheet { subs = at_number sid (write_put place m) sheet.subs }
+write_coming place sid m Dropped sheet = sheet
+write_coming place sid m Unwanted sheet = sheet
+write_coming place sid m Ignored sheet = sheet
 
--- what is written of a step by its name and the message that it read
-abbrev pub write_due : ℕ → Option Message → Due → Sheet → Sheet
-write_due place came (due_names.Put sid) sheet = write_message place sid came sheet
-write_due place came (due_names.Dropped sid m) sheet = record sheet { subs = at_number sid (write_drop place m) sheet.subs }
-write_due place came name sheet = sheet
+abbrev pub write_op : ℕ → Parts → Operation → Sheet → Sheet
+write_op place p (message sid m) sheet = write_coming place sid m (delivery_of p sid) sheet
+write_op place p operation sheet = sheet
+
+-- what the step that is due writes before it is played
+abbrev pub write_before : ℕ → Parts → Option Step → Sheet → Sheet
+write_before place p (Some (read operation)) sheet = write_op place p operation sheet
+write_before place p next sheet = sheet
+
+-- the same of a look
+abbrev pub write_look : ℕ → Parts → Look → Sheet → Sheet
+write_look place p (looks.Read peeked) sheet = write_op place p (op_view peeked.op.value) sheet
+write_look place p looks.Nothing sheet = sheet
+write_look place p looks.Fault sheet = sheet
+write_look place p looks.Command sheet = sheet
 
 -- the step that is due was played and written with what follows it at once
 abbrev pub Notes : Option Step → ℕ → Parts → Sheet → Seen → Sheet → Type 0

@@ -1,39 +1,22 @@
 -- The transcript as it is written step by step.
-use Rattle.std.specs.Prelude.{◌≡◌, ℕ, suc, ◌<◌, ◌⊎◌, List, [], ◌∷◌, ◌++◌, take, Option, Some, None, if◌then◌else◌}
+use Rattle.std.specs.Prelude.{◌≡◌, ℕ, ◌<◌, List, [], ◌∷◌, ◌++◌, take, if◌then◌else◌}
 use Rattle.nats_names.specs.declared.event.Event.{Event}
 use Rattle.nats_wire.specs.declared.message.Message.{Message}
 use Rattle.nats_wire.specs.Operations.{message}
 use Rattle.nats_history.specs.declared.config.Config.{Config}
-use Rattle.nats_history.specs.declared.call.CallReply.{CallReply}
-use Rattle.nats_history.specs.declared.call.CallReply.TheVariants.{Numbered}
-use Rattle.nats_history.specs.declared.call.TakeReply.{TakeReply}
 use Rattle.nats_history.specs.declared.transcript.LinkWord.{LinkWord}
 use Rattle.nats_history.specs.declared.transcript.LinkWord.TheVariants as word
 use Rattle.nats_history.specs.declared.transcript.LinkRow.{LinkRow}
 use Rattle.nats_history.specs.declared.transcript.SubRow.{SubRow}
 use Rattle.nats_history.specs.declared.transcript.Transcript.{Transcript}
-use Rattle.nats_session.specs.declared.draft.Note.{Note}
-use Rattle.nats_session.specs.declared.draft.Note.TheVariants as notes
 use Rattle.nats_subs.specs.declared.subs.subscription.Delivery.{Delivery}
 use Rattle.nats_subs.specs.declared.subs.subscription.Delivery.TheVariants.{Put, Dropped, Unwanted, Ignored}
 use Rattle.nats_history.specs.History.{Step, opened, read, taken, accepted, link_end, History, is_up, subscribes, link_text, taken_count, at_place, given, events}
 use Rattle.nats_tables.specs.Numbers.{at_number, item_of}
 use Rattle.nats_history.specs.Parts.{Parts, parts_of}
 use Rattle.nats_subs.specs.Delivery.{delivery_at}
+pub use Rattle.nats_draft.specs.Sheet.{Sheet, empty_sheet, row_with, new_row, added, write_put, write_drop, write_take, write_due}
 use Rattle.nats_history.specs.Transcripts.{Answer, nothing, called, asked, ended_links, sub_rows, take_replies, call_replies}
-
--- what is written so far
-pub record Sheet : Type 0 where
-  -- the links that ended
-  pub links : List LinkRow
-  -- the bytes that the link that is up took
-  pub taken : List ℕ
-  pub subs : List SubRow
-  pub events : List (ℕ × Event)
-  pub calls : List (ℕ × CallReply)
-
-abbrev pub empty_sheet : Sheet
-empty_sheet = record { links = []; taken = []; subs = []; events = []; calls = [] }
 
 -- the sheet that the words on a history and the answers give
 abbrev pub sheet_of : Config → History → List (ℕ × Answer) → Sheet
@@ -47,9 +30,6 @@ sheet_of c h answers = record {
 
 -- ---- what a step writes
 
-abbrev pub row_with : LinkWord → List ℕ → List ℕ → LinkRow
-row_with end bytes left = record { end = end; taken = bytes; left = left }
-
 abbrev pub links_written : Parts → Step → List ℕ → List LinkRow → List LinkRow
 links_written p (link_end end) before links = links ++ row_with end before p.link.wire.waiting ∷ []
 links_written p step before links = links
@@ -60,33 +40,16 @@ taken_written p (link_end end) before = []
 taken_written p (taken n) before = if p.link.is_up then before ++ take n p.link.wire.waiting else []
 taken_written p step before = before
 
-abbrev pub new_row : SubRow
-new_row = record { puts = []; drops = []; takes = [] }
-
--- one more row where a reply has a number
-abbrev pub added : CallReply → List SubRow → List SubRow
-added (Numbered n) rows = rows ++ new_row ∷ []
-added reply rows = rows
-
-abbrev pub write_put : ℕ → Message → SubRow → SubRow
-write_put place m row = record row { puts = row.puts ++ (place, m) ∷ [] }
-
-abbrev pub write_drop : ℕ → Message → SubRow → SubRow
-write_drop place m row = record row { drops = row.drops ++ (place, m) ∷ [] }
-
-abbrev pub write_take : ℕ → TakeReply → SubRow → SubRow
-write_take place reply row = record row { takes = row.takes ++ (place, reply) ∷ [] }
-
 -- a message of a subscription that was put or dropped
 abbrev pub write_delivery : ℕ → ℕ → Message → Delivery → List SubRow → List SubRow
 write_delivery place sid m Put rows = at_number sid (write_put place m) rows
-write_delivery place sid m (Dropped dropped) rows = at_number sid (write_drop place m) rows
+write_delivery place sid m Dropped rows = at_number sid (write_drop place m) rows
 write_delivery place sid m Unwanted rows = rows
 write_delivery place sid m Ignored rows = rows
 
 abbrev pub rows_written : ℕ → Parts → Step → List SubRow → List SubRow
 rows_written place p (accepted call) rows = if subscribes call then rows ++ new_row ∷ [] else rows
-rows_written place p (read (message sid m)) rows = write_delivery place sid m (delivery_at p.config m (item_of sid p.subs.rows)) rows
+rows_written place p (read (message sid m)) rows = write_delivery place sid m (delivery_at p.config (item_of sid p.subs.rows)) rows
 rows_written place p step rows = rows
 
 -- what a step writes at a place but for its events, where these are the parts before it
@@ -129,16 +92,3 @@ pub record Tells (c : Config) (h : History) (answers : List (ℕ × Answer)) (p 
   pub parts : p ≡ parts_of c h
   pub written : sheet ≡ sheet_of c h answers
   pub given_numbers : AreGiven h answers
-
--- what a note writes into a row
-abbrev pub write_note : ℕ → Note → SubRow → SubRow
-write_note place (notes.Put m) row = write_put place m row
-write_note place (notes.Drop m) row = write_drop place m row
-write_note place (notes.Take reply) row = write_take place reply row
-
--- ---- a row by its number
-
--- where the thing of a number stands in a table of that many things, if it does
-abbrev pub IsPlaceOf : ℕ → ℕ → Option ℕ → Type 0
-IsPlaceOf sid count None = (sid ≡ 0) ⊎ (count < sid)
-IsPlaceOf sid count (Some index) = (sid ≡ suc index) × (index < count)

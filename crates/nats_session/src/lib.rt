@@ -2,11 +2,8 @@
 //! lock and no handle. Lengths are in bytes; subscriptions, links and places of turns are numbered from 1.
 #![tactic(auto)]
 
-mod draft;
 mod handler;
-mod places;
 mod play;
-mod refusals;
 
 pub use handler::ConnectionHandler;
 pub use nats_history::{

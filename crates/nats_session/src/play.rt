@@ -4,12 +4,15 @@ ghost use Rattle.nats_history.specs.declared.turn.Turn.TheVariants as turns;
 ghost use Rattle.nats_history.specs.Schedule.{due};
 ghost use Rattle.nats_history.specs.Transcripts.{Plays};
 ghost use Rattle.nats_session.specs.Handler.{can_play, end_in, Sees, is_nothing};
-ghost use Rattle.nats_session.specs.Machine.{quiet, own_parts, own_sheet, settled_parts, settled_sheet, turn_parts, turn_sheet, write_end, Notes};
+ghost use Rattle.nats_session.specs.Sheet.{write_events, finished};
+ghost use Rattle.nats_session.specs.Machine.{quiet, own_parts, own_sheet, settled_parts, settled_sheet, turn_parts, turn_sheet, write_look, write_end, Notes};
 ghost use Rattle.nats_history.specs.declared.transcript.RunError.TheVariants as refused;
 
-use crate::draft::{Draft, Note};
 use crate::handler::{ConnectionHandler, Look};
+use nats_draft::{Draft, Note};
 use nats_history::{Call, Config, LinkWord, NoMemory, RunError, ServerInfo, Transcript, Turn};
+use nats_subs::Delivery;
+use nats_wire::ServerOp;
 use std::alloc::Global;
 
 fn play_up(
@@ -26,7 +29,7 @@ fn play_up(
 {
     handler.up(alloc, info.copy(alloc)?)?;
     draft.begin_link();
-    draft.note_events(place, handler)
+    note_events(handler, draft, place)
 }
 
 fn play_piece(
@@ -42,7 +45,7 @@ fn play_piece(
     ensures sheet { OnOk result (draft.new ≡ own_sheet place (turns.Piece bytes.now) handler.old.parts draft.old) }
 {
     handler.piece(alloc, bytes)?;
-    draft.note_events(place, handler)
+    note_events(handler, draft, place)
 }
 
 fn play_write(
@@ -60,7 +63,7 @@ fn play_write(
     let count = (n as usize).min(waiting.len());
     draft.note_taken(&waiting[..count])?;
     handler.written(n);
-    draft.note_events(place, handler)
+    note_events(handler, draft, place)
 }
 
 fn play_tick(
@@ -77,7 +80,7 @@ fn play_tick(
     let end = handler.tick_word();
     note_end(alloc, handler, draft, end)?;
     handler.tick(alloc)?;
-    draft.note_events(place, handler)
+    note_events(handler, draft, place)
 }
 
 fn play_lost(
@@ -93,7 +96,7 @@ fn play_lost(
 {
     note_end(alloc, handler, draft, Some(LinkWord::Lost))?;
     handler.lost(alloc)?;
-    draft.note_events(place, handler)
+    note_events(handler, draft, place)
 }
 
 fn play_give_up(
@@ -108,7 +111,7 @@ fn play_give_up(
     ensures sheet { OnOk result (draft.new ≡ own_sheet place turns.GiveUp handler.old.parts draft.old) }
 {
     handler.give_up(alloc)?;
-    draft.note_events(place, handler)
+    note_events(handler, draft, place)
 }
 
 fn play_hangup(
@@ -125,7 +128,7 @@ fn play_hangup(
     let end = handler.hangup_word();
     note_end(alloc, handler, draft, end)?;
     handler.hang_up(alloc)?;
-    draft.note_events(place, handler)
+    note_events(handler, draft, place)
 }
 
 fn play_call(
@@ -187,6 +190,21 @@ fn play_own(
     }
 }
 
+/// Takes over the events that wait in the handler.
+fn note_events(
+    handler: &mut ConnectionHandler,
+    draft: &mut Draft,
+    place: u64,
+) -> Result<(), NoMemory>
+    ensures written { OnOk result (draft.new ≡ write_events place handler.old.events draft.old) }
+    ensures handed_out { OnOk result (handler.new ≡ record handler.old { events = [] }) }
+{
+    'event: while let Some(event) = handler.next_event() {
+        draft.note_event(place, event)?;
+    }
+    Ok(())
+}
+
 /// What a link that ends is to leave is taken down while it is there.
 fn note_end(
     alloc: Global,
@@ -199,6 +217,32 @@ fn note_end(
     match end {
         Some(word) => draft.end_link(alloc, word, handler.waiting()),
         None => Ok(()),
+    }
+}
+
+/// A message that the step of `look` is to put is written down from the look, so that it is copied once.
+fn note_coming(
+    alloc: Global,
+    handler: &ConnectionHandler,
+    draft: &mut Draft,
+    place: u64,
+    look: &Look,
+) -> Result<(), NoMemory>
+    ensures { OnOk result (draft.new ≡ write_look place handler.now.parts look.now draft.old) }
+{
+    let Look::Read(peeked) = look else {
+        return Ok(());
+    };
+    match &*peeked.op {
+        ServerOp::Message { sid, message } => match handler.delivery(*sid) {
+            Delivery::Put => draft.note_put(alloc, place, *sid, message),
+            Delivery::Dropped | Delivery::Unwanted | Delivery::Ignored => Ok(()),
+        },
+        ServerOp::Ok
+        | ServerOp::Info(_)
+        | ServerOp::Ping
+        | ServerOp::Pong
+        | ServerOp::Error(_) => Ok(()),
     }
 }
 
@@ -215,11 +259,11 @@ fn play_due(
     ensures { OnOk result (Notes (due handler.old.parts) place handler.old.parts draft.old handler.new draft.new) }
 {
     let end = handler.end_by(&look);
-    let came = look.message(alloc)?;
+    note_coming(alloc, handler, draft, place, &look)?;
     note_end(alloc, handler, draft, end)?;
     let name = handler.advance_by(alloc, look)?;
-    draft.note_due(alloc, place, came, name)?;
-    draft.note_events(place, handler)
+    draft.note_due(alloc, place, name)?;
+    note_events(handler, draft, place)
 }
 
 fn settle(
@@ -257,6 +301,20 @@ fn play_turn(
     settle(alloc, handler, draft, place)
 }
 
+/// The transcript of what was written; a link that is up has its row too, with the bytes that wait for it.
+fn finish(
+    alloc: Global,
+    handler: &ConnectionHandler,
+    mut draft: Draft,
+) -> Result<Transcript, NoMemory>
+    ensures { IfOk result (λ t. t ≡ finished handler.now.parts draft) }
+{
+    if handler.is_up() {
+        draft.end_link(alloc, LinkWord::Up, handler.waiting())?;
+    }
+    Ok(draft.finish())
+}
+
 /// Plays the turns in order, each with all its due steps, and answers their transcript. A turn that may not come where it
 /// stands is answered with its place, and none is played from it on. It plays them by the calls of `ConnectionHandler`.
 pub fn run(alloc: Global, config: Config, turns: &[Turn]) -> Result<Transcript, RunError>
@@ -271,5 +329,5 @@ pub fn run(alloc: Global, config: Config, turns: &[Turn]) -> Result<Transcript, 
         }
         play_turn(alloc, &mut handler, &mut draft, place, turn)?;
     }
-    Ok(draft.finish(alloc, &handler)?)
+    Ok(finish(alloc, &handler, draft)?)
 }

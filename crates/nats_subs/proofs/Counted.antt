@@ -1,11 +1,13 @@
 -- All subscriptions, as a table of rows with a count of those subscribed.
 use Rattle.std.specs.Prelude.{slice_get}
-use Rattle.std.proofs.Common.{◌≡◌, Bool, true, false, not, ◌&&◌, cond, nat_lt, if◌then◌else◌, ℕ, zero, suc, ◌+◌, ◌≤◌, List, [], ◌∷◌, ◌++◌, length, map, Option, Some, None, refl, sym, ◌∙◌, ap, arith, add-one}
+use Rattle.std.proofs.Common.{◌≡◌, Bool, true, false, not, ◌&&◌, cond, nat_lt, if◌then◌else◌, ℕ, zero, suc, ◌+◌, ◌-◌, ◌≤◌, List, [], ◌∷◌, ◌++◌, length, drop, map, Option, Some, None, refl, sym, ◌∙◌, ap, arith, add-one}
 use Rattle.std.proofs.lemmas.List.{append-nil, append_assoc, length-append, length-map}
+use Rattle.std.proofs.lemmas.Option.{none-some}
 use Rattle.nats_wire.specs.declared.op.ClientOp.{ClientOp}
 use Rattle.nats_tables.specs.Numbers.{at_index, at_number, item_of}
-use Rattle.nats_tables.specs.Rows.{kept_row}
+use Rattle.nats_tables.specs.Rows.{kept_row, first_kept}
 use Rattle.nats_tables.proofs.Numbers.{length-at_number}
+use Rattle.nats_tables.proofs.Walks.{same_some, kept_low}
 use Rattle.nats_history.specs.declared.call.Interest.{Interest}
 use Rattle.nats_history.specs.History.{Sub, is_open, is_ended, is_over, kept, unsubscribe_command, subscribed_again, commands_from}
 use Rattle.nats_history.specs.Parts.{Subs}
@@ -35,36 +37,7 @@ next_opens subscribed rows new next is =
       rows = rows_named (if b then Some (suc subscribed) else None) alterations.Open rows;
     }) next)
 
--- ---- each row, one by one
-
--- the first of some rows were changed
-abbrev pub changed_to : {A : Type 0} → ℕ → (A → A) → List A → List A
-changed_to zero f xs = xs
-changed_to (suc i) f [] = []
-changed_to (suc i) f (x ∷ xs) = f x ∷ changed_to i f xs
-
-changed_next : {A : Type 0} (i : ℕ) (f : A → A) (xs : List A) → at_index i f (changed_to i f xs) ≡ changed_to (suc i) f xs
-changed_next zero f [] = refl
-changed_next zero f (x ∷ xs) = refl
-changed_next (suc i) f [] = refl
-changed_next (suc i) f (x ∷ xs) = ap (λ ys. f x ∷ ys) (changed_next i f xs)
-
--- one more was changed, which is told by its number
-pub one_changed : {A : Type 0} (i : ℕ) (f : A → A) (xs old new : List A) → old ≡ changed_to i f xs → new ≡ at_number (i + 1) f old → new ≡ changed_to (i + 1) f xs
-one_changed i f xs old new before is =
-    let next = add-one i in
-    is ∙ (ap (λ k. at_number k f old) next ∙ (ap (at_index i f) before ∙ (changed_next i f xs ∙ sym (ap (λ k. changed_to k f xs) next))))
-
-pub length-changed_to : {A : Type 0} (i : ℕ) (f : A → A) (xs : List A) → length (changed_to i f xs) ≡ length xs
-length-changed_to zero f xs = refl
-length-changed_to (suc i) f [] = refl
-length-changed_to (suc i) f (x ∷ xs) = ap suc (length-changed_to i f xs)
-
-pub changed_all : {A : Type 0} (i : ℕ) (f : A → A) (xs : List A) → length xs ≤ i → changed_to i f xs ≡ map f xs
-changed_all zero f [] past = refl
-changed_all zero f (x ∷ xs) past = absurd (omega arith)
-changed_all (suc i) f [] past = refl
-changed_all (suc i) f (x ∷ xs) past = ap (λ ys. f x ∷ ys) (changed_all i f xs (omega arith))
+-- ---- each row
 
 -- each was changed, and no number was given
 pub rows_altered : (subscribed : ℕ) (f : Sub → Sub) (rows new : List Sub) → new ≡ map f rows → as_subs subscribed new ≡ record (as_subs subscribed rows) { rows = map f rows }
@@ -101,37 +74,55 @@ commands_kept t s (Some sub) = by_over (is_over sub) refl
     by_over true over = sym (over_quiet t s sub over)
     by_over false over = refl
 
--- the commands of the first rows
-abbrev pub commands_to : Texts → ℕ → ℕ → List Sub → List ClientOp
-commands_to t zero s rows = []
-commands_to t (suc i) s [] = []
-commands_to t (suc i) s (sub ∷ more) = commands_by t s sub ++ commands_to t i (suc s) more
+abbrev Next : Texts → ℕ → ℕ → ℕ → List Sub → Type 0
+Next t s d k subs = commands_from (commands_by t) s subs ≡ commands_at t k (slice_get subs d) ++ commands_from (commands_by t) (suc k) (drop (suc d) subs)
 
-commands_next : (t : Texts) (i s : ℕ) (rows : List Sub) → commands_to t (suc i) s rows ≡ commands_to t i s rows ++ commands_at t (s + i) (slice_get rows i)
-commands_next t zero s [] = refl
-commands_next t zero s (sub ∷ more) =
-    let same : s ≡ s + 0 = omega arith in
-    append-nil (commands_by t s sub) ∙ ap (λ k. commands_by t k sub) same
-commands_next t (suc i) s [] = refl
-commands_next t (suc i) s (sub ∷ more) =
-    let same : suc s + i ≡ s + suc i = omega arith in
-    ap (λ ops. commands_by t s sub ++ ops) (commands_next t i (suc s) more ∙ ap (λ k. commands_to t i (suc s) more ++ commands_at t k (slice_get more i)) same)
-    ∙ sym (append_assoc (commands_by t s sub) (commands_to t i (suc s) more) (commands_at t (s + suc i) (slice_get more i)))
+first_commands : (t : Texts) (s d k : ℕ) (subs : List Sub) → k ≡ s + d → first_kept is_over s subs ≡ Some k → Next t s d k subs
+first_commands t s d k [] e is = absurd (none-some k is)
+first_commands t s zero k (sub ∷ more) e is = by (is_over sub) is (kept_low is_over (suc s) k more)
+  where
+    by : (b : Bool) → cond b (first_kept is_over (suc s) more) (Some s) ≡ Some k → (first_kept is_over (suc s) more ≡ Some k → suc s ≤ k) → Next t s zero k (sub ∷ more)
+    by true is low = absurd (omega (arith, low is, e))
+    by false is low = ap (λ j. commands_by t j sub ++ commands_from (commands_by t) (suc j) more) (same_some s k is)
+first_commands t s (suc d) k (sub ∷ more) e is = by (is_over sub) refl is (first_commands t (suc s) d k more (omega (arith, e)))
+  where
+    by : (b : Bool) → is_over sub ≡ b → cond b (first_kept is_over (suc s) more) (Some s) ≡ Some k → (first_kept is_over (suc s) more ≡ Some k → Next t (suc s) d k more) → Next t s (suc d) k (sub ∷ more)
+    by true over is next = ap (λ ops. ops ++ commands_from (commands_by t) (suc s) more) (over_quiet t s sub over) ∙ next is
+    by false over is next = absurd (omega (arith, same_some s k is, e))
 
--- one more row's, by its number
-pub one_command : (t : Texts) (i : ℕ) (rows : List Sub) (old new : List ClientOp) → old ≡ commands_to t i 1 rows → new ≡ old ++ commands_at t (i + 1) (item_of (i + 1) rows)
-    → new ≡ commands_to t (i + 1) 1 rows
-one_command t i rows old new before is =
-    let next = add-one i in
-    let same : suc i ≡ 1 + i = omega arith in
-    is
-    ∙ (ap (λ ops. ops ++ commands_at t (i + 1) (item_of (i + 1) rows)) before
-    ∙ (ap (λ k. commands_to t i 1 rows ++ commands_at t k (item_of k rows)) next
-    ∙ (ap (λ k. commands_to t i 1 rows ++ commands_at t k (slice_get rows i)) same
-    ∙ (sym (commands_next t i 1 rows) ∙ ap (λ k. commands_to t k 1 rows) (sym next)))))
+behind_commands : (t : Texts) (n s d i k : ℕ) (rows : List Sub) → i ≡ n + d → k ≡ s + d → first_kept is_over s (drop n rows) ≡ Some k
+    → commands_from (commands_by t) s (drop n rows) ≡ commands_at t k (slice_get rows i) ++ commands_from (commands_by t) (suc k) (drop (suc i) rows)
+behind_commands t zero s d i k rows a b is =
+    let e : d ≡ i = omega (arith, a) in
+    first_commands t s d k rows b is ∙ ap (λ j. commands_at t k (slice_get rows j) ++ commands_from (commands_by t) (suc k) (drop (suc j) rows)) e
+behind_commands t (suc n) s d i k [] a b is = absurd (none-some k is)
+behind_commands t (suc n) s d zero k (row ∷ rows) a b is = absurd (omega (arith, a))
+behind_commands t (suc n) s d (suc i) k (row ∷ rows) a b is = behind_commands t n s d i k rows (omega (arith, a)) b is
 
-pub commands_all : (t : Texts) (i s : ℕ) (rows : List Sub) → length rows ≤ i → commands_to t i s rows ≡ commands_from (commands_by t) s rows
-commands_all t zero s [] past = refl
-commands_all t zero s (sub ∷ more) past = absurd (omega arith)
-commands_all t (suc i) s [] past = refl
-commands_all t (suc i) s (sub ∷ more) past = ap (λ ops. commands_by t s sub ++ ops) (commands_all t i (suc s) more (omega arith))
+next_commands : (t : Texts) (n k : ℕ) (rows : List Sub) → first_kept is_over (suc n) (drop n rows) ≡ Some k
+    → commands_from (commands_by t) (suc n) (drop n rows) ≡ commands_at t k (item_of k rows) ++ commands_from (commands_by t) (suc k) (drop k rows)
+next_commands t n zero rows is = absurd (omega (arith, kept_low is_over (suc n) zero (drop n rows) is))
+next_commands t n (suc i) rows is =
+    let low = kept_low is_over (suc n) (suc i) (drop n rows) is in
+    behind_commands t n (suc n) (i - n) i (suc i) rows (omega (arith, low)) (omega (arith, low)) is
+
+-- the commands of the next row that is not over, where those behind the first n are left
+pub one_command : (t : Texts) (n k : ℕ) (rows : List Sub) (old new all : List ClientOp) → old ++ commands_from (commands_by t) (suc n) (drop n rows) ≡ all → first_kept is_over (suc n) (drop n rows) ≡ Some k
+    → new ≡ old ++ commands_at t k (item_of k rows) → new ++ commands_from (commands_by t) (suc k) (drop k rows) ≡ all
+one_command t n k rows old new all before next is =
+    ap (λ ops. ops ++ commands_from (commands_by t) (suc k) (drop k rows)) is
+    ∙ (append_assoc old (commands_at t k (item_of k rows)) (commands_from (commands_by t) (suc k) (drop k rows))
+    ∙ (ap (λ ops. old ++ ops) (sym (next_commands t n k rows next)) ∙ before))
+
+none_commands : (t : Texts) (s : ℕ) (subs : List Sub) → first_kept is_over s subs ≡ None → commands_from (commands_by t) s subs ≡ []
+none_commands t s [] is = refl
+none_commands t s (sub ∷ more) is = by (is_over sub) refl is (none_commands t (suc s) more)
+  where
+    by : (b : Bool) → is_over sub ≡ b → cond b (first_kept is_over (suc s) more) (Some s) ≡ None → (first_kept is_over (suc s) more ≡ None → commands_from (commands_by t) (suc s) more ≡ []) → commands_from (commands_by t) s (sub ∷ more) ≡ []
+    by true over is next = ap (λ ops. ops ++ commands_from (commands_by t) (suc s) more) (over_quiet t s sub over) ∙ next is
+    by false over is next = absurd (none-some s (sym is))
+
+-- no row is left
+pub commands_done : (t : Texts) (n : ℕ) (rows : List Sub) (ops all : List ClientOp) → ops ++ commands_from (commands_by t) (suc n) (drop n rows) ≡ all → first_kept is_over (suc n) (drop n rows) ≡ None → ops ≡ all
+commands_done t n rows ops all before none =
+    sym (append-nil ops) ∙ (ap (λ more. ops ++ more) (sym (none_commands t (suc n) (drop n rows) none)) ∙ before)

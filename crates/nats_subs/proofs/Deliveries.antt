@@ -18,12 +18,12 @@ use Rattle.nats_subs.specs.Delivery.{delivery, delivery_at, is_unwanted, deliver
 
 -- ---- one subscription, by its stage, whether it is shut, and whether it has room
 
-abbrev delivered_by : Message → Stage → Bool → Bool → Delivery
-delivered_by m stage shut room = cond (is_open stage) (cond shut Unwanted (cond room Put (Dropped m))) Ignored
+abbrev delivered_by : Stage → Bool → Bool → Delivery
+delivered_by stage shut room = cond (is_open stage) (cond shut Unwanted (cond room Put Dropped)) Ignored
 
 -- the delivery leaves the subscription as it is
 abbrev pub leaves : Delivery → Bool
-leaves (Dropped m) = true
+leaves Dropped = true
 leaves Unwanted = true
 leaves Put = false
 leaves Ignored = false
@@ -32,36 +32,36 @@ and_false : (b : Bool) → (b && false) ≡ false
 and_false true = refl
 and_false false = refl
 
-left_facts : (m : Message) (stage : Stage) (shut room is_gone : Bool) (d : Delivery) → delivered_by m stage shut room ≡ d → leaves d ≡ true
+left_facts : (stage : Stage) (shut room is_gone : Bool) (d : Delivery) → delivered_by stage shut room ≡ d → leaves d ≡ true
     → (((is_open stage && not shut) && room) ≡ false) × ((is_gone && is_ended stage) ≡ false)
-left_facts m Asked shut room is_gone d e l = absurd (false≢true (ap leaves e ∙ l))
-left_facts m Ended shut room is_gone d e l = absurd (false≢true (ap leaves e ∙ l))
-left_facts m Open true room is_gone d e l = (refl, and_false is_gone)
-left_facts m Open false true is_gone d e l = absurd (false≢true (ap leaves e ∙ l))
-left_facts m Open false false is_gone d e l = (refl, and_false is_gone)
+left_facts Asked shut room is_gone d e l = absurd (false≢true (ap leaves e ∙ l))
+left_facts Ended shut room is_gone d e l = absurd (false≢true (ap leaves e ∙ l))
+left_facts Open true room is_gone d e l = (refl, and_false is_gone)
+left_facts Open false true is_gone d e l = absurd (false≢true (ap leaves e ∙ l))
+left_facts Open false false is_gone d e l = (refl, and_false is_gone)
 
-left_sub : (c : Config) (m : Message) (sub : Sub) (d : Delivery) → delivery c m sub ≡ d → leaves d ≡ true → kept (deliver c m sub) ≡ sub
+left_sub : (c : Config) (m : Message) (sub : Sub) (d : Delivery) → delivery c sub ≡ d → leaves d ≡ true → kept (deliver c m sub) ≡ sub
 left_sub c m sub d e l =
-    let facts = left_facts m sub.stage sub.is_shut (has_room c sub) sub.is_gone d e l in
+    let facts = left_facts sub.stage sub.is_shut (has_room c sub) sub.is_gone d e l in
     ap (λ b. kept (cond b (put_into m sub) sub)) facts.0 ∙ ap (λ b. cond b forgotten sub) facts.1
 
-closing_by : (m : Message) (stage : Stage) (shut room : Bool) → (is_open stage && shut) ≡ is_unwanted (delivered_by m stage shut room)
-closing_by m Asked shut room = refl
-closing_by m Ended shut room = refl
-closing_by m Open true room = refl
-closing_by m Open false true = refl
-closing_by m Open false false = refl
+closing_by : (stage : Stage) (shut room : Bool) → (is_open stage && shut) ≡ is_unwanted (delivered_by stage shut room)
+closing_by Asked shut room = refl
+closing_by Ended shut room = refl
+closing_by Open true room = refl
+closing_by Open false true = refl
+closing_by Open false false = refl
 
-closing_sub : (c : Config) (m : Message) (sub : Sub) (d : Delivery) → delivery c m sub ≡ d → is_closing sub ≡ is_unwanted d
-closing_sub c m sub d e = closing_by m sub.stage sub.is_shut (has_room c sub) ∙ ap is_unwanted e
+closing_sub : (c : Config) (sub : Sub) (d : Delivery) → delivery c sub ≡ d → is_closing sub ≡ is_unwanted d
+closing_sub c sub d e = closing_by sub.stage sub.is_shut (has_room c sub) ∙ ap is_unwanted e
 
-events_by : (m : Message) (sid : ℕ) (stage : Stage) (shut room : Bool)
-    → cond ((is_open stage && not shut) && not room) (SlowConsumer sid ∷ []) [] ≡ delivery_events sid (delivered_by m stage shut room)
-events_by m sid Asked shut room = refl
-events_by m sid Ended shut room = refl
-events_by m sid Open true room = refl
-events_by m sid Open false true = refl
-events_by m sid Open false false = refl
+events_by : (sid : ℕ) (stage : Stage) (shut room : Bool)
+    → cond ((is_open stage && not shut) && not room) (SlowConsumer sid ∷ []) [] ≡ delivery_events sid (delivered_by stage shut room)
+events_by sid Asked shut room = refl
+events_by sid Ended shut room = refl
+events_by sid Open true room = refl
+events_by sid Open false true = refl
+events_by sid Open false false = refl
 
 abbrev sub_as : Option Interest → Stage → Bool → Bool → Bool → Option ℕ → ℕ → List Message → Sub
 sub_as asked stage shut is_gone draining limit n waiting = record { interest = asked; stage = stage; is_shut = shut; is_gone = is_gone; is_draining = draining; limit = limit; puts = n; waiting = waiting }
@@ -101,9 +101,9 @@ came_ended c sid m sub goes =
 
 -- ---- the subscription of a number
 
-module _ (c : Config) (m : Message) (sid : ℕ) (rows : List Sub) (d : Delivery) (is : delivery_at c m (item_of sid rows) ≡ d) where
-  one : (sub : Sub) → item_of sid rows ≡ Some sub → delivery c m sub ≡ d
-  one sub there = sym (ap (delivery_at c m) there) ∙ is
+module _ (c : Config) (m : Message) (sid : ℕ) (rows : List Sub) (d : Delivery) (is : delivery_at c (item_of sid rows) ≡ d) where
+  one : (sub : Sub) → item_of sid rows ≡ Some sub → delivery c sub ≡ d
+  one sub there = sym (ap (delivery_at c) there) ∙ is
 
   -- a message that is dropped, or that ends its subscription, is not taken in
   pub left_alone : leaves d ≡ true → at_number sid (λ sub. kept (deliver c m sub)) rows ≡ rows
@@ -112,30 +112,30 @@ module _ (c : Config) (m : Message) (sid : ℕ) (rows : List Sub) (d : Delivery)
   -- what the step makes of the rows
   came_in : is_unwanted d ≡ false → at_number sid (sub_after c (came sid m)) rows ≡ at_number sid (λ sub. kept (deliver c m sub)) rows
   came_in stays =
-      agree_at sid (sub_after c (came sid m)) (λ sub. kept (deliver c m sub)) rows (λ sub there. ap kept (came_delivered c sid m sub (closing_sub c m sub d (one sub there) ∙ stays)))
+      agree_at sid (sub_after c (came sid m)) (λ sub. kept (deliver c m sub)) rows (λ sub there. ap kept (came_delivered c sid m sub (closing_sub c sub d (one sub there) ∙ stays)))
 
   came_last : is_unwanted d ≡ true → at_number sid (sub_after c (came sid m)) rows ≡ rows_with sid alterations.End rows
   came_last goes =
-      agree_at sid (sub_after c (came sid m)) (λ sub. kept (altered alterations.End sub)) rows (λ sub there. ap kept (came_ended c sid m sub (closing_sub c m sub d (one sub there) ∙ goes)))
+      agree_at sid (sub_after c (came sid m)) (λ sub. kept (altered alterations.End sub)) rows (λ sub there. ap kept (came_ended c sid m sub (closing_sub c sub d (one sub there) ∙ goes)))
 
-pub closing_at : (c : Config) (m : Message) (row : Option Sub) (d : Delivery) → delivery_at c m row ≡ d → is_closing_at row ≡ is_unwanted d
-closing_at c m None d is = ap is_unwanted is
-closing_at c m (Some sub) d is = closing_sub c m sub d is
+pub closing_at : (c : Config) (row : Option Sub) (d : Delivery) → delivery_at c row ≡ d → is_closing_at row ≡ is_unwanted d
+closing_at c None d is = ap is_unwanted is
+closing_at c (Some sub) d is = closing_sub c sub d is
 
-pub events_at : (c : Config) (m : Message) (sid : ℕ) (row : Option Sub) → drop_events c sid row ≡ delivery_events sid (delivery_at c m row)
-events_at c m sid None = refl
-events_at c m sid (Some sub) = events_by m sid sub.stage sub.is_shut (has_room c sub)
+pub events_at : (c : Config) (sid : ℕ) (row : Option Sub) → drop_events c sid row ≡ delivery_events sid (delivery_at c row)
+events_at c sid None = refl
+events_at c sid (Some sub) = events_by sid sub.stage sub.is_shut (has_room c sub)
 
 -- the rows after a message, by what became of it
 abbrev pub rows_by : Config → ℕ → Message → Delivery → List Sub → List Sub
 rows_by c sid m Unwanted rows = rows_with sid alterations.End rows
-rows_by c sid m (Dropped dropped) rows = rows
+rows_by c sid m Dropped rows = rows
 rows_by c sid m Put rows = at_number sid (λ sub. kept (deliver c m sub)) rows
 rows_by c sid m Ignored rows = at_number sid (λ sub. kept (deliver c m sub)) rows
 
-pub rows_came : (c : Config) (m : Message) (sid : ℕ) (rows : List Sub) (d : Delivery) → delivery_at c m (item_of sid rows) ≡ d
+pub rows_came : (c : Config) (m : Message) (sid : ℕ) (rows : List Sub) (d : Delivery) → delivery_at c (item_of sid rows) ≡ d
     → at_number sid (sub_after c (came sid m)) rows ≡ rows_by c sid m d rows
 rows_came c m sid rows Unwanted is = came_last c m sid rows Unwanted is refl
-rows_came c m sid rows (Dropped dropped) is = came_in c m sid rows (Dropped dropped) is refl ∙ left_alone c m sid rows (Dropped dropped) is refl
+rows_came c m sid rows Dropped is = came_in c m sid rows Dropped is refl ∙ left_alone c m sid rows Dropped is refl
 rows_came c m sid rows Put is = came_in c m sid rows Put is refl
 rows_came c m sid rows Ignored is = came_in c m sid rows Ignored is refl

@@ -21,24 +21,24 @@ use Rattle.nats_history.specs.After.{new_sub}
 -- ---- one subscription
 
 -- put where there is room, dropped where there is none, unwanted where it is shut, ignored where it is not open
-abbrev pub delivery : Config → Message → Sub → Delivery
-delivery c m sub =
-    if is_open sub.stage then (if sub.is_shut then Unwanted else (if has_room c sub then Put else Dropped m)) else Ignored
+abbrev pub delivery : Config → Sub → Delivery
+delivery c sub =
+    if is_open sub.stage then (if sub.is_shut then Unwanted else (if has_room c sub then Put else Dropped)) else Ignored
 
 -- the same of a table's item, where there is one
-abbrev pub delivery_at : Config → Message → Option Sub → Delivery
-delivery_at c m None = Ignored
-delivery_at c m (Some sub) = delivery c m sub
+abbrev pub delivery_at : Config → Option Sub → Delivery
+delivery_at c None = Ignored
+delivery_at c (Some sub) = delivery c sub
 
 abbrev pub is_unwanted : Delivery → Bool
 is_unwanted Unwanted = true
 is_unwanted Put = false
-is_unwanted (Dropped m) = false
+is_unwanted Dropped = false
 is_unwanted Ignored = false
 
 -- the events of a delivery
 abbrev pub delivery_events : ℕ → Delivery → List Event
-delivery_events sid (Dropped m) = SlowConsumer sid ∷ []
+delivery_events sid Dropped = SlowConsumer sid ∷ []
 delivery_events sid Put = []
 delivery_events sid Unwanted = []
 delivery_events sid Ignored = []

@@ -1,8 +1,9 @@
 //! First in, first out.
-ghost use Rattle.std.specs.Prelude.{◌≡◌, ◌==◌, [], ◌∷◌, ◌++◌, length, drop, OnOk, IfErr};
+ghost use Rattle.std.specs.Prelude.{◌≡◌, ◌==◌, [], ◌∷◌, ◌++◌, length, drop, OnOk, OnErr, IfErr};
 ghost use Rattle.std.specs.Option.{option_copied};
 ghost use Rattle.nats_history.specs.Queue.{first, last};
 
+use nats_history::NoMemory;
 use std::alloc::{AllocFailed, Global};
 use std::collections::VecDeque;
 use std::marker::Model;
@@ -84,6 +85,17 @@ impl<T> Queue<T> {
 }
 
 impl<T: Drop> Queue<T> {
+    /// Puts an item last. Where memory is wanting the item is let go and the queue is as it was. It hands no item back, so it
+    /// costs less than `push` where an item is large.
+    pub fn append(&mut self, item: T) -> Result<(), NoMemory>
+        ensures ok { OnOk result (self.new ≡ self.old ++ item ∷ []) }
+        ensures err { OnErr result (self.new ≡ self.old) }
+    {
+        self.items.reserve(1)?;
+        self.items.push_back_reserved(item);
+        Ok(())
+    }
+
     /// Lets all items go. It takes no memory.
     pub fn clear(&mut self)
         ensures { self.new ≡ [] }

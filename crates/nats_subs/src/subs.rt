@@ -36,8 +36,10 @@ impl Model for Subscriptions {
 fn alter_rows(table: &mut Table<Subscription>, alteration: Alteration)
     ensures { table.new ≡ rows_each alteration table.old }
 {
-    'rows: for index in 0..table.len() {
-        table.alter(index + 1, &alteration);
+    let mut last = 0;
+    'rows: while let Some(sid) = table.next_after(last) {
+        table.alter(sid, &alteration);
+        last = sid;
     }
 }
 
@@ -64,8 +66,10 @@ fn texts_in(
     ensures { IfOk result (λ ops. ops.items ≡ commands_from (commands_by texts) 1 table.now) }
 {
     let mut ops = Vec::new(alloc);
-    'rows: for index in 0..table.len() {
-        push_texts(alloc, table, texts, index + 1, &mut ops)?;
+    let mut last = 0;
+    'rows: while let Some(sid) = table.next_after(last) {
+        push_texts(alloc, table, texts, sid, &mut ops)?;
+        last = sid;
     }
     Ok(ops)
 }
@@ -154,16 +158,25 @@ impl Subscriptions {
         alter_rows(&mut self.table, alteration);
     }
 
-    /// Brings a message to a subscription.
+    /// What becomes of a message that comes for a subscription.
+    pub fn delivery(&self, config: &Config, sid: u64) -> Delivery
+        ensures { result ≡ delivery_at config.now (item_of sid self.now.rows) }
+    {
+        match self.table.item(sid) {
+            Some(row) => row.delivery(config),
+            None => Delivery::Ignored,
+        }
+    }
+
+    /// Brings a message to a subscription, which takes it in where `delivery` says so.
     pub fn deliver(
         &mut self,
         config: &Config,
         sid: u64,
         message: Message,
-    ) -> Result<Delivery, NoMemory>
+    ) -> Result<(), NoMemory>
         ensures ok { OnOk result
             (self.new ≡ with_rows (at_number sid (λ sub. kept (deliver config.now message sub)) self.old.rows) self.old) }
-        ensures answer { IfOk result (λ d. d ≡ delivery_at config.now message (item_of sid self.old.rows)) }
         ensures err { OnErr result (self.new ≡ self.old) }
     {
         self.table.try_alter(sid, Arrival { config, message })

@@ -1,5 +1,5 @@
 -- How a table shows the rows that it keeps, and those that it forgot.
-use Rattle.std.specs.Prelude.{◌≡◌, ◌<◌, ◌≤◌, ℕ, cond, Bool, true, false, ◌&&◌, List, map, Option, Some, None, if◌then◌else◌}
+use Rattle.std.specs.Prelude.{◌≡◌, ◌<◌, ◌≤◌, ℕ, suc, cond, Bool, true, false, ◌&&◌, List, [], ◌∷◌, map, Option, Some, None, if◌then◌else◌, ⊤}
 use Rattle.std.specs.Ordering.{nat_cmp}
 use Rattle.std.specs.Option.{IfSome, unwrap_or}
 use Rattle.std.specs.Map.{lookup}
@@ -53,3 +53,13 @@ row_at gone s rows = unwrap_or (item_of s rows) gone
 abbrev pub kept_row : {A : Type 0} → (A → Bool) → Option A → Option A
 kept_row over None = None
 kept_row over (Some row) = if over row then None else Some row
+
+-- the number of the first row that is not over, where the rows are numbered from that on
+abbrev pub first_kept : {A : Type 0} → (A → Bool) → ℕ → List A → Option ℕ
+first_kept over s [] = None
+first_kept over s (row ∷ rows) = if over row then first_kept over (suc s) rows else Some s
+
+-- each row that is over is shown as forgotten
+abbrev pub Tidy : {A : Type 0} → (A → Bool) → A → List A → Type 0
+Tidy over gone [] = ⊤
+Tidy over gone (row ∷ rows) = (over row ≡ true → row ≡ gone) × Tidy over gone rows

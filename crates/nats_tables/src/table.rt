@@ -1,13 +1,14 @@
 //! A table of numbered rows that forgets those that are over.
-ghost use Rattle.std.specs.Prelude.{◌≡◌, ◌++◌, [], ◌∷◌, Bool, true, false, length, OnOk, OnErr, IfOk, None};
+ghost use Rattle.std.specs.Prelude.{◌≡◌, ◌++◌, [], ◌∷◌, Bool, true, false, length, drop, suc, OnOk, OnErr, IfOk, None};
 ghost use Rattle.std.specs.Option.{option_copied};
 ghost use Rattle.nats_tables.specs.Numbers.{item_of, at_number};
-ghost use Rattle.nats_tables.specs.Rows.{row_at, kept_row, tidied, UpdatedAt, ForgotIf};
+ghost use Rattle.nats_tables.specs.Rows.{row_at, kept_row, tidied, first_kept, Tidy, UpdatedAt, ForgotIf};
 
 use nats_names::NoMemory;
 use std::alloc::Global;
 use std::collections::BTreeMap;
 use std::marker::Model;
+use std::ops::Bound;
 
 /// A row of a table, which may be over.
 pub trait Row: Drop {
@@ -143,6 +144,19 @@ impl<T: Row> Table<T> {
         ensures { option_copied result ≡ kept_row T.over (item_of number self.now) }
     {
         self.kept.get(&number)
+    }
+
+    /// The first number above this one whose row is not over, so that those can be gone through in order; `None` where each
+    /// row above it is. It takes no memory. Our own; the crate goes through its `HashMap`, in no order.
+    pub fn next_after(&self, number: u64) -> Option<u64>
+        ensures next { result ≡ first_kept T.over (suc number) (drop number self.now) }
+        ensures tidy { Tidy T.over T.forgotten self.now }
+    {
+        let above = (Bound::Excluded(number), Bound::Unbounded);
+        match self.kept.range(above).next() {
+            Some((next, _)) => Some(*next),
+            None => None,
+        }
     }
 
     /// Changes the row of a number, if it was given, and forgets it where it is over then. It takes no memory.

@@ -96,5 +96,7 @@ fn a_row_that_is_over_is_forgotten(rt: HostRuntime) -> Result<(), Fail> {
     assert_eq!(rt; table.try_alter(2, Set { count: 1 })?, 0);
     assert!(rt; table.alter(2, &Stop));
     assert_eq!(rt; table.len(), 2);
+    assert_eq!(rt; table.next_after(0), Some(1));
+    assert_eq!(rt; table.next_after(1), None);
     Ok(())
 }

@@ -3,10 +3,11 @@ use Rattle.std.specs.Prelude.{ℕ, ◌+◌, List, [], ◌∷◌, ◌++◌, lengt
 use Rattle.std.specs.Fmt.{decimal}
 use Rattle.std.specs.Borrow.{Bor}
 use Rattle.std.specs.List.{flat_map}
+use Rattle.nats_connect.specs.Connect.{connect_text}
 use Rattle.nats_header.specs.Headers.{Headers}
 use Rattle.nats_header.specs.Block.{block_text}
 use Rattle.nats_wire.specs.declared.op.ClientOp.{ClientOp}
-use Rattle.nats_wire.specs.declared.op.ClientOp.TheVariants.{Subscribe, Unsubscribe, Publish, Ping, Pong}
+use Rattle.nats_wire.specs.declared.op.ClientOp.TheVariants.{Subscribe, Unsubscribe, Publish, Ping, Pong, Connect}
 
 -- the end of each line
 abbrev pub crlf : List ℕ
@@ -51,6 +52,7 @@ command_text (Unsubscribe sid max) = unsubscription_text sid max
 command_text (Publish subject payload respond headers) = publication_text subject respond (sent_block headers) payload
 command_text Ping = codes "PING" ++ crlf
 command_text Pong = codes "PONG" ++ crlf
+command_text (Connect info) = connect_text info
 
 -- what the client writes for some operations, in order
 abbrev pub command_texts : List ClientOp → List ℕ

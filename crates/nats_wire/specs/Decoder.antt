@@ -1,5 +1,5 @@
 -- What the decoder's values say, in the grammar's words.
-use Rattle.std.specs.Prelude.{ℕ, List, [], ◌∷◌, Option, Some, None}
+use Rattle.std.specs.Prelude.{Box, ℕ, List, [], ◌∷◌, Option, Some, None}
 use Rattle.std.specs.Borrow.{Bor}
 use Rattle.std.specs.Option.{option_map}
 use Rattle.nats_names.specs.declared.server_error.ServerError.{ServerError}
@@ -21,7 +21,8 @@ use Rattle.nats_wire.specs.declared.head.Piece.{Piece}
 use Rattle.nats_wire.specs.declared.head.Head.{Head}
 use Rattle.nats_wire.specs.declared.head.HeaderHead.{HeaderHead}
 use Rattle.nats_wire.specs.Operations as grammar
-use Rattle.nats_wire.specs.Operations.{op_view, unfinished, got, fault, message, error_op, ok_op, ping_op, pong_op, plain, info_text, headed, less, whole, bad, Cut, pieces_of, words_of}
+use Rattle.nats_wire.specs.declared.op.ServerOp.{ServerOp}
+use Rattle.nats_wire.specs.Operations.{Operation, op_view, unfinished, got, fault, message, error_op, ok_op, ping_op, pong_op, plain, info_text, headed, less, whole, bad, Cut, pieces_of, words_of}
 
 abbrev pub message_view : MessageText → Message
 message_view m = record {
@@ -51,6 +52,10 @@ abbrev pub sight_view : Sight → grammar.Sight
 sight_view sight.Unfinished = less
 sight_view (sight.Whole text n) = whole (op_text_view text) n
 sight_view (sight.Fault n) = bad n
+
+-- an operation in a box
+abbrev pub boxed_view : {Z : Type 0} → Box ServerOp Z → Operation
+boxed_view op = op_view op.value
 
 abbrev pub front_view : Front → grammar.Front
 front_view front.Unfinished = unfinished

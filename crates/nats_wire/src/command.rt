@@ -1,10 +1,12 @@
 //! The texts of client operations, by the NATS client protocol.
 ghost use Rattle.std.specs.Prelude.{◌≡◌, ◌++◌, length, Some, None, IfOk, IfSome, OnOk, OnErr};
+ghost use Rattle.nats_connect.specs.Connect.{connect_text};
 ghost use Rattle.nats_wire.specs.Commands.{word_and_space, sent_block, publication_text, subscription_text, unsubscription_text, command_text, command_texts, joined};
 
 use crate::op::ClientOp;
 use bytes::BytesMut;
 use itoa::Buffer;
+use nats_connect::{ConnectInfo, connect_text};
 use nats_header::HeaderMap;
 use nats_names::{Bytes, NoMemory, Subject};
 use std::alloc::Global;
@@ -29,6 +31,7 @@ pub fn append(alloc: Global, op: &ClientOp, out: &mut BytesMut) -> Result<(), No
         } => append_publication(alloc, subject, respond, headers, payload, out),
         ClientOp::Ping => append_all(&[b"PING\r\n".as_slice()], out),
         ClientOp::Pong => append_all(&[b"PONG\r\n".as_slice()], out),
+        ClientOp::Connect(info) => append_connect(alloc, info, out),
     }
 }
 
@@ -44,6 +47,15 @@ pub fn append_each(alloc: Global, ops: &[ClientOp], out: &mut BytesMut) -> Resul
             return Err(refused);
         }
     }
+    Ok(())
+}
+
+fn append_connect(alloc: Global, info: &ConnectInfo, out: &mut BytesMut) -> Result<(), NoMemory>
+    ensures ok { OnOk result (out.new.items ≡ out.old.items ++ connect_text info.now) }
+    ensures err { OnErr result (out.new.items ≡ out.old.items) }
+{
+    let text = connect_text(alloc, info)?;
+    out.extend_from_slice(text.as_slice())?;
     Ok(())
 }
 

@@ -2,8 +2,8 @@
 ghost use Rattle.std.specs.Prelude.{◌≡◌, IfOk, option_map};
 ghost use Rattle.nats_info.specs.Fields.{info_at};
 ghost use Rattle.nats_block.specs.Block.{block_of};
-ghost use Rattle.nats_wire.specs.Operations.{info_op, message, with_block, op_view, op_of};
-ghost use Rattle.nats_wire.specs.Decoder.{op_text_view, message_view, error_view};
+ghost use Rattle.nats_wire.specs.Operations.{info_op, message, with_block, op_of};
+ghost use Rattle.nats_wire.specs.Decoder.{op_text_view, message_view, error_view, boxed_view};
 
 use crate::decode::{MessageText, OpText};
 use crate::error_line::ErrorText;
@@ -47,11 +47,14 @@ fn error(alloc: Global, text: &ErrorText<'_>) -> Result<ServerError, NoMemory>
 }
 
 // The INFO of a text, where it has one.
-fn info(alloc: Global, text: &[u8]) -> Result<Option<ServerOp>, NoMemory>
-    ensures { IfOk result (λ op. option_map op_view op ≡ option_map info_op (info_at text.now)) }
+fn info(alloc: Global, text: &[u8]) -> Result<Option<Box<ServerOp>>, NoMemory>
+    ensures { IfOk result (λ op. option_map boxed_view op ≡ option_map info_op (info_at text.now)) }
 {
     match read_info(alloc, text) {
-        Ok(info) => Ok(Some(ServerOp::Info(Box::new(alloc, info)?))),
+        Ok(info) => {
+            let info = Box::new(alloc, info)?;
+            Ok(Some(Box::new(alloc, ServerOp::Info(info))?))
+        }
         Err(InfoError::Unreadable) => Ok(None),
         Err(InfoError::NoMemory) => Err(NoMemory),
     }
@@ -64,8 +67,8 @@ fn header_message(
     sid: u64,
     text: &MessageText<'_>,
     block: &[u8],
-) -> Result<Option<ServerOp>, NoMemory>
-    ensures { IfOk result (λ op. option_map op_view op
+) -> Result<Option<Box<ServerOp>>, NoMemory>
+    ensures { IfOk result (λ op. option_map boxed_view op
         ≡ option_map (λ b. message sid (with_block (message_view text.now) b)) (block_of block.now)) }
 {
     match read_block(alloc, block) {
@@ -77,18 +80,18 @@ fn header_message(
                 description: block.description,
                 ..message
             };
-            Ok(Some(ServerOp::Message { sid, message }))
+            Ok(Some(Box::new(alloc, ServerOp::Message { sid, message })?))
         }
         Err(BlockError::Malformed) => Ok(None),
         Err(BlockError::NoMemory) => Err(NoMemory),
     }
 }
 
-/// The operation of a text, `None` where it turns out to be none.
-pub fn operation(alloc: Global, text: &OpText<'_>) -> Result<Option<ServerOp>, NoMemory>
-    ensures { IfOk result (λ op. option_map op_view op ≡ op_of (op_text_view text.now)) }
+/// The operation of a text, in a box of its own; `None` where it turns out to be none.
+pub fn operation(alloc: Global, text: &OpText<'_>) -> Result<Option<Box<ServerOp>>, NoMemory>
+    ensures { IfOk result (λ op. option_map boxed_view op ≡ op_of (op_text_view text.now)) }
 {
-    Ok(Some(match text {
+    let op = match text {
         OpText::Ok => ServerOp::Ok,
         OpText::Ping => ServerOp::Ping,
         OpText::Pong => ServerOp::Pong,
@@ -103,5 +106,6 @@ pub fn operation(alloc: Global, text: &OpText<'_>) -> Result<Option<ServerOp>, N
             message: text,
             block,
         } => return header_message(alloc, *sid, text, block),
-    }))
+    };
+    Ok(Some(Box::new(alloc, op)?))
 }

@@ -28,7 +28,7 @@ pub fn front_of(alloc: Global, bytes: &[u8]) -> Result<Front, NoMemory>
         Sight::Unfinished => Ok(Front::Unfinished),
         Sight::Fault(n) => Ok(Front::Fault(n)),
         Sight::Whole(text, len) => match copies::operation(alloc, &text)? {
-            Some(op) => Ok(Front::Got(Box::new(alloc, op)?, len)),
+            Some(op) => Ok(Front::Got(op, len)),
             None => Ok(Front::Fault(text.lost_at(len))),
         },
     }

@@ -4,6 +4,7 @@ ghost use Rattle.nats_wire.specs.Wire.{wire_error_text};
 ghost use Rattle.nats_wire.specs.declared.op.WireError.TheVariants as refused;
 
 use crate::message::Message;
+use nats_connect::ConnectInfo;
 use nats_header::HeaderMap;
 use nats_info::ServerInfo;
 use nats_names::{Bytes, NoMemory, ServerError, Subject};
@@ -53,6 +54,8 @@ pub enum ClientOp {
     Ping,
     /// The protocol's `PONG`: the answer to a `PING`.
     Pong,
+    /// The protocol's `CONNECT`: what the client tells of itself when a link begins. The crate's rule: it comes before all else.
+    Connect(ConnectInfo),
 }
 
 /// Why no operation was read.

@@ -1,6 +1,7 @@
 //! What no clause says: texts of the protocol with what they mean, and each call once with ample memory.
 use crate::{
-    Bytes, ClientOp, Connection, HeaderMap, Message, OutboundMessage, ServerOp, Subject, WireError,
+    Bytes, ClientOp, ConnectInfo, Connection, HeaderMap, Message, OutboundMessage, Protocol,
+    ServerOp, Subject, Text, WireError,
 };
 use nats_names::NoMemory;
 use std::alloc::Global;
@@ -196,5 +197,48 @@ fn a_message_can_be_copied(rt: HostRuntime) -> Result<(), Fail> {
         headers: Some(one_header(rt.alloc())?),
     };
     assert_eq!(rt; message.copy(rt.alloc())?, message);
+    Ok(())
+}
+
+// What a client tells of itself that has nothing to tell.
+fn plain_info(alloc: Global) -> Result<ConnectInfo, NoMemory> {
+    Ok(ConnectInfo {
+        verbose: false,
+        pedantic: false,
+        user_jwt: None,
+        nkey: None,
+        signature: None,
+        name: None,
+        echo: false,
+        lang: Text::from_text(alloc, "Rust")?,
+        version: Text::from_text(alloc, "1.0.0")?,
+        protocol: Protocol::Dynamic,
+        tls_required: false,
+        user: None,
+        pass: None,
+        auth_token: None,
+        headers: false,
+        no_responders: false,
+    })
+}
+
+fn is_connect(alloc: Global, info: ConnectInfo, text: &str) -> Result<bool, NoMemory> {
+    let mut connection = Connection::new(alloc);
+    connection.enqueue_write_op(alloc, &ClientOp::Connect(info))?;
+    Ok(connection.waiting() == text.as_bytes())
+}
+
+#[test]
+fn connect_is_one_line(rt: HostRuntime) -> Result<(), Fail> {
+    assert!(rt;
+        is_connect(
+            rt.alloc(),
+            plain_info(rt.alloc())?,
+            "CONNECT {\"verbose\":false,\"pedantic\":false,\"jwt\":null,\"nkey\":null,\"sig\":null,\
+        \"name\":null,\"echo\":false,\"lang\":\"Rust\",\"version\":\"1.0.0\",\"protocol\":1,\
+        \"tls_required\":false,\"user\":null,\"pass\":null,\"auth_token\":null,\"headers\":false,\
+        \"no_responders\":false}\r\n"
+        )?
+    );
     Ok(())
 }

@@ -10,7 +10,7 @@ ghost use Rattle.nats_subs.specs.Delivery.{youngest};
 ghost use Rattle.nats_session.specs.Handler.{can_play, HandsOut, end_in, state_of};
 
 use super::{ConnectionHandler, TICK_LIMIT};
-use crate::refusals::{has_group, has_subjects, size_of, subscribes};
+use nats_history::refusals::{has_group, has_subjects, size_of, subscribes};
 use nats_history::{Call, CallReply, Event, LinkWord, Message, Turn};
 use nats_names::State;
 

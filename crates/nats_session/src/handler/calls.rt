@@ -8,7 +8,7 @@ ghost use Rattle.nats_history.specs.Schedule.{own_steps, due, due_chain, take_re
 ghost use Rattle.nats_session.specs.Handler.{LeadTo, TakesIn, Submits, Advances, can_play, seen_after, seen_all};
 
 use super::{ConnectionHandler, TICK_LIMIT};
-use crate::refusals::{interest_of, is_drained_with, lets_go, shuts};
+use nats_history::refusals::{interest_of, is_drained_with, lets_go, shuts};
 use nats_history::{
     Bytes, Call, CallReply, Due, Event, LinkWord, NoMemory, Ping, ServerInfo, TakeReply,
 };

@@ -12,12 +12,12 @@ ghost use Rattle.nats_history.specs.Parts.{at_with};
 ghost use Rattle.nats_history.specs.Schedule.{due, due_chain, chain, read_end, pong_end};
 ghost use Rattle.nats_history.specs.After.{written, subs_after};
 ghost use Rattle.nats_subs.specs.Delivery.{with_rows, rows_with};
-ghost use Rattle.nats_session.specs.Handler.{Advances, Sees, command_end, seen_handled, is_nothing, look_message, handled_first, seen_all, name_of, delivery_of, delivery_name, after_message, pong_read, end_in, push_all};
+ghost use Rattle.nats_session.specs.Handler.{Advances, Sees, command_end, seen_handled, is_nothing, handled_first, seen_all, name_of, delivery_of, delivery_name, unwanted_seen, after_message, pong_read, end_in, push_all};
 
 use super::ConnectionHandler;
 use super::drains::{drain, drain_all, forget_draining, note_draining, unsubscribe, write_unsubscribe};
 use super::ends::note_end;
-use crate::refusals::{drains_all, ends_link};
+use nats_history::refusals::{drains_all, ends_link};
 use nats_history::{
     Call, Config, Due, Event, LinkWord, Message, NoMemory, OutboundMessage, Ping, Subject,
 };
@@ -44,23 +44,6 @@ impl Look {
         ensures { result ≡ is_nothing self.now }
     {
         matches!(self, Look::Nothing)
-    }
-
-    /// A copy of the message that is to be read, which shares its bytes.
-    pub fn message(&self, alloc: Global) -> Result<Option<Message>, NoMemory>
-        ensures { IfOk result (λ came. came ≡ look_message self.now) }
-    {
-        let Look::Read(peeked) = self else {
-            return Ok(None);
-        };
-        match &*peeked.op {
-            ServerOp::Message { message, .. } => Ok(Some(message.copy(alloc)?)),
-            ServerOp::Ok
-            | ServerOp::Info(_)
-            | ServerOp::Ping
-            | ServerOp::Pong
-            | ServerOp::Error(_) => Ok(None),
-        }
     }
 }
 
@@ -261,9 +244,11 @@ impl ConnectionHandler {
         let Peeked { op, len } = peeked;
         match Box::into_inner(op) {
             ServerOp::Message { sid, message } => {
-                let name = self.read_message(alloc, sid, message)?;
-                self.connection.consume(len);
-                Ok(name)
+                let name = self.read_message(alloc, sid, message);
+                if name.is_ok() {
+                    self.connection.consume(len);
+                }
+                name
             }
             ServerOp::Ping => {
                 self.connection.enqueue_write_op(alloc, &ClientOp::Pong)?;
@@ -341,23 +326,45 @@ impl ConnectionHandler {
 
     /// Brings a message to its subscription.
     fn read_message(&mut self, alloc: Global, sid: u64, message: Message) -> Result<Due, NoMemory>
-        ensures ok { OnOk result (self.new ≡ after_message sid message (delivery_of self.old.parts sid message) self.old) }
-        ensures name { IfOk result (λ name. name ≡ delivery_name sid (delivery_of self.old.parts sid message)) }
+        ensures ok { OnOk result (self.new ≡ after_message sid message (delivery_of self.old.parts sid) self.old) }
+        ensures name { IfOk result (λ name. name ≡ delivery_name sid message (delivery_of self.old.parts sid)) }
         ensures err { OnErr result (self.new ≡ self.old) }
     {
-        match self.subs.deliver(&self.config, sid, message)? {
-            Delivery::Put => Ok(Due::Put(sid)),
-            Delivery::Dropped(dropped) => {
+        match self.delivery(sid) {
+            Delivery::Put => {
+                self.subs.deliver(&self.config, sid, message)?;
+                Ok(Due::Put(sid))
+            }
+            Delivery::Dropped => {
                 self.events.push(Event::SlowConsumer(sid))?;
-                Ok(Due::Dropped(sid, dropped))
+                Ok(Due::Dropped(sid, message))
             }
             Delivery::Unwanted => {
-                write_unsubscribe(&mut self.connection, alloc, true, sid, None)?;
-                self.subs.alter(sid, Alteration::End);
+                self.end_unwanted(alloc, sid)?;
                 Ok(Due::Read)
             }
-            Delivery::Ignored => Ok(Due::Read),
+            Delivery::Ignored => {
+                self.subs.deliver(&self.config, sid, message)?;
+                Ok(Due::Read)
+            }
         }
+    }
+
+    /// Ends a subscription that wants no more, and tells the server.
+    fn end_unwanted(&mut self, alloc: Global, sid: u64) -> Result<(), NoMemory>
+        ensures ok { OnOk result (self.new ≡ unwanted_seen sid self.old) }
+        ensures err { OnErr result (self.new ≡ self.old) }
+    {
+        write_unsubscribe(&mut self.connection, alloc, true, sid, None)?;
+        self.subs.alter(sid, Alteration::End);
+        Ok(())
+    }
+
+    /// What becomes of a message that comes for the subscription of a number.
+    pub(crate) fn delivery(&self, sid: u64) -> Delivery
+        ensures { result ≡ delivery_of self.now.parts sid }
+    {
+        self.subs.delivery(&self.config, sid)
     }
 
     fn handle_command(&mut self, alloc: Global) -> Result<Due, NoMemory>

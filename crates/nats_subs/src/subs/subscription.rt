@@ -2,7 +2,7 @@
 ghost use Rattle.std.specs.Prelude.{◌≡◌, ◌∷◌, [], ◌++◌, true, OnErr, IfOk, OnOk};
 ghost use Rattle.std.proofs.Common.{refl};
 ghost use Rattle.std.specs.Option.{option_copied};
-ghost use Rattle.nats_history.specs.History.{is_open, is_over, forgotten, open_if, end_if, reached, again, unsubscribed, limit_commands};
+ghost use Rattle.nats_history.specs.History.{is_open, is_over, has_room, forgotten, open_if, end_if, reached, again, unsubscribed, limit_commands};
 ghost use Rattle.nats_wire.specs.declared.op.ClientOp.TheVariants as client;
 ghost use Rattle.nats_history.specs.Schedule.{sub_take};
 ghost use Rattle.nats_subs.specs.Delivery.{asked_sub, altered, deliver, take_from, delivery, youngest_of, commands_by};
@@ -45,13 +45,13 @@ impl Model for Subscription {
     } };
 }
 
-/// What became of a message that came for a subscription.
-#[derive(Drop)]
+/// What becomes of a message that comes for a subscription.
+#[derive(Clone, Copy)]
 pub enum Delivery {
-    /// It was put into the queue.
+    /// It is put into the queue.
     Put,
-    /// The queue was full.
-    Dropped(Message),
+    /// The queue is full.
+    Dropped,
     /// The subscription is open and shut: it is to end.
     Unwanted,
     /// There is no open subscription of that number.
@@ -148,19 +148,17 @@ pub struct Arrival<'a> {
 }
 
 impl TryChange<Subscription> for Arrival<'_> {
-    type Answer = Delivery;
+    type Answer = ();
 
     ghost changes = { λ a. deliver a.config.now a.message };
 
-    ghost answers = { λ a. delivery a.config.now a.message };
+    ghost answers = { λ _ _. record {} };
 
-    fn try_change(self, row: &mut Subscription) -> Result<Delivery, NoMemory> {
+    fn try_change(self, row: &mut Subscription) -> Result<(), NoMemory> {
         row.deliver(self.config, self.message)
     }
 
-    fn refuse(self) -> Delivery {
-        Delivery::Ignored
-    }
+    fn refuse(self) {}
 
     ghost leaves_forgotten = { λ a over. refl };
 }
@@ -269,25 +267,40 @@ impl Subscription {
         }
     }
 
-    /// Takes in a message where it is open, not shut, and has room.
-    pub fn deliver(&mut self, config: &Config, message: Message) -> Result<Delivery, NoMemory>
-        ensures ok { OnOk result (self.new ≡ deliver config.now message self.old) }
-        ensures answer { IfOk result (λ d. d ≡ delivery config.now message self.old) }
-        ensures err { OnErr result (self.new ≡ self.old) }
+    fn has_room(&self, config: &Config) -> bool
+        ensures { result ≡ has_room config.now self.now }
+    {
+        (self.waiting.len() as u64) < config.subscription_capacity
+    }
+
+    /// What becomes of a message that comes for it.
+    pub fn delivery(&self, config: &Config) -> Delivery
+        ensures { result ≡ delivery config.now self.now }
     {
         if !self.is_open() {
-            return Ok(Delivery::Ignored);
+            return Delivery::Ignored;
         }
         if self.is_shut {
-            return Ok(Delivery::Unwanted);
+            return Delivery::Unwanted;
         }
-        if self.waiting.len() as u64 >= config.subscription_capacity {
-            return Ok(Delivery::Dropped(message));
+        if self.has_room(config) {
+            return Delivery::Put;
         }
-        self.waiting.push(message)?;
+        Delivery::Dropped
+    }
+
+    /// Takes in a message where it is open, not shut, and has room.
+    pub fn deliver(&mut self, config: &Config, message: Message) -> Result<(), NoMemory>
+        ensures ok { OnOk result (self.new ≡ deliver config.now message self.old) }
+        ensures err { OnErr result (self.new ≡ self.old) }
+    {
+        if !self.is_open() || self.is_shut || !self.has_room(config) {
+            return Ok(());
+        }
+        self.waiting.append(message)?;
         self.puts = self.puts.saturating_add(1);
         self.stage = ended_if(is_reached(self.limit, self.puts), self.stage);
-        Ok(Delivery::Put)
+        Ok(())
     }
 
     /// The oldest waiting message leaves, where one waits.

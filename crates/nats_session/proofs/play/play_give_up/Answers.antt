@@ -11,7 +11,7 @@ returns-clause-parts c =
     let old = c.args.handler.now in
     let written = let same : c.args.draft.now ≡ c.args.draft.now = refl in same in
     on_ok_both c.note_events.result c.note_events.ensures.written c.note_events.ensures.handed_out (λ events handed.
-    (played c.args.place (own_steps old.parts turns.GiveUp) old c.give_up.new.self c.note_events.new.handler c.args.draft.now c.args.draft.now c.note_events.new.self
+    (played c.args.place (own_steps old.parts turns.GiveUp) old c.give_up.new.self c.note_events.new.handler c.args.draft.now c.args.draft.now c.note_events.new.draft
     c.requires.none c.in_ok-give_up.ensures.ok written events handed).0)
 
 pub returns-clause-sheet : goal.returns-clause-sheet
@@ -19,5 +19,5 @@ returns-clause-sheet c =
     let old = c.args.handler.now in
     let written = let same : c.args.draft.now ≡ c.args.draft.now = refl in same in
     on_ok_both c.note_events.result c.note_events.ensures.written c.note_events.ensures.handed_out (λ events handed.
-    (played c.args.place (own_steps old.parts turns.GiveUp) old c.give_up.new.self c.note_events.new.handler c.args.draft.now c.args.draft.now c.note_events.new.self
+    (played c.args.place (own_steps old.parts turns.GiveUp) old c.give_up.new.self c.note_events.new.handler c.args.draft.now c.args.draft.now c.note_events.new.draft
     c.requires.none c.in_ok-give_up.ensures.ok written events handed).1)

@@ -12,7 +12,7 @@ returns-clause-parts c =
     let old = c.args.handler.now in
     let written = c.in_ok-note_end.ensures ∙ end_written c.args.place old.parts word.Lost c.args.draft.now in
     on_ok_both c.note_events.result c.note_events.ensures.written c.note_events.ensures.handed_out (λ events handed.
-    (played c.args.place (own_steps old.parts turns.Lost) old c.lost.new.self c.note_events.new.handler c.args.draft.now c.note_end.new.draft c.note_events.new.self
+    (played c.args.place (own_steps old.parts turns.Lost) old c.lost.new.self c.note_events.new.handler c.args.draft.now c.note_end.new.draft c.note_events.new.draft
     c.requires.none c.in_ok-lost.ensures.ok written events handed).0)
 
 pub returns-clause-sheet : goal.returns-clause-sheet
@@ -20,5 +20,5 @@ returns-clause-sheet c =
     let old = c.args.handler.now in
     let written = c.in_ok-note_end.ensures ∙ end_written c.args.place old.parts word.Lost c.args.draft.now in
     on_ok_both c.note_events.result c.note_events.ensures.written c.note_events.ensures.handed_out (λ events handed.
-    (played c.args.place (own_steps old.parts turns.Lost) old c.lost.new.self c.note_events.new.handler c.args.draft.now c.note_end.new.draft c.note_events.new.self
+    (played c.args.place (own_steps old.parts turns.Lost) old c.lost.new.self c.note_events.new.handler c.args.draft.now c.note_end.new.draft c.note_events.new.draft
     c.requires.none c.in_ok-lost.ensures.ok written events handed).1)

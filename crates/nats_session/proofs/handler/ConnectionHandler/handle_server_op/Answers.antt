@@ -1,10 +1,13 @@
 -- A message that was brought to its subscription and taken away was read.
 use Rattle.std.proofs.Common.{◌∙◌, ap, sym}
+use Rattle.std.proofs.lemmas.Result.{on_ok_weaker}
 use Rattle.nats_wire.specs.Operations.{op_view}
 use Rattle.nats_session.proofs.Messages.{consumed_seen}
 use Rattle.nats_session.proofs.handler.ConnectionHandler.handle_server_op.Goals as goal
 
-pub returns-in_ok-name-in-Message-clause-ok : goal.returns-in_ok-name-in-Message-clause-ok
-returns-in_ok-name-in-Message-clause-ok c =
-    consumed_seen _ c.args.self.now c.consume.new.self (op_view c.args.peeked.op.value) c.in-Message.sid c.args.peeked.len c.in-Message.message
-    (c.self.view_is ∙ c.in_ok-name-in-Message.ensures.ok) c.consume.ensures (ap op_view (sym c.into_inner.ensures ∙ c.in-Message.is)) c.requires.up c.requires.front
+pub returns-then-is_ok-clause-ok : goal.returns-then-is_ok-clause-ok
+returns-then-is_ok-clause-ok c =
+    on_ok_weaker c.read_message-name.result
+    (λ is. consumed_seen _ c.args.self.now c.consume.new.self (op_view c.args.peeked.op.value) c.in-Message.sid c.args.peeked.len c.in-Message.message
+    (c.self.view_is ∙ is) c.consume.ensures (ap op_view (sym c.into_inner.ensures ∙ c.in-Message.is)) c.requires.up c.requires.front)
+    c.read_message-name.ensures.ok

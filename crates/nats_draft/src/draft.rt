@@ -1,12 +1,8 @@
 //! A transcript as it is written.
 ghost use Rattle.std.specs.Prelude.{◌≡◌, ◌+◌, [], ◌∷◌, ◌++◌, OnOk, IfOk, length, List, ℕ, if◌then◌else◌};
-ghost use Rattle.nats_history.specs.declared.transcript.LinkWord.TheVariants.{Up};
-ghost use Rattle.nats_history.specs.History.{at_place};
 ghost use Rattle.nats_tables.specs.Numbers.{at_number};
-ghost use Rattle.nats_session.specs.Machine.{write_due};
-ghost use Rattle.nats_session.specs.Sheet.{Sheet, empty_sheet, new_row, added, write_note, write_events, finished, row_with};
+ghost use Rattle.nats_draft.specs.Sheet.{Sheet, empty_sheet, new_row, added, write_put, write_note, write_due, row_with, shown_of};
 
-use crate::handler::ConnectionHandler;
 use crate::places::place_of;
 use nats_history::{
     CallReply, Due, Event, LinkRow, LinkWord, Message, NoMemory, Seq, SubRow, TakeReply, Transcript,
@@ -26,7 +22,7 @@ pub struct Draft {
 }
 
 impl Model for Draft {
-    ghost use Rattle.nats_session.specs.Sheet.{Sheet};
+    ghost use Rattle.nats_draft.specs.Sheet.{Sheet};
 
     ghost Value = { Sheet };
 
@@ -91,6 +87,20 @@ impl Draft {
         Ok(())
     }
 
+    /// A message is put into the queue of subscription `sid`; its copy shares the bytes.
+    pub fn note_put(
+        &mut self,
+        alloc: Global,
+        place: u64,
+        sid: u64,
+        message: &Message,
+    ) -> Result<(), NoMemory>
+        ensures { OnOk result
+            (self.new ≡ record self.old { subs = at_number sid (write_put place message.now) self.old.subs }) }
+    {
+        put_in(&mut self.subs, alloc, place, sid, message)
+    }
+
     /// Something happened to subscription `sid`.
     pub fn note(&mut self, alloc: Global, place: u64, sid: u64, note: Note) -> Result<(), NoMemory>
         ensures { OnOk result
@@ -99,23 +109,13 @@ impl Draft {
         note_in(&mut self.subs, alloc, place, sid, note)
     }
 
-    /// A due step was played, read this message, and was named so.
-    pub fn note_due(
-        &mut self,
-        alloc: Global,
-        place: u64,
-        came: Option<Message>,
-        due: Due,
-    ) -> Result<(), NoMemory>
-        ensures { OnOk result (self.new ≡ write_due place came due self.old) }
+    /// A due step was played, and was named so.
+    pub fn note_due(&mut self, alloc: Global, place: u64, due: Due) -> Result<(), NoMemory>
+        ensures { OnOk result (self.new ≡ write_due place due self.old) }
     {
         match due {
-            Due::Put(sid) => match came {
-                Some(message) => self.note(alloc, place, sid, Note::Put(message)),
-                None => Ok(()),
-            },
             Due::Dropped(sid, message) => self.note(alloc, place, sid, Note::Drop(message)),
-            Due::Nothing | Due::Read | Due::Handled | Due::Ended => Ok(()),
+            Due::Put(_) | Due::Nothing | Due::Read | Due::Handled | Due::Ended => Ok(()),
         }
     }
 
@@ -144,29 +144,18 @@ impl Draft {
         Ok(())
     }
 
-    /// Takes over the events that wait in the handler.
-    pub fn note_events(
-        &mut self,
-        place: u64,
-        handler: &mut ConnectionHandler,
-    ) -> Result<(), NoMemory>
-        ensures written { OnOk result (self.new ≡ write_events place handler.old.events self.old) }
-        ensures handed_out { OnOk result (handler.new ≡ record handler.old { events = [] }) }
+    /// An event was handed out.
+    pub fn note_event(&mut self, place: u64, event: Event) -> Result<(), NoMemory>
+        ensures { OnOk result (self.new ≡ record self.old { events = self.old.events ++ (place, event) ∷ [] }) }
     {
-        hand_out(&mut self.events, place, handler)
+        self.events.push((place, event))?;
+        Ok(())
     }
 
-    /// The transcript, where `up` is the last link with the bytes that it left, if it is up.
-    pub fn finish(
-        mut self,
-        alloc: Global,
-        handler: &ConnectionHandler,
-    ) -> Result<Transcript, NoMemory>
-        ensures { IfOk result (λ t. t ≡ finished handler.now.parts self) }
+    /// The transcript of all that was written. It takes no memory.
+    pub fn finish(self) -> Transcript
+        ensures { result ≡ shown_of self }
     {
-        if handler.is_up() {
-            self.end_link(alloc, LinkWord::Up, handler.waiting())?;
-        }
         let Draft {
             links,
             taken: _,
@@ -174,20 +163,18 @@ impl Draft {
             events,
             calls,
         } = self;
-        Ok(Transcript {
+        Transcript {
             links: Seq::from_vec(links),
             subs: Seq::from_vec(subs),
             events: Seq::from_vec(events),
             calls: Seq::from_vec(calls),
-        })
+        }
     }
 }
 
 /// What can happen to a subscription.
 #[derive(Drop)]
 pub enum Note {
-    /// A message was put into its queue.
-    Put(Message),
     /// A message met its full queue.
     Drop(Message),
     /// A take was answered.
@@ -198,9 +185,34 @@ fn note_on(row: &mut SubRow, alloc: Global, place: u64, note: Note) -> Result<()
     ensures { OnOk result (row.new ≡ write_note place note row.old) }
 {
     match note {
-        Note::Put(message) => row.puts.push(alloc, (place, message)),
         Note::Drop(message) => row.drops.push(alloc, (place, message)),
         Note::Take(reply) => row.takes.push(alloc, (place, reply)),
+    }
+}
+
+fn put_on(
+    row: &mut SubRow,
+    alloc: Global,
+    place: u64,
+    message: &Message,
+) -> Result<(), NoMemory>
+    ensures { OnOk result (row.new ≡ write_put place message.now row.old) }
+{
+    row.puts.push(alloc, (place, message.copy(alloc)?))
+}
+
+fn put_in(
+    rows: &mut [SubRow],
+    alloc: Global,
+    place: u64,
+    sid: u64,
+    message: &Message,
+) -> Result<(), NoMemory>
+    ensures { OnOk result (rows.new ≡ at_number sid (write_put place message.now) rows.old) }
+{
+    match place_of(sid, rows.len()) {
+        Some(index) => put_on(&mut rows[index], alloc, place, message),
+        None => Ok(()),
     }
 }
 
@@ -217,18 +229,4 @@ fn note_in(
         Some(index) => note_on(&mut rows[index], alloc, place, note),
         None => Ok(()),
     }
-}
-
-fn hand_out(
-    events: &mut Vec<(u64, Event)>,
-    place: u64,
-    handler: &mut ConnectionHandler,
-) -> Result<(), NoMemory>
-    ensures written { OnOk result (events.new.items ≡ events.old.items ++ at_place place handler.old.events) }
-    ensures handed_out { OnOk result (handler.new ≡ record handler.old { events = [] }) }
-{
-    'event: while let Some(event) = handler.next_event() {
-        events.push((place, event))?;
-    }
-    Ok(())
 }

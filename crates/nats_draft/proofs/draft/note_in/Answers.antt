@@ -1,9 +1,9 @@
 -- A note changes the one row, or none where the number was not given.
 use Rattle.std.proofs.Common.{sym, ap, ◌∙◌}
 use Rattle.std.proofs.lemmas.Result.{on_ok_weaker}
-use Rattle.nats_session.specs.Sheet.{write_note}
-use Rattle.nats_session.proofs.Items.{set_number, number_missing}
-use Rattle.nats_session.proofs.draft.note_in.Goals as goal
+use Rattle.nats_draft.specs.Sheet.{write_note}
+use Rattle.nats_draft.proofs.Items.{set_number, number_missing}
+use Rattle.nats_draft.proofs.draft.note_in.Goals as goal
 
 pub returns-in-Some : goal.returns-in-Some
 returns-in-Some c =

@@ -5,8 +5,10 @@ ghost use Rattle.nats_wire.specs.Operations.{length_or_0};
 ghost use Rattle.nats_history.specs.History.{asks, subscribes, shuts, drains_all, lets_go};
 ghost use Rattle.nats_history.specs.Schedule.{ends_link, may_publish_to, passes, has_subjects, has_group, size_of};
 
-use nats_history::{Call, Config, HeaderMap, Interest, LinkWord, NoMemory, Subject};
-use nats_wire::copy_subject;
+use crate::call::{Call, Interest};
+use crate::config::Config;
+use crate::transcript::LinkWord;
+use nats_wire::{HeaderMap, NoMemory, Subject, copy_subject};
 use std::alloc::Global;
 
 /// Whether a call is given a subscription number.

@@ -1,5 +1,5 @@
 //! Where the things of numbers stand.
-ghost use Rattle.nats_session.specs.Sheet.{IsPlaceOf};
+ghost use Rattle.nats_draft.specs.Sheet.{IsPlaceOf};
 
 /// The place of number `sid` among `count` things that are numbered from 1, if it has one.
 pub fn place_of(sid: u64, count: usize) -> Option<usize>

@@ -1,0 +1,74 @@
+-- A transcript as it is written, row by row.
+use Rattle.std.specs.Prelude.{◌≡◌, ℕ, suc, ◌<◌, ◌⊎◌, List, [], ◌∷◌, ◌++◌, Option, Some, None}
+use Rattle.nats_names.specs.declared.event.Event.{Event}
+use Rattle.nats_wire.specs.declared.message.Message.{Message}
+use Rattle.nats_history.specs.declared.call.CallReply.{CallReply}
+use Rattle.nats_history.specs.declared.call.CallReply.TheVariants.{Numbered}
+use Rattle.nats_history.specs.declared.call.TakeReply.{TakeReply}
+use Rattle.nats_history.specs.declared.transcript.LinkWord.{LinkWord}
+use Rattle.nats_history.specs.declared.transcript.LinkRow.{LinkRow}
+use Rattle.nats_history.specs.declared.transcript.SubRow.{SubRow}
+use Rattle.nats_history.specs.declared.transcript.Transcript.{Transcript}
+use Rattle.nats_history.specs.declared.turn.Due.{Due}
+use Rattle.nats_history.specs.declared.turn.Due.TheVariants as due_names
+use Rattle.nats_tables.specs.Numbers.{at_number}
+use Rattle.nats_draft.specs.declared.draft.Note.{Note}
+use Rattle.nats_draft.specs.declared.draft.Note.TheVariants as notes
+
+-- what is written so far
+pub record Sheet : Type 0 where
+  -- the links that ended
+  pub links : List LinkRow
+  -- the bytes that the link that is up took
+  pub taken : List ℕ
+  pub subs : List SubRow
+  pub events : List (ℕ × Event)
+  pub calls : List (ℕ × CallReply)
+
+abbrev pub empty_sheet : Sheet
+empty_sheet = record { links = []; taken = []; subs = []; events = []; calls = [] }
+
+-- ---- rows
+
+abbrev pub row_with : LinkWord → List ℕ → List ℕ → LinkRow
+row_with end bytes left = record { end = end; taken = bytes; left = left }
+
+abbrev pub new_row : SubRow
+new_row = record { puts = []; drops = []; takes = [] }
+
+-- one more row where a reply has a number
+abbrev pub added : CallReply → List SubRow → List SubRow
+added (Numbered n) rows = rows ++ new_row ∷ []
+added reply rows = rows
+
+abbrev pub write_put : ℕ → Message → SubRow → SubRow
+write_put place m row = record row { puts = row.puts ++ (place, m) ∷ [] }
+
+abbrev pub write_drop : ℕ → Message → SubRow → SubRow
+write_drop place m row = record row { drops = row.drops ++ (place, m) ∷ [] }
+
+abbrev pub write_take : ℕ → TakeReply → SubRow → SubRow
+write_take place reply row = record row { takes = row.takes ++ (place, reply) ∷ [] }
+
+-- what a note writes into a row
+abbrev pub write_note : ℕ → Note → SubRow → SubRow
+write_note place (notes.Drop m) row = write_drop place m row
+write_note place (notes.Take reply) row = write_take place reply row
+
+-- what is written of a step by its name, once it was played
+abbrev pub write_due : ℕ → Due → Sheet → Sheet
+write_due place (due_names.Dropped sid m) sheet = record sheet { subs = at_number sid (write_drop place m) sheet.subs }
+write_due place name sheet = sheet
+
+-- ---- the end
+
+-- the transcript of all that is written; a link that is up has no row in it
+abbrev pub shown_of : Sheet → Transcript
+shown_of sheet = record { links = sheet.links; subs = sheet.subs; events = sheet.events; calls = sheet.calls }
+
+-- ---- a row by its number
+
+-- where the thing of a number stands in a table of that many things, if it does
+abbrev pub IsPlaceOf : ℕ → ℕ → Option ℕ → Type 0
+IsPlaceOf sid count None = (sid ≡ 0) ⊎ (count < sid)
+IsPlaceOf sid count (Some index) = (sid ≡ suc index) × (index < count)

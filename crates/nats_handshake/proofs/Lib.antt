@@ -1,0 +1,3 @@
+mod Courses
+mod Heard
+mod Tellings
