@@ -3,9 +3,7 @@ use Rattle.std.proofs.Common.{◌≡◌, ℕ, true, List, [], ◌∷◌, ◌++�
 use Rattle.nats_names.specs.declared.event.Event.{Event}
 use Rattle.nats_names.specs.declared.event.Event.TheVariants.{SlowConsumer}
 use Rattle.nats_wire.specs.declared.message.Message.{Message}
-use Rattle.nats_wire.specs.declared.op.ClientOp.TheVariants as client
 use Rattle.nats_wire.specs.Operations.{Operation, message, got, front, past}
-use Rattle.nats_wire.specs.Commands.{command_text}
 use Rattle.nats_wire.specs.Wire.{Wire}
 use Rattle.nats_history.specs.Parts.{Subs}
 use Rattle.nats_tables.specs.Numbers.{at_number, item_of}
@@ -14,8 +12,7 @@ use Rattle.nats_history.specs.Schedule.{chain}
 use Rattle.nats_history.specs.After.{sub_after, written}
 use Rattle.nats_subs.specs.declared.subs.subscription.Delivery.{Delivery}
 use Rattle.nats_subs.specs.declared.subs.subscription.Delivery.TheVariants.{Put, Dropped, Unwanted, Ignored}
-use Rattle.nats_subs.specs.declared.subs.subscription.Alteration.TheVariants as alterations
-use Rattle.nats_subs.specs.Delivery.{delivery_at, is_unwanted, delivery_events, deliver, rows_with, with_rows}
+use Rattle.nats_subs.specs.Delivery.{delivery_at, is_unwanted, delivery_events, deliver, with_rows}
 use Rattle.nats_subs.proofs.Deliveries.{closing_at, events_at, rows_by, rows_came}
 use Rattle.nats_session.specs.Handler.{Seen, push_all, seen_after, seen_all, delivery_of, delivered_seen, after_message}
 

@@ -8,7 +8,7 @@ use Rattle.nats_names.specs.declared.event.Event.TheVariants.{Closed, SlowConsum
 use Rattle.nats_wire.specs.declared.op.ClientOp.TheVariants as client
 use Rattle.nats_wire.specs.Commands.{command_text}
 use Rattle.nats_wire.specs.declared.message.Message.{Message}
-use Rattle.nats_wire.specs.Operations.{Operation, message, op_view, got, front}
+use Rattle.nats_wire.specs.Operations.{message, op_view, got, front}
 use Rattle.nats_wire.specs.Wire.{fresh}
 use Rattle.nats_history.specs.declared.config.Config.{Config}
 use Rattle.nats_history.specs.declared.call.Call.{Call}
