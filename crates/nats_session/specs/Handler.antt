@@ -144,7 +144,7 @@ pong_read old = record old {
   parts = record old.parts {
     link = record old.parts.link { pings = drop 1 old.parts.link.pings };
     subs = with_rows (change (drained_by (first old.parts.link.pings)) (λ sub. kept (altered alterations.End sub)) old.parts.subs.rows)
-    old.parts.subs;
+        old.parts.subs;
   };
 }
 

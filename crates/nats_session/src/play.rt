@@ -238,11 +238,8 @@ fn note_coming(
             Delivery::Put => draft.note_put(alloc, place, *sid, message),
             Delivery::Dropped | Delivery::Unwanted | Delivery::Ignored => Ok(()),
         },
-        ServerOp::Ok
-        | ServerOp::Info(_)
-        | ServerOp::Ping
-        | ServerOp::Pong
-        | ServerOp::Error(_) => Ok(()),
+        ServerOp::Ok | ServerOp::Info(_) | ServerOp::Ping | ServerOp::Pong | ServerOp::Error(_) =>
+            Ok(()),
     }
 }
 

@@ -169,12 +169,7 @@ impl Subscriptions {
     }
 
     /// Brings a message to a subscription, which takes it in where `delivery` says so.
-    pub fn deliver(
-        &mut self,
-        config: &Config,
-        sid: u64,
-        message: Message,
-    ) -> Result<(), NoMemory>
+    pub fn deliver(&mut self, config: &Config, sid: u64, message: Message) -> Result<(), NoMemory>
         ensures ok { OnOk result
             (self.new ≡ with_rows (at_number sid (λ sub. kept (deliver config.now message sub)) self.old.rows) self.old) }
         ensures err { OnErr result (self.new ≡ self.old) }

@@ -63,10 +63,8 @@ impl ConnectionHandler {
     {
         match call {
             Call::Publish(_) | Call::Subscribe { .. } | Call::DrainAll | Call::Reconnect => true,
-            Call::Unsubscribe(sid)
-            | Call::Limit(sid, _)
-            | Call::Drain(sid)
-            | Call::DropSub(sid) => self.subs.has(*sid),
+            Call::Unsubscribe(sid) | Call::Limit(sid, _) | Call::Drain(sid) | Call::DropSub(sid) =>
+                self.subs.has(*sid),
         }
     }
 

@@ -104,7 +104,7 @@ pub fn drain(
     ensures text { OnOk result (connection.new ≡ record connection.old {
       waiting
           = written true (unsubscribe_command (is_open_at (item_of sid subs.old.rows)) sid None ++ client.Ping ∷ [])
-              connection.old.waiting;
+          connection.old.waiting;
     }) }
     ensures subs { OnOk result (subs.new ≡ with_rows (rows_with sid alterations.Drain subs.old.rows) subs.old) }
     ensures pings { OnOk result (pings.new ≡ pings.old ++ pinged.Drain sid ∷ []) }

@@ -15,7 +15,9 @@ ghost use Rattle.nats_subs.specs.Delivery.{with_rows, rows_with};
 ghost use Rattle.nats_session.specs.Handler.{Advances, Sees, command_end, seen_handled, is_nothing, handled_first, seen_all, name_of, delivery_of, delivery_name, unwanted_seen, after_message, pong_read, end_in, push_all};
 
 use super::ConnectionHandler;
-use super::drains::{drain, drain_all, forget_draining, note_draining, unsubscribe, write_unsubscribe};
+use super::drains::{
+    drain, drain_all, forget_draining, note_draining, unsubscribe, write_unsubscribe,
+};
 use super::ends::note_end;
 use nats_history::refusals::{drains_all, ends_link};
 use nats_history::{
