@@ -9,7 +9,7 @@ use Rattle.nats_history.specs.declared.transcript.LinkWord.{LinkWord}
 use Rattle.nats_history.specs.declared.transcript.LinkWord.TheVariants as word
 use Rattle.nats_history.specs.History.{Step, read, handled, link_end}
 use Rattle.nats_history.specs.Parts.{Parts}
-use Rattle.nats_history.specs.Schedule.{closes, closing, ending, ends_link, chain, due_call, due_by, due, most_due}
+use Rattle.nats_history.specs.Schedule.{closes, closing, ending, ends_link, read_end, chain, due_call, due_by, due, most_due}
 use Rattle.nats_history.specs.After.{after, after_all, due_steps_within, due_steps}
 
 -- ---- each due step brings the end nearer
@@ -23,26 +23,31 @@ fault_there : (bytes : List ℕ) (n : ℕ) → front bytes ≡ fault n → 0 < l
 fault_there [] n e = cc (nothing_there)
 fault_there (b ∷ bytes) n e = omega arith
 
+-- a link's end leaves no bytes
+end_leaves : (q : Parts) (end : LinkWord) (b : Bool) → most_due (after_all q (link_end end ∷ closing b)) ≤ length q.calls
+end_leaves q end true = omega arith
+end_leaves q end false = omega arith
+
+-- and no more than there was
+end_falls : (q : Parts) (drained : Bool) (end : Option LinkWord) → most_due (after_all q (ending drained end)) ≤ most_due q
+end_falls q drained None = omega arith
+end_falls q drained (Some end) =
+    let left = end_leaves q end (closes drained end) in
+    omega (arith, left)
+
 read_falls : (p : Parts) (operation : Operation) (n : ℕ) → front p.link.wire.unread ≡ got operation n → most_due (after_all p (chain p (read operation))) < most_due p
 read_falls p operation n e =
     let some = front_takes p.link.wire.unread operation n e in
     let fits = front_fits p.link.wire.unread operation n e in
-    rw (e, length-drop) (omega (arith, some, fits))
-
--- a link's end leaves no more
-end_falls : (q : Parts) (end : Option LinkWord) → most_due (after_all q (ending end)) ≤ most_due q
-end_falls q None = omega arith
-end_falls q (Some end) = by_closing (closes end)
-  where
-    by_closing : (b : Bool) → most_due (after_all q (link_end end ∷ closing b)) ≤ most_due q
-    by_closing true = omega arith
-    by_closing false = omega arith
+    let q = after p (read operation) in
+    let first : most_due q < most_due p = rw (e, length-drop) (omega (arith, some, fits)) in
+    omega (arith, first, end_falls q p.drain.is_handled (read_end p.link.pings operation))
 
 handled_falls : (p : Parts) (call : Call) (more : List Call) → p.calls ≡ call ∷ more → most_due (after_all p (chain p (handled call))) < most_due p
 handled_falls p call more e =
     let q = after p (handled call) in
     let first : most_due q < most_due p = rw e (omega arith) in
-    omega (arith, first, end_falls q (ends_link call))
+    omega (arith, first, end_falls q p.drain.is_handled (ends_link call))
 
 -- the bound after a due step and what follows it
 abbrev Falls : Parts → Step → Type 0
@@ -62,7 +67,8 @@ bound_falls p step e = by_up p.link.is_up refl e
         subst (Falls p) (same_Some (read operation) step e) (read_falls p operation n is)
     by_front (fault n) is e =
         let some = fault_there p.link.wire.unread n is in
-        subst (Falls p) (same_Some (link_end word.Fault) step e) (omega (arith, some))
+        let left = end_leaves p word.Fault (closes p.drain.is_handled word.Fault) in
+        subst (Falls p) (same_Some (link_end word.Fault) step e) (omega (arith, some, left))
     by_front unfinished is e = by_call (nat_lt (length p.link.wire.waiting) 65535) p.calls refl e
 
     by_up : (up : Bool) → p.link.is_up ≡ up → cond up (due_by (front p.link.wire.unread) p) None ≡ Some step → Falls p step

@@ -1,3 +1,4 @@
+pub mod Drains
 pub mod Dues
 pub mod Limits
 pub mod Plays

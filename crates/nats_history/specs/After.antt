@@ -8,10 +8,11 @@ use Rattle.nats_wire.specs.Commands.{command_text}
 use Rattle.nats_wire.specs.Wire.{Wire}
 use Rattle.nats_history.specs.declared.config.Config.{Config}
 use Rattle.nats_history.specs.declared.call.Call.{Call}
-use Rattle.nats_history.specs.History.{Step, opened, fed, read, taken, accepted, handled, took, gone, link_end, closed, links_after, up_after, closed_after, max_payload_after, pings_after, cut, subscribes, At, given_after, subscribed_after, about, Sub, puts, interest_after, stage_after, shut_after, gone_after, limit_after, kept, commands, new_events}
+use Rattle.nats_history.specs.History.{Step, opened, fed, read, taken, accepted, handled, took, gone, link_end, closed, links_after, up_after, closed_after, drain_after, max_payload_after, pings_after, cut, subscribes, At, given_after, subscribed_after, about, Sub, puts, interest_after, stage_after, shut_after, gone_after, draining_after, limit_after, kept, commands, new_events}
 use Rattle.nats_history.specs.declared.stage.Stage.TheVariants.{Asked}
+use Rattle.nats_history.specs.declared.ping.Ping.{Ping}
 use Rattle.nats_tables.specs.Numbers.{change}
-use Rattle.nats_history.specs.Parts.{Link, Subs, Parts, at_in}
+use Rattle.nats_history.specs.Parts.{Link, Subs, Parts, at_with, at_in}
 use Rattle.nats_history.specs.Schedule.{chain, due, most_due}
 
 -- ---- subscriptions
@@ -36,6 +37,7 @@ changed_sub c step sub = record {
   stage = stage_after c step sub;
   is_shut = shut_after step sub.is_shut;
   is_gone = gone_after step sub.is_gone;
+  is_draining = draining_after step sub.is_draining;
   limit = limit_after step sub.limit;
   puts = puts_after c step sub;
   waiting = waiting_after c step sub;
@@ -45,7 +47,7 @@ abbrev pub sub_after : Config → Step → Sub → Sub
 sub_after c step sub = kept (changed_sub c step sub)
 
 abbrev pub new_sub : Sub
-new_sub = record { interest = None; stage = Asked; is_shut = false; is_gone = false; limit = None; puts = 0; waiting = [] }
+new_sub = record { interest = None; stage = Asked; is_shut = false; is_gone = false; is_draining = false; limit = None; puts = 0; waiting = [] }
 
 -- one more where a number is given
 abbrev pub grown : Step → List Sub → List Sub
@@ -55,11 +57,11 @@ grown step rows = rows
 abbrev pub rows_after : Config → At → Step → List Sub → List Sub
 rows_after c at step rows = change (about at step) (sub_after c step) (grown step rows)
 
-abbrev pub subs_after : Config → Step → Subs → Subs
-subs_after c step subs = record {
-  given = given_after step (at_in subs);
-  subscribed = subscribed_after step (at_in subs);
-  rows = rows_after c (at_in subs) step subs.rows;
+abbrev pub subs_after : Config → List Ping → Step → Subs → Subs
+subs_after c pings step subs = record {
+  given = given_after step (at_with pings subs);
+  subscribed = subscribed_after step (at_with pings subs);
+  rows = rows_after c (at_with pings subs) step subs.rows;
 }
 
 -- ---- calls
@@ -111,7 +113,7 @@ link_after commands step link = record {
 
 -- the commands that a step writes, where these are the parts before it
 abbrev pub commands_of : Parts → Step → List ClientOp
-commands_of p step = commands p.config (at_in p.subs) p.subs.rows step
+commands_of p step = commands p.config (at_in p) p.subs.rows step
 
 -- the events that a step gives out, where these are the parts before it
 abbrev pub events_of : Parts → Step → List Event
@@ -121,9 +123,10 @@ abbrev pub after : Parts → Step → Parts
 after p step = record {
   config = p.config;
   is_closed = closed_after step p.is_closed;
+  drain = drain_after step p.drain;
   link = link_after (commands_of p step) step p.link;
   calls = calls_after step p.calls;
-  subs = subs_after p.config step p.subs;
+  subs = subs_after p.config p.link.pings step p.subs;
 }
 
 abbrev pub after_all : Parts → List Step → Parts

@@ -1,7 +1,7 @@
 -- What happened to a session, and the words that tell of it.
 use Rattle.std.specs.Prelude.{ℕ, zero, suc, ◌+◌, ◌-◌, ◌^◌, Bool, true, false, not, ◌&&◌, ◌||◌, nat_lt, nat_le, min, List, [], ◌∷◌, ◌++◌, length, drop, map, Option, Some, None, is_some, if◌then◌else◌}
 use Rattle.nats_names.specs.declared.event.Event.{Event}
-use Rattle.nats_names.specs.declared.event.Event.TheVariants.{Connected, Disconnected, LameDuckMode, Closed, SlowConsumer, ServerError}
+use Rattle.nats_names.specs.declared.event.Event.TheVariants.{Connected, Disconnected, LameDuckMode, Draining, Closed, SlowConsumer, ServerError}
 use Rattle.nats_info.specs.declared.info.ServerInfo.{ServerInfo}
 use Rattle.nats_wire.specs.declared.message.Message.{Message}
 use Rattle.nats_wire.specs.declared.op.ClientOp.{ClientOp}
@@ -10,12 +10,15 @@ use Rattle.nats_wire.specs.Operations.{Operation, message, info_op, error_op, pi
 use Rattle.nats_wire.specs.Commands.{command_text}
 use Rattle.nats_history.specs.declared.config.Config.{Config}
 use Rattle.nats_history.specs.declared.call.Call.{Call}
-use Rattle.nats_history.specs.declared.call.Call.TheVariants.{Publish, Subscribe, Unsubscribe, Limit, DropSub}
+use Rattle.nats_history.specs.declared.call.Call.TheVariants.{Publish, Subscribe, Unsubscribe, Limit, Drain, DrainAll, DropSub}
 use Rattle.nats_history.specs.declared.call.Interest.{Interest}
+use Rattle.nats_history.specs.declared.ping.Ping.{Ping}
+use Rattle.nats_history.specs.declared.ping.Ping.TheVariants as pinged
 use Rattle.nats_history.specs.declared.stage.Stage.{Stage}
 use Rattle.nats_history.specs.declared.stage.Stage.TheVariants.{Asked, Open, Ended}
 use Rattle.nats_history.specs.declared.transcript.LinkWord.{LinkWord}
 use Rattle.nats_history.specs.declared.transcript.LinkWord.TheVariants as word
+use Rattle.nats_history.specs.Queue.{first}
 use Rattle.nats_tables.specs.Numbers.{About, nobody, everyone, only, is_about, named, item_of, count_from}
 use Rattle.nats_tables.specs.Rows.{tidied}
 
@@ -86,6 +89,11 @@ abbrev pub is_closed : History → Bool
 is_closed [] = false
 is_closed ((place, step) ∷ h) = closed_after step (is_closed h)
 
+-- the drain of the whole session
+pub record WholeDrain : Type 0 where
+  pub is_accepted : Bool
+  pub is_handled : Bool
+
 abbrev pub max_payload_after : Step → ℕ → ℕ
 max_payload_after (opened info) n = info.max_payload
 max_payload_after step n = n
@@ -119,18 +127,29 @@ reads (e ∷ h) = reads h
 abbrev pub unread : History → List ℕ
 unread h = if is_up h then behind (reads h) (joined h) else []
 
--- a PONG answers the oldest PING that none answered, and an unasked one does nothing
-abbrev pub pings_after : Step → ℕ → ℕ
-pings_after (opened info) n = 0
-pings_after (link_end end) n = 0
-pings_after ticked n = cut (suc n)
-pings_after (read pong_op) n = n - 1
-pings_after step n = n
+-- the PINGs after a call is handled: each drain writes one
+abbrev pub pinged_after : Call → List Ping → List Ping
+pinged_after (Drain s) pings = pings ++ pinged.Drain s ∷ []
+pinged_after DrainAll pings = pings ++ pinged.DrainAll ∷ []
+pinged_after call pings = pings
 
--- how many PINGs of the newest link's ticks no PONG answered; none once it ended
-abbrev pub pings : History → ℕ
-pings [] = 0
-pings ((place, step) ∷ h) = pings_after step (pings h)
+-- a PONG answers the oldest PING that none answered, and an unasked one does nothing
+abbrev pub pings_after : Step → List Ping → List Ping
+pings_after (opened info) pings = []
+pings_after (link_end end) pings = []
+pings_after ticked pings = pings ++ pinged.Tick ∷ []
+pings_after (handled call) pings = pinged_after call pings
+pings_after (read pong_op) pings = drop 1 pings
+pings_after step pings = pings
+
+abbrev pub tick_of : Ping → ℕ
+tick_of pinged.Tick = 1
+tick_of ping = 0
+
+-- how many of them are of ticks
+abbrev pub ticks : List Ping → ℕ
+ticks [] = 0
+ticks (ping ∷ more) = tick_of ping + ticks more
 
 -- ---- calls
 
@@ -167,6 +186,7 @@ subscribes call = is_some (asks call)
 abbrev pub names : Call → Option ℕ
 names (Unsubscribe s) = Some s
 names (Limit s n) = Some s
+names (Drain s) = Some s
 names (DropSub s) = Some s
 names call = None
 
@@ -175,10 +195,30 @@ abbrev pub shuts : Call → Option ℕ
 shuts (Unsubscribe s) = Some s
 shuts call = None
 
+-- a call whose handling drains the subscription that it names
+abbrev pub drains : Call → Bool
+drains (Drain s) = true
+drains call = false
+
+-- a call whose handling drains the session
+abbrev pub drains_all : Call → Bool
+drains_all DrainAll = true
+drains_all call = false
+
 -- the subscription that the user of a call lets go, whatever the reply
 abbrev pub lets_go : Call → Option ℕ
 lets_go (DropSub s) = Some s
 lets_go call = None
+
+abbrev pub drain_after : Step → WholeDrain → WholeDrain
+drain_after (accepted call) drain = record drain { is_accepted = drains_all call || drain.is_accepted }
+drain_after (handled call) drain = record drain { is_handled = drains_all call || drain.is_handled }
+drain_after step drain = drain
+
+-- whether a drain of the whole session was accepted, and whether it was handled
+abbrev pub whole_drain : History → WholeDrain
+whole_drain [] = record { is_accepted = false; is_handled = false }
+whole_drain ((place, step) ∷ h) = drain_after step (whole_drain h)
 
 -- what a step's meaning hangs on
 pub record At : Type 0 where
@@ -186,10 +226,16 @@ pub record At : Type 0 where
   pub given : ℕ
   -- how many subscribes were handled
   pub subscribed : ℕ
+  -- the PINGs of the newest link that no PONG answered, oldest first; none once it ended
+  pub pings : List Ping
+
+-- the number after those that are subscribed, where it was given
+abbrev pub next_number : ℕ → ℕ → Option ℕ
+next_number given subscribed = if nat_lt subscribed given then Some (suc subscribed) else None
 
 -- the number that the next handled subscribe is of: the first given one that is not subscribed yet
 abbrev pub next_subscribed : At → Option ℕ
-next_subscribed at = if nat_lt at.subscribed at.given then Some (suc at.subscribed) else None
+next_subscribed at = next_number at.given at.subscribed
 
 abbrev pub given_after : Step → At → ℕ
 given_after (accepted call) at = if subscribes call then suc at.given else at.given
@@ -200,33 +246,46 @@ subscribed_after (handled call) at = if subscribes call && nat_lt at.subscribed 
 subscribed_after step at = at.subscribed
 
 abbrev pub at_after : Step → At → At
-at_after step at = record { given = given_after step at; subscribed = subscribed_after step at }
+at_after step at = record { given = given_after step at; subscribed = subscribed_after step at; pings = pings_after step at.pings }
 
 abbrev pub at_of : History → At
-at_of [] = record { given = 0; subscribed = 0 }
+at_of [] = record { given = 0; subscribed = 0; pings = [] }
 at_of ((place, step) ∷ h) = at_after step (at_of h)
 
 -- how many numbers were given: the k-th accepted subscribe has number k
 abbrev pub given : History → ℕ
 given h = (at_of h).given
 
+-- the PINGs of the newest link that no PONG answered
+abbrev pub pings : History → List Ping
+pings h = (at_of h).pings
+
 -- the numbers that were given
 abbrev pub numbers : History → List ℕ
 numbers h = count_from 1 (given h)
 
+-- whom a PONG drains: the subscription of whose drain the PING was that it answers, if it was one
+abbrev pub drained_by : Option Ping → About
+drained_by None = nobody
+drained_by (Some (pinged.Drain s)) = only s
+drained_by (Some ping) = nobody
+
 -- whom a step is about: an accepted subscribe is of the number that it is given, a handled one of the next number that was
--- given; other calls and a message name their own; a new link and the close are about all
-abbrev pub about_read : Operation → About
-about_read (message sid m) = only sid
-about_read operation = nobody
+-- given; other calls and a message name their own; a PONG is about whom it drains; a new link, a link's end and the close are
+-- about all
+abbrev pub about_read : List Ping → Operation → About
+about_read pings (message sid m) = only sid
+about_read pings pong_op = drained_by (first pings)
+about_read pings operation = nobody
 
 abbrev pub about : At → Step → About
 about at (opened info) = everyone
 about at (accepted call) = if subscribes call then only (suc at.given) else named (shuts call)
 about at (handled call) = if subscribes call then named (next_subscribed at) else named (names call)
-about at (read operation) = about_read operation
+about at (read operation) = about_read at.pings operation
 about at (took sid) = only sid
 about at (gone sid) = only sid
+about at (link_end end) = everyone
 about at closed = everyone
 about at step = nobody
 
@@ -250,6 +309,8 @@ pub record Told : Type 0 where
   pub is_shut : Bool
   -- no call may name it any more
   pub is_gone : Bool
+  -- its drain was handled
+  pub is_draining : Bool
   -- at how many puts it ends, where that was asked for
   pub limit : Option ℕ
   pub puts : List (ℕ × Message)
@@ -259,7 +320,7 @@ pub record Told : Type 0 where
 
 -- before anything happened to it
 abbrev pub nothing_told : Told
-nothing_told = record { interest = None; stage = Asked; is_shut = false; is_gone = false; limit = None; puts = []; drops = []; takes = 0 }
+nothing_told = record { interest = None; stage = Asked; is_shut = false; is_gone = false; is_draining = false; limit = None; puts = []; drops = []; takes = 0 }
 
 -- a subscription as it stands
 pub record Sub : Type 0 where
@@ -267,6 +328,7 @@ pub record Sub : Type 0 where
   pub stage : Stage
   pub is_shut : Bool
   pub is_gone : Bool
+  pub is_draining : Bool
   pub limit : Option ℕ
   -- how many messages were put, cut
   pub puts : ℕ
@@ -283,6 +345,7 @@ sub_of t = record {
   stage = t.stage;
   is_shut = t.is_shut;
   is_gone = t.is_gone;
+  is_draining = t.is_draining;
   limit = t.limit;
   puts = cut (length t.puts);
   waiting = map second (drop t.takes t.puts);
@@ -333,11 +396,14 @@ call_ends (Limit s n) sub = nat_le n sub.puts
 call_ends call sub = false
 
 -- the ways for an open subscription to end: such a call is handled, or a message comes while it is shut, or one is put that
--- reaches its limit, or a new link comes up while it is shut, or the session closes
+-- reaches its limit, or a new link comes up while it is shut, or the PONG of its drain comes, or the link ends while it is
+-- drained, or the session closes
 abbrev pub ends : Config → Sub → Step → Bool
 ends c sub (handled call) = call_ends call sub
 ends c sub (read (message sid m)) = sub.is_shut || (has_room c sub && reached sub.limit (cut (suc sub.puts)))
 ends c sub (opened info) = sub.is_shut
+ends c sub (read pong_op) = true
+ends c sub (link_end end) = sub.is_draining
 ends c sub closed = true
 ends c sub step = false
 
@@ -364,6 +430,10 @@ shut_after step shut = shut
 abbrev pub gone_after : Step → Bool → Bool
 gone_after (gone sid) is_gone = true
 gone_after step is_gone = is_gone
+
+abbrev pub draining_after : Step → Bool → Bool
+draining_after (handled call) draining = drains call || draining
+draining_after step draining = draining
 
 abbrev pub interest_by : Option Interest → Option Interest → Option Interest
 interest_by None interest = interest
@@ -403,6 +473,7 @@ told_after c place step t = record {
   stage = stage_after c step (sub_of t);
   is_shut = shut_after step t.is_shut;
   is_gone = gone_after step t.is_gone;
+  is_draining = draining_after step t.is_draining;
   limit = limit_after step t.limit;
   puts = t.puts ++ puts_by c place (sub_of t) step;
   drops = t.drops ++ drops_by c place (sub_of t) step;
@@ -420,7 +491,7 @@ is_over sub = sub.is_gone && is_ended sub.stage
 
 -- so all of these are told alike
 abbrev pub forgotten : Sub
-forgotten = record { interest = None; stage = Ended; is_shut = true; is_gone = true; limit = None; puts = 0; waiting = [] }
+forgotten = record { interest = None; stage = Ended; is_shut = true; is_gone = true; is_draining = false; limit = None; puts = 0; waiting = [] }
 
 abbrev pub kept : Sub → Sub
 kept sub = tidied is_over forgotten sub
@@ -451,6 +522,15 @@ abbrev pub is_closing_at : Option Sub → Bool
 is_closing_at None = false
 is_closing_at (Some sub) = is_closing sub
 
+-- the commands that g gives of each subscription from a number on
+abbrev pub commands_from : (ℕ → Sub → List ClientOp) → ℕ → List Sub → List ClientOp
+commands_from g s [] = []
+commands_from g s (sub ∷ more) = g s sub ++ commands_from g (suc s) more
+
+-- the command that asks for no further messages of a subscription, where it is open
+abbrev pub unsubscribed : ℕ → Sub → List ClientOp
+unsubscribed s sub = unsubscribe_command (is_open sub.stage) s None
+
 -- the commands of a call that is handled
 abbrev pub call_commands : At → List Sub → Call → List ClientOp
 call_commands at subs (Publish m) = client.Publish m.subject m.payload m.reply m.headers ∷ []
@@ -458,6 +538,8 @@ call_commands at subs (Subscribe subject group) = subscribe_command (next_subscr
 call_commands at subs (Unsubscribe s) = unsubscribe_command (is_open_at (item_of s subs)) s None
 call_commands at subs (Limit s n) = unsubscribe_command (is_open_at (item_of s subs)) s (Some n)
 call_commands at subs (DropSub s) = unsubscribe_command (is_open_at (item_of s subs)) s None
+call_commands at subs (Drain s) = unsubscribe_command (is_open_at (item_of s subs)) s None ++ client.Ping ∷ []
+call_commands at subs DrainAll = commands_from unsubscribed 1 subs ++ client.Ping ∷ []
 call_commands at subs call = []
 
 -- what is left of a limit after so many puts, if there is one
@@ -475,8 +557,7 @@ again s sub = if listens sub then subscribed_again s sub sub.interest else []
 
 -- the same of all from a number on
 abbrev pub all_again : ℕ → List Sub → List ClientOp
-all_again s [] = []
-all_again s (sub ∷ more) = again s sub ++ all_again (suc s) more
+all_again s subs = commands_from again s subs
 
 -- the commands that a step writes, where these are the subscriptions before it
 abbrev pub commands : Config → At → List Sub → Step → List ClientOp
@@ -514,13 +595,14 @@ waiting_bytes c h = if is_up h then drop (taken_count c h) (link_text c h) else 
 
 -- ---- events
 
--- a link's end disconnects, but where the user hung up
+-- a link's end disconnects, but where the user hung up or the session was drained
 abbrev pub end_events : LinkWord → List Event
 end_events word.Lost = Disconnected ∷ []
 end_events word.Fault = Disconnected ∷ []
 end_events word.Ticks = Disconnected ∷ []
 end_events word.Reconnect = Disconnected ∷ []
 end_events word.Hangup = []
+end_events word.Drained = []
 end_events word.Up = []
 
 -- a message that meets a full queue has an event
@@ -533,10 +615,16 @@ abbrev pub info_events : Bool → List Event
 info_events true = LameDuckMode ∷ []
 info_events false = []
 
+-- a drain of the session has an event once it is handled
+abbrev pub drain_events : Bool → List Event
+drain_events true = Draining ∷ []
+drain_events false = []
+
 -- the events that a step gives out, where these are the subscriptions before it
 abbrev pub new_events : Config → List Sub → Step → List Event
 new_events c subs (opened info) = Connected ∷ []
 new_events c subs (link_end end) = end_events end
+new_events c subs (handled call) = drain_events (drains_all call)
 new_events c subs closed = Closed ∷ []
 new_events c subs (read (message sid m)) = drop_events c sid (item_of sid subs)
 new_events c subs (read (error_op error)) = ServerError error ∷ []

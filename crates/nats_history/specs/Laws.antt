@@ -1,9 +1,13 @@
 -- Sentences about the words on histories and what steps make of parts.
-use Rattle.std.specs.Prelude.{◌≡◌, ℕ, ◌≤◌, ◌<◌, ◌^◌, true, [], ◌∷◌, ◌++◌, length, max, None}
+use Rattle.std.specs.Prelude.{◌≡◌, ℕ, ◌≤◌, ◌<◌, ◌^◌, true, false, [], ◌∷◌, ◌++◌, length, max, Some, None}
+use Rattle.nats_wire.specs.declared.message.Message.{Message}
+use Rattle.nats_wire.specs.Operations.{message, pong_op}
 use Rattle.nats_history.specs.declared.config.Config.{Config}
 use Rattle.nats_history.specs.declared.turn.Turn.{Turn}
-use Rattle.nats_history.specs.declared.call.Call.TheVariants.{Limit}
-use Rattle.nats_history.specs.History.{Step, handled, History, is_open, told}
+use Rattle.nats_history.specs.declared.call.Call.TheVariants.{Limit, Drain}
+use Rattle.nats_history.specs.declared.ping.Ping.TheVariants as pinged
+use Rattle.nats_history.specs.Queue.{first}
+use Rattle.nats_history.specs.History.{Step, came, opened, read, handled, link_end, closed, History, concerns, at_of, pings, sub_of, is_open, has_room, call_ends, ends, told}
 use Rattle.nats_history.specs.Parts.{Parts, parts_of}
 use Rattle.nats_history.specs.Schedule.{due, put_steps, settled, after_turn}
 use Rattle.nats_history.specs.After.{after, after_all, due_steps}
@@ -36,3 +40,28 @@ abbrev pub LimitHolds : Type 0
 LimitHolds =
     (c : Config) (h : History) (place s n : ℕ) (later : History) → is_open (told c s h).stage ≡ true → n < 2 ^ 64 → NoLimit s later
     → length (told c s (later ++ (place, handled (Limit s n)) ∷ h)).puts ≤ max n (length (told c s h).puts)
+
+-- a step by which a drained subscription s goes on: it is no PONG of its drain, its link stays, and the step is no end of s of
+-- another kind
+abbrev pub GoesOn : Config → ℕ → History → Step → Type 0
+GoesOn c s h (opened info) = ⊥
+GoesOn c s h (link_end end) = ⊥
+GoesOn c s h closed = ⊥
+GoesOn c s h (read pong_op) = first (pings h) ≡ Some (pinged.Drain s) → ⊥
+GoesOn c s h (read (message sid m)) = s ≡ sid → ends c (sub_of (told c s h)) (read (message sid m)) ≡ false
+GoesOn c s h (handled (Drain k)) = Unit {0}
+GoesOn c s h (handled call) = concerns s (at_of h) (handled call) ≡ true → call_ends call (sub_of (told c s h)) ≡ false
+GoesOn c s h step = Unit {0}
+
+-- the same of each of these steps, behind h
+abbrev pub AllGoOn : Config → ℕ → History → History → Type 0
+AllGoOn c s h [] = Unit {0}
+AllGoOn c s h ((place, step) ∷ later) = GoesOn c s (later ++ h) step × AllGoOn c s h later
+
+-- a subscription that is open is put each message of its number that is read on its link before the PONG of its drain, also
+-- after its drain was handled, where its queue has room, it is not shut and it has no earlier end
+abbrev pub DrainPuts : Type 0
+DrainPuts =
+    (c : Config) (h : History) (s place : ℕ) (m : Message) (later : History) → is_open (told c s h).stage ≡ true → AllGoOn c s h later
+    → (told c s (later ++ h)).is_shut ≡ false → has_room c (sub_of (told c s (later ++ h))) ≡ true
+    → (told c s ((place, came s m) ∷ later ++ h)).puts ≡ (told c s (later ++ h)).puts ++ (place, m) ∷ []

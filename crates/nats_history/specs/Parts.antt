@@ -3,7 +3,8 @@ use Rattle.std.specs.Prelude.{ℕ, Bool, List}
 use Rattle.nats_wire.specs.Wire.{Wire}
 use Rattle.nats_history.specs.declared.config.Config.{Config}
 use Rattle.nats_history.specs.declared.call.Call.{Call}
-use Rattle.nats_history.specs.History.{History, links, is_up, is_closed, max_payload, pings, unread, waiting_bytes, waiting_calls, At, at_of, Sub, rows_of}
+use Rattle.nats_history.specs.declared.ping.Ping.{Ping}
+use Rattle.nats_history.specs.History.{History, links, is_up, is_closed, WholeDrain, max_payload, whole_drain, pings, unread, waiting_bytes, waiting_calls, At, at_of, Sub, rows_of}
 
 -- the newest link
 pub record Link : Type 0 where
@@ -12,8 +13,8 @@ pub record Link : Type 0 where
   pub is_up : Bool
   -- the limit of a payload's size with its header block, in bytes
   pub max_payload : ℕ
-  -- how many PINGs of its ticks no PONG answered
-  pub pings : ℕ
+  -- its PINGs that no PONG answered, oldest first
+  pub pings : List Ping
   -- the unread and the waiting bytes while it is up
   pub wire : Wire
 
@@ -28,14 +29,19 @@ pub record Parts : Type 0 where
   pub config : Config
   -- the session closed
   pub is_closed : Bool
+  -- whether a drain of the whole session was accepted, and whether it was handled
+  pub drain : WholeDrain
   pub link : Link
   -- the calls that wait, oldest first
   pub calls : List Call
   pub subs : Subs
 
 -- what a step's meaning hangs on, as parts have it
-abbrev pub at_in : Subs → At
-at_in subs = record { given = subs.given; subscribed = subs.subscribed }
+abbrev pub at_with : List Ping → Subs → At
+at_with pings subs = record { given = subs.given; subscribed = subs.subscribed; pings = pings }
+
+abbrev pub at_in : Parts → At
+at_in p = at_with p.link.pings p.subs
 
 -- ---- the parts of a history
 
@@ -53,4 +59,11 @@ subs_of c h = record { given = (at_of h).given; subscribed = (at_of h).subscribe
 
 -- the parts that the words on a history determine
 abbrev pub parts_of : Config → History → Parts
-parts_of c h = record { config = c; is_closed = is_closed h; link = link_of c h; calls = waiting_calls h; subs = subs_of c h }
+parts_of c h = record {
+  config = c;
+  is_closed = is_closed h;
+  drain = whole_drain h;
+  link = link_of c h;
+  calls = waiting_calls h;
+  subs = subs_of c h;
+}

@@ -2,7 +2,7 @@
 use Rattle.std.specs.Prelude.{ℕ, zero, suc, ◌+◌, ◌-◌, ◌^◌, Bool, true, false, not, ◌&&◌, ◌||◌, nat_lt, nat_le, min, List, [], ◌∷◌, ◌++◌, length, Option, Some, None, if◌then◌else◌}
 use Rattle.nats_names.specs.Names.{is_nonempty, is_publishable, is_valid}
 use Rattle.nats_wire.specs.declared.message.Message.{Message}
-use Rattle.nats_wire.specs.Operations.{Front, unfinished, got, fault, front, length_or_0}
+use Rattle.nats_wire.specs.Operations.{Operation, pong_op, Front, unfinished, got, fault, front, length_or_0}
 use Rattle.nats_wire.specs.Commands.{sent_block}
 use Rattle.nats_history.specs.declared.config.Config.{Config}
 use Rattle.nats_history.specs.declared.call.Call.{Call}
@@ -11,12 +11,15 @@ use Rattle.nats_history.specs.declared.call.CallReply.{CallReply}
 use Rattle.nats_history.specs.declared.call.CallReply.TheVariants.{Accepted, Numbered, InvalidSubject, InvalidQueueName, MaxPayloadExceeded, Closed, NoNumber, Full}
 use Rattle.nats_history.specs.declared.call.TakeReply.{TakeReply}
 use Rattle.nats_history.specs.declared.call.TakeReply.TheVariants as takes
+use Rattle.nats_history.specs.declared.ping.Ping.{Ping}
+use Rattle.nats_history.specs.declared.ping.Ping.TheVariants as pinged
 use Rattle.nats_history.specs.declared.turn.Turn.{Turn}
 use Rattle.nats_history.specs.declared.turn.Turn.TheVariants.{Up, Piece, Write, Tick, Lost, GiveUp, Hangup, Do, Take}
 use Rattle.nats_history.specs.declared.transcript.LinkWord.{LinkWord}
 use Rattle.nats_history.specs.declared.transcript.LinkWord.TheVariants as word
+use Rattle.nats_history.specs.Queue.{first}
 use Rattle.nats_tables.specs.Numbers.{item_of}
-use Rattle.nats_history.specs.History.{Step, opened, fed, read, ticked, taken, accepted, handled, took, gone, link_end, closed, History, subscribes, names, lets_go, Sub, is_ended}
+use Rattle.nats_history.specs.History.{Step, opened, fed, read, ticked, taken, accepted, handled, took, gone, link_end, closed, History, ticks, subscribes, names, lets_go, Sub, is_ended}
 use Rattle.nats_history.specs.Parts.{Parts, parts_of}
 
 -- ---- replies
@@ -54,13 +57,17 @@ size_of call = 0
 abbrev pub has_no_number : Parts → Call → Bool
 has_no_number p call = subscribes call && nat_le (2 ^ 64 - 1) p.subs.given
 
+-- no further call is accepted: the session closed, or a drain of the whole session was accepted
+abbrev pub takes_no_call : Parts → Bool
+takes_no_call p = p.is_closed || p.drain.is_accepted
+
 -- the reply by which a call is refused, by the first of these that holds, or none
 abbrev pub refusal : Parts → Call → Option CallReply
 refusal p call =
     if not (has_subjects p.config call) then Some InvalidSubject else
     (if not (has_group call) then Some InvalidQueueName else
     (if nat_lt p.link.max_payload (size_of call) then Some (MaxPayloadExceeded p.link.max_payload (size_of call)) else
-    (if p.is_closed then Some Closed else
+    (if takes_no_call p then Some Closed else
     (if has_no_number p call then Some NoNumber else
     (if is_full p then Some Full else None)))))
 
@@ -117,34 +124,46 @@ is_valid_turn p Hangup = not p.is_closed
 is_valid_turn p (Do call) = may_name p (names call)
 is_valid_turn p (Take sid) = is_there (item_of sid p.subs.rows)
 
--- a link's end that closes the session
-abbrev pub closes : LinkWord → Bool
-closes word.Hangup = true
-closes end = false
+-- a link's end that closes the session: the user hung up, or a drain of the whole session was handled
+abbrev pub closes : Bool → LinkWord → Bool
+closes drained word.Hangup = true
+closes drained end = drained
 
 abbrev pub closing : Bool → List Step
 closing false = []
 closing true = closed ∷ []
 
 -- a link's end with what follows it at once
-abbrev pub ending : Option LinkWord → List Step
-ending None = []
-ending (Some end) = link_end end ∷ closing (closes end)
+abbrev pub ending : Bool → Option LinkWord → List Step
+ending drained None = []
+ending drained (Some end) = link_end end ∷ closing (closes drained end)
 
 -- the word by which the link ends as a call is handled, if it does
 abbrev pub ends_link : Call → Option LinkWord
 ends_link Reconnect = Some word.Reconnect
 ends_link call = None
 
+-- the word by which the link ends as a PONG answers this PING, if it does
+abbrev pub pong_end : Option Ping → Option LinkWord
+pong_end None = None
+pong_end (Some pinged.DrainAll) = Some word.Drained
+pong_end (Some ping) = None
+
+-- the word by which the link ends as an operation is read, if it does
+abbrev pub read_end : List Ping → Operation → Option LinkWord
+read_end pings pong_op = pong_end (first pings)
+read_end pings operation = None
+
 -- the word by which the link ends at once after a step, if it does
 abbrev pub end_after : Parts → Step → Option LinkWord
 end_after p (handled call) = ends_link call
+end_after p (read operation) = read_end p.link.pings operation
 end_after p step = None
 
 -- what follows a step at once, where these are the parts before it
 abbrev pub followers : Parts → Step → List Step
-followers p (link_end end) = closing (closes end)
-followers p step = ending (end_after p step)
+followers p (link_end end) = closing (closes p.drain.is_handled end)
+followers p step = ending p.drain.is_handled (end_after p step)
 
 -- a step with what follows it at once
 abbrev pub chain : Parts → Step → List Step
@@ -177,7 +196,7 @@ abbrev pub own_steps : Parts → Turn → List Step
 own_steps p (Up info) = chain p (opened info)
 own_steps p (Piece bytes) = chain p (fed bytes)
 own_steps p (Write n) = chain p (taken (min n (length p.link.wire.waiting)))
-own_steps p Tick = if nat_le tick_limit p.link.pings then chain p (link_end word.Ticks) else chain p ticked
+own_steps p Tick = if nat_le tick_limit (ticks p.link.pings) then chain p (link_end word.Ticks) else chain p ticked
 own_steps p Lost = chain p (link_end word.Lost)
 own_steps p GiveUp = chain p closed
 own_steps p Hangup = if p.link.is_up then chain p (link_end word.Hangup) else chain p closed

@@ -20,6 +20,11 @@ pub enum Call {
     /// The subscription of this number ends once so many messages were put into its queue in all, those before the call
     /// counted.
     Limit(u64, u64),
+    /// The subscription of this number is drained: the server is asked for no further messages of it, those that it sent are
+    /// still put into its queue, and then it ends; it ends also where its link does.
+    Drain(u64),
+    /// All subscriptions are drained, then the link ends and the session closes. Later calls are refused.
+    DrainAll,
     /// The user lets the subscription of this number go, whatever the reply: its waiting messages go, and no later call may
     /// name it.
     DropSub(u64),
@@ -49,7 +54,7 @@ pub enum CallReply {
     InvalidQueueName,
     /// The payload with its header block is larger than the server takes; both in bytes.
     MaxPayloadExceeded { limit: u64, size: u64 },
-    /// The session closed.
+    /// The session closed, or is to close: a drain of the whole session was accepted.
     Closed,
     /// The number 2^64 - 1 was given, and none follows it.
     NoNumber,
@@ -84,6 +89,8 @@ impl Call {
             }),
             Call::Unsubscribe(s) => Ok(Call::Unsubscribe(*s)),
             Call::Limit(s, n) => Ok(Call::Limit(*s, *n)),
+            Call::Drain(s) => Ok(Call::Drain(*s)),
+            Call::DrainAll => Ok(Call::DrainAll),
             Call::DropSub(s) => Ok(Call::DropSub(*s)),
             Call::Reconnect => Ok(Call::Reconnect),
         }

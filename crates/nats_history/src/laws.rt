@@ -1,6 +1,6 @@
 //! What holds of the words on histories, whatever the history. Each function does nothing: its contract is the law, so the
 //! law is proved where the function is.
-ghost use Rattle.nats_history.specs.Laws.{PartsAfter, SameSettled, NoneLeft, NoneAfterTurn, LimitHolds};
+ghost use Rattle.nats_history.specs.Laws.{PartsAfter, SameSettled, NoneLeft, NoneAfterTurn, LimitHolds, DrainPuts};
 
 /// What the words on a longer history give is what its newest step makes of the parts before it: so a handler needs no
 /// history.
@@ -28,4 +28,10 @@ pub fn none_after_turn()
 /// links, until another limit is handled for it.
 pub fn limit_holds()
     ensures { LimitHolds }
+{}
+
+/// A subscription that is drained is put each message of its number that is read on its link after its subscribe was handled
+/// and before the PONG of its drain, where its queue has room, it is not shut and it has no earlier end.
+pub fn drain_puts()
+    ensures { DrainPuts }
 {}

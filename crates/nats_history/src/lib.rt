@@ -6,6 +6,7 @@
 mod call;
 mod config;
 pub mod laws;
+mod ping;
 pub mod refusals;
 mod stage;
 mod transcript;
@@ -16,6 +17,7 @@ pub use config::Config;
 pub use nats_wire::{
     Bytes, Event, HeaderMap, Message, NoMemory, OutboundMessage, Seq, ServerInfo, Subject, Token,
 };
+pub use ping::Ping;
 pub use stage::Stage;
 pub use transcript::{LinkRow, LinkWord, RunError, SubRow, Transcript};
 pub use turn::{Due, Turn};

@@ -1,8 +1,8 @@
 //! What a call asks for, and which calls may not be accepted.
-ghost use Rattle.std.specs.Prelude.{◌≡◌, ◌<◌, ◌^◌, IfOk};
+ghost use Rattle.std.specs.Prelude.{◌≡◌, ◌<◌, ◌^◌, ◌||◌, IfOk};
 ghost use Rattle.nats_wire.specs.Commands.{sent_block};
 ghost use Rattle.nats_wire.specs.Operations.{length_or_0};
-ghost use Rattle.nats_history.specs.History.{asks, subscribes, shuts, lets_go};
+ghost use Rattle.nats_history.specs.History.{asks, subscribes, shuts, drains_all, lets_go};
 ghost use Rattle.nats_history.specs.Schedule.{ends_link, may_publish_to, passes, has_subjects, has_group, size_of};
 
 use crate::call::{Call, Interest};
@@ -20,6 +20,8 @@ pub fn subscribes(call: &Call) -> bool
         Call::Publish(_)
         | Call::Unsubscribe(_)
         | Call::Limit(..)
+        | Call::Drain(_)
+        | Call::DrainAll
         | Call::DropSub(_)
         | Call::Reconnect => false,
     }
@@ -40,6 +42,8 @@ pub fn interest_of(alloc: Global, call: &Call) -> Result<Option<Interest>, NoMem
         Call::Publish(_)
         | Call::Unsubscribe(_)
         | Call::Limit(..)
+        | Call::Drain(_)
+        | Call::DrainAll
         | Call::DropSub(_)
         | Call::Reconnect => Ok(None),
     }
@@ -55,6 +59,8 @@ pub fn ends_link(call: &Call) -> Option<LinkWord>
         | Call::Subscribe { .. }
         | Call::Unsubscribe(_)
         | Call::Limit(..)
+        | Call::Drain(_)
+        | Call::DrainAll
         | Call::DropSub(_) => None,
     }
 }
@@ -68,9 +74,34 @@ pub fn shuts(call: &Call) -> Option<u64>
         Call::Publish(_)
         | Call::Subscribe { .. }
         | Call::Limit(..)
+        | Call::Drain(_)
+        | Call::DrainAll
         | Call::DropSub(_)
         | Call::Reconnect => None,
     }
+}
+
+/// Whether a call drains the whole session.
+pub fn drains_all(call: &Call) -> bool
+    ensures { result ≡ drains_all call.now }
+{
+    match call {
+        Call::DrainAll => true,
+        Call::Publish(_)
+        | Call::Subscribe { .. }
+        | Call::Unsubscribe(_)
+        | Call::Limit(..)
+        | Call::Drain(_)
+        | Call::DropSub(_)
+        | Call::Reconnect => false,
+    }
+}
+
+/// Whether a drain of the whole session was accepted once this call is too.
+pub fn is_drained_with(call: &Call, before: bool) -> bool
+    ensures { result ≡ (drains_all call.now || before) }
+{
+    drains_all(call) || before
 }
 
 /// The subscription that the user of a call lets go, whatever the reply.
@@ -82,6 +113,8 @@ pub fn lets_go(call: &Call) -> Option<u64>
         Call::Publish(_)
         | Call::Subscribe { .. }
         | Call::Limit(..)
+        | Call::Drain(_)
+        | Call::DrainAll
         | Call::Unsubscribe(_)
         | Call::Reconnect => None,
     }
@@ -111,7 +144,12 @@ pub fn has_subjects(config: &Config, call: &Call) -> bool
             may_publish_to(config, &message.subject) && may_reply_to(config, &message.reply)
         }
         Call::Subscribe { subject, .. } => subject.is_valid(),
-        Call::Unsubscribe(_) | Call::Limit(..) | Call::DropSub(_) | Call::Reconnect => true,
+        Call::Unsubscribe(_)
+        | Call::Limit(..)
+        | Call::Drain(_)
+        | Call::DrainAll
+        | Call::DropSub(_)
+        | Call::Reconnect => true,
     }
 }
 
@@ -131,6 +169,8 @@ pub fn has_group(call: &Call) -> bool
         | Call::Publish(_)
         | Call::Unsubscribe(_)
         | Call::Limit(..)
+        | Call::Drain(_)
+        | Call::DrainAll
         | Call::DropSub(_)
         | Call::Reconnect => true,
     }
@@ -159,6 +199,8 @@ pub fn size_of(call: &Call) -> u64
         Call::Subscribe { .. }
         | Call::Unsubscribe(_)
         | Call::Limit(..)
+        | Call::Drain(_)
+        | Call::DrainAll
         | Call::DropSub(_)
         | Call::Reconnect => 0,
     }

@@ -20,6 +20,8 @@ pub enum LinkWord {
     Ticks,
     /// It ended as the user asked for another.
     Reconnect,
+    /// It ended as the session was drained.
+    Drained,
     /// It ended as the user hung up.
     Hangup,
 }

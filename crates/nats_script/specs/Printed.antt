@@ -71,6 +71,7 @@ end_word link_words.Lost = codes "lost"
 end_word link_words.Fault = codes "fault"
 end_word link_words.Ticks = codes "ticks"
 end_word link_words.Reconnect = codes "reconnect"
+end_word link_words.Drained = codes "drained"
 end_word link_words.Hangup = codes "hangup"
 
 -- link k: how it ended, the bytes that it took, the bytes that it left

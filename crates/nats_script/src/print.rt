@@ -142,6 +142,7 @@ fn push_end_word(out: &mut Vec<u8>, end: LinkWord) -> Result<(), NoMemory>
         LinkWord::Fault => out.extend_from_slice(b"fault")?,
         LinkWord::Ticks => out.extend_from_slice(b"ticks")?,
         LinkWord::Reconnect => out.extend_from_slice(b"reconnect")?,
+        LinkWord::Drained => out.extend_from_slice(b"drained")?,
         LinkWord::Hangup => out.extend_from_slice(b"hangup")?,
     }
     Ok(())

@@ -54,6 +54,7 @@ fn the_first_line_in_no_form_is_found(rt: HostRuntime) -> Result<(), Fail> {
         ("config 1 1 check P X\ntake 1 \n", 2),
         ("config 1 1 check P X\nsub %FF ~\n", 2),
         ("config 1 1 check P X\nlimit 1\n", 2),
+        ("config 1 1 check P X\ndrain 1\ndrainall\ndrain\n", 4),
         ("config 1 1 check P X\npub a ~ x y\n", 2),
         ("config 1 1 check P X\nhpub a ~ x K\n", 2),
         ("config 1 1 check P X\nhpub a ~ x K v%0D%0Aw\n", 2),

@@ -115,6 +115,8 @@ pub enum Word {
     Sub,
     Unsub,
     Limit,
+    Drain,
+    DrainAll,
     Drop,
     Reconnect,
     Other,
@@ -137,6 +139,7 @@ fn short_word_of(field: &[u8]) -> Word
         b"sub" => Word::Sub,
         b"unsub" => Word::Unsub,
         b"limit" => Word::Limit,
+        b"drain" => Word::Drain,
         b"drop" => Word::Drop,
         _ => Word::Other,
     }
@@ -150,6 +153,9 @@ fn word_of(field: &[u8]) -> Word
     }
     if field == b"hangup".as_slice() {
         return Word::Hangup;
+    }
+    if field == b"drainall".as_slice() {
+        return Word::DrainAll;
     }
     if field == b"reconnect".as_slice() {
         return Word::Reconnect;
@@ -265,6 +271,8 @@ fn turn_of(alloc: Global, word: Word, fields: Option<&[u8]>) -> Result<Option<Tu
         Word::Sub => sub_of(alloc, fields),
         Word::Unsub => Ok(number_in(fields).map(|s| Turn::Do(Call::Unsubscribe(s)))),
         Word::Limit => Ok(limit_of(fields)),
+        Word::Drain => Ok(number_in(fields).map(|s| Turn::Do(Call::Drain(s)))),
+        Word::DrainAll => Ok(is_bare(fields).then_some(Turn::Do(Call::DrainAll))),
         Word::Drop => Ok(number_in(fields).map(|s| Turn::Do(Call::DropSub(s)))),
         Word::Reconnect => Ok(is_bare(fields).then_some(Turn::Do(Call::Reconnect))),
         Word::Other => Ok(None),

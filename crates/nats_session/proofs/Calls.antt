@@ -7,9 +7,9 @@ use Rattle.nats_history.specs.declared.call.CallReply.{CallReply}
 use Rattle.nats_history.specs.declared.call.CallReply.TheVariants.{Accepted, Numbered, InvalidSubject, InvalidQueueName, MaxPayloadExceeded, Closed, NoNumber, Full}
 use Rattle.nats_history.specs.declared.turn.Turn.TheVariants.{Do}
 use Rattle.nats_history.specs.declared.transcript.SubRow.{SubRow}
-use Rattle.nats_history.specs.History.{Step, accepted, subscribes, lets_go}
+use Rattle.nats_history.specs.History.{accepted, subscribes, lets_go}
 use Rattle.nats_history.specs.Parts.{Parts}
-use Rattle.nats_history.specs.Schedule.{has_subjects, has_group, size_of, has_no_number, is_full, refusal, accepted_reply, reply_by, call_reply, accepted_step, gone_step, call_steps}
+use Rattle.nats_history.specs.Schedule.{has_subjects, has_group, size_of, has_no_number, is_full, takes_no_call, refusal, accepted_reply, reply_by, call_reply, accepted_step, gone_step}
 use Rattle.nats_history.specs.Transcripts.{called}
 use Rattle.nats_history.specs.After.{after}
 use Rattle.nats_session.specs.Sheet.{Sheet, new_row, added, write_answer}
@@ -33,7 +33,7 @@ refused_by true true false false false false limit size = refl
 
 not_numbered : (p : Parts) (call : Call) → is_numbered (refusal p call) ≡ false
 not_numbered p call =
-    refused_by (has_subjects p.config call) (has_group call) (nat_lt p.link.max_payload (size_of call)) p.is_closed (has_no_number p call) (is_full p) p.link.max_payload (size_of call)
+    refused_by (has_subjects p.config call) (has_group call) (nat_lt p.link.max_payload (size_of call)) (takes_no_call p) (has_no_number p call) (is_full p) p.link.max_payload (size_of call)
 
 not_added : (reply : CallReply) (rows : List SubRow) → is_numbered (Some reply) ≡ false → added reply rows ≡ rows
 not_added (Numbered n) rows e = absurd (false≢true (sym e))

@@ -1,16 +1,15 @@
 -- Several steps at once: what they write, and behind it their events.
-use Rattle.std.proofs.Common.{◌≡◌, ℕ, Bool, true, false, cond, List, [], ◌∷◌, ◌++◌, Result, OnOk, Some, None, refl, sym, ◌∙◌, ap}
+use Rattle.std.proofs.Common.{◌≡◌, ℕ, Bool, true, false, cond, List, [], ◌∷◌, ◌++◌, Option, Some, None, refl, sym, ◌∙◌, ap}
 use Rattle.std.proofs.lemmas.List.{append-nil, append_assoc}
-use Rattle.std.proofs.lemmas.Result.{on_ok_weaker}
 use Rattle.nats_names.specs.declared.event.Event.{Event}
 use Rattle.nats_history.specs.declared.transcript.LinkWord.{LinkWord}
 use Rattle.nats_history.specs.declared.transcript.LinkWord.TheVariants as word
 use Rattle.nats_history.specs.History.{Step, ticked, link_end, closed, at_place}
 use Rattle.nats_history.specs.Parts.{Parts}
-use Rattle.nats_history.specs.Schedule.{chain, closes, closing}
+use Rattle.nats_history.specs.Schedule.{chain, closes, closing, ending}
 use Rattle.nats_history.specs.After.{after, after_all, events_of}
 use Rattle.nats_session.specs.Handler.{Seen, seen_after, seen_all, all_events, end_in}
-use Rattle.nats_session.specs.Sheet.{Sheet, write_step, write_events}
+use Rattle.nats_session.specs.Sheet.{Sheet, row_with, write_step, write_events}
 use Rattle.nats_session.specs.Machine.{quiet, sheet_noted, sheet_recorded, sheet_written, write_end}
 use Rattle.nats_session.proofs.Handlers.{pushed}
 
@@ -53,7 +52,7 @@ seen_quiet old steps none =
 -- ---- a link that ends, and the close
 
 pub end_written : (place : ℕ) (p : Parts) (end : LinkWord) (sheet : Sheet) → write_end (Some end) p sheet ≡ sheet_written place (chain p (link_end end)) p sheet
-end_written place p end sheet = by_closing (closes end)
+end_written place p end sheet = by_closing (closes p.drain.is_handled end)
   where
     by_closing : (b : Bool) → write_end (Some end) p sheet ≡ sheet_written place (link_end end ∷ closing b) p sheet
     by_closing true = refl
@@ -66,8 +65,19 @@ hangup_written place p false sheet = refl
 
 pub tick_written : (place : ℕ) (p : Parts) (last : Bool) (sheet : Sheet)
     → write_end (end_in (cond last (chain p (link_end word.Ticks)) (chain p ticked))) p sheet ≡ sheet_written place (cond last (chain p (link_end word.Ticks)) (chain p ticked)) p sheet
-tick_written place p true sheet = refl
+tick_written place p true sheet = end_written place p word.Ticks sheet
 tick_written place p false sheet = refl
+
+-- what follows a step at once where the link ends by this word, or does not
+pub ending_written : (place : ℕ) (p q : Parts) (drained : Bool) (end : Option LinkWord) (sheet : Sheet) → q.link.wire.waiting ≡ p.link.wire.waiting
+    → write_end (end_in (ending drained end)) p sheet ≡ sheet_written place (ending drained end) q sheet
+ending_written place p q drained None sheet same = refl
+ending_written place p q drained (Some end) sheet same =
+    ap (λ left. record sheet { links = sheet.links ++ row_with end sheet.taken left ∷ []; taken = [] }) (sym same) ∙ by_closing (closes drained end)
+  where
+    by_closing : (b : Bool) → write_end (Some end) q sheet ≡ sheet_written place (link_end end ∷ closing b) q sheet
+    by_closing true = refl
+    by_closing false = refl
 
 -- steps that were played, after what they write was written, and then their events
 pub played : (place : ℕ) (steps : List Step) (old new last : Seen) (s0 s1 s2 : Sheet) → old.events ≡ [] → new ≡ seen_all old steps

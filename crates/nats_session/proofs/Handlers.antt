@@ -1,6 +1,6 @@
 -- Laws on a handler as it is seen.
 use Rattle.std.proofs.Common.{◌≡◌, ℕ, zero, suc, ◌≤◌, List, [], ◌∷◌, ◌++◌, length, drop, map, Option, Some, None, Result, Ok, Err, OnOk, OnErr, IfOk, Bool, true, false, not, cond, is_some, ◌&&◌, ◌||◌, refl, sym, ◌∙◌, ap, subst, arith}
-use Rattle.std.proofs.lemmas.List.{append-nil, append_assoc, map-append, length-append, length-map, drop-append-le, drop-drop, length-drop}
+use Rattle.std.proofs.lemmas.List.{append-nil, append_assoc, map-append, length-append, length-map, drop-append-le, length-drop}
 use Rattle.std.proofs.lemmas.Bool.{false≢true}
 use Rattle.std.proofs.lemmas.Option.{none-some}
 use Rattle.std.proofs.lemmas.Result.{on_ok_weaker}
@@ -8,8 +8,9 @@ use Rattle.nats_names.specs.declared.event.Event.{Event}
 use Rattle.nats_wire.specs.declared.message.Message.{Message}
 use Rattle.nats_history.specs.declared.config.Config.{Config}
 use Rattle.nats_history.specs.declared.call.Call.{Call}
-use Rattle.nats_history.specs.declared.call.Call.TheVariants.{Unsubscribe}
+use Rattle.nats_history.specs.declared.call.Call.TheVariants.{Unsubscribe, DrainAll}
 use Rattle.nats_history.specs.declared.call.Interest.{Interest}
+use Rattle.nats_history.specs.declared.ping.Ping.{Ping}
 use Rattle.nats_history.specs.declared.call.CallReply.{CallReply}
 use Rattle.nats_history.specs.declared.call.CallReply.TheVariants.{Accepted, Numbered}
 use Rattle.nats_history.specs.declared.call.TakeReply.{TakeReply}
@@ -18,8 +19,8 @@ use Rattle.nats_history.specs.declared.turn.Turn.TheVariants.{Do, Take}
 use Rattle.nats_history.specs.declared.turn.Due.{Due}
 use Rattle.nats_history.specs.Queue.{first}
 use Rattle.nats_tables.specs.Numbers.{only, at_number, item_of, named, change}
-use Rattle.nats_history.specs.History.{Step, accepted, took, History, asks, subscribes, shuts, lets_go, interest_by, Sub, is_ended, forgotten, kept, second, events_by, at_place, events}
-use Rattle.nats_history.specs.Parts.{Subs, Parts, parts_of}
+use Rattle.nats_history.specs.History.{Step, accepted, took, History, asks, shuts, drains_all, lets_go, interest_by, Sub, is_ended, forgotten, kept, second, events_by, at_place, events}
+use Rattle.nats_history.specs.Parts.{Subs, Parts}
 use Rattle.nats_history.specs.Schedule.{refusal, reply_by, accepted_reply, call_reply, accepted_step, gone_step, call_steps, is_closed_sub, oldest, sub_take, take_reply_of, take_reply, is_there, took_step, own_steps, due, put_steps, chain, due_chain}
 use Rattle.nats_history.specs.After.{new_sub, sub_after, subs_after, after, after_all, events_of}
 use Rattle.nats_history.proofs.Refines.{parts_after}
@@ -27,7 +28,7 @@ use Rattle.nats_tables.proofs.Numbers.{at_number_same, agree_at}
 use Rattle.nats_subs.specs.declared.subs.subscription.Alteration.TheVariants as alterations
 use Rattle.nats_subs.specs.Delivery.{take_from, given_one, rows_named, with_rows}
 use Rattle.nats_session.specs.Machine.{quiet}
-use Rattle.nats_session.specs.Handler.{Seen, HandedOut, StandsFor, push_all, seen_after, seen_all, LeadTo, can_play, Advances, Answers, Submits, next_of, handed, HandsOut}
+use Rattle.nats_session.specs.Handler.{Seen, HandedOut, StandsFor, push_all, seen_after, seen_all, LeadTo, can_play, Advances, Answers, Submits, handed, HandsOut}
 
 -- ---- a take where nothing waits changes nothing
 
@@ -178,6 +179,10 @@ unchanged seen subs events a b = rw (a, b) refl
 
 -- ---- a call that is accepted
 
+no_drain : (call : Call) (asked : Interest) → asks call ≡ Some asked → drains_all call ≡ false
+no_drain DrainAll asked e = absurd (none-some asked e)
+no_drain call asked e = refl
+
 no_shut : (call : Call) (asked : Interest) → asks call ≡ Some asked → shuts call ≡ None
 no_shut (Unsubscribe s) asked e = absurd (none-some asked e)
 no_shut call asked e = refl
@@ -196,8 +201,8 @@ abbrev given_by : Subs → (Sub → Sub) → Subs
 given_by subs f = record subs { given = suc subs.given; rows = at_number (suc subs.given) f (subs.rows ++ new_sub ∷ []) }
 
 -- a subscribe is given the next number
-pub subs_given : (c : Config) (call : Call) (asked : Interest) (subs : Subs) → asks call ≡ Some asked → subs_after c (accepted call) subs ≡ given_one asked subs
-subs_given c call asked subs is =
+pub subs_given : (c : Config) (pings : List Ping) (call : Call) (asked : Interest) (subs : Subs) → asks call ≡ Some asked → subs_after c pings (accepted call) subs ≡ given_one asked subs
+subs_given c pings call asked subs is =
     ap (subs_with c call subs) (ap is_some is)
     ∙ (ap (λ o. given_by subs (accepted_sub o (shuts call))) is
     ∙ ap (λ o. given_by subs (accepted_sub (Some asked) o)) (no_shut call asked is))
@@ -209,44 +214,52 @@ shut_rows c call rows (Some s) none is =
     ap (λ o. at_number s (accepted_sub (asks call) o) rows) is ∙ ap (λ o. at_number s (accepted_sub o (Some s)) rows) none
 
 -- any other call shuts the subscription that it names for that
-pub subs_shut : (c : Config) (call : Call) (subs : Subs) → asks call ≡ None → subs_after c (accepted call) subs ≡ with_rows (rows_named (shuts call) alterations.Shut subs.rows) subs
-subs_shut c call subs none =
+pub subs_shut : (c : Config) (pings : List Ping) (call : Call) (subs : Subs) → asks call ≡ None → subs_after c pings (accepted call) subs ≡ with_rows (rows_named (shuts call) alterations.Shut subs.rows) subs
+subs_shut c pings call subs none =
     ap (subs_with c call subs) (ap is_some none) ∙ ap (λ rows. with_rows rows subs) (shut_rows c call subs.rows (shuts call) none refl)
 
-abbrev with_call : Seen → List Call → Subs → Seen
-with_call seen calls subs = record seen { parts = record seen.parts { calls = calls; subs = subs } }
+abbrev with_call : Seen → Bool → List Call → Subs → Seen
+with_call seen drained calls subs = record seen {
+  parts = record seen.parts { drain = record seen.parts.drain { is_accepted = drained }; calls = calls; subs = subs };
+}
 
 abbrev TakenIn : Seen → Call → CallReply → Seen → Type 0
 TakenIn old call reply new = (reply ≡ call_reply old.parts call) × (new ≡ seen_all old (accepted_step (refusal old.parts call) call))
 
 -- a call that is not refused: one more waits, and the subscriptions are those after its acceptance
-taken : (old : Seen) (call : Call) (reply : CallReply) (calls : List Call) (subs : Subs) → refusal old.parts call ≡ None → reply ≡ accepted_reply old.parts call
-    → calls ≡ old.parts.calls ++ call ∷ [] → subs ≡ subs_after old.parts.config (accepted call) old.parts.subs → TakenIn old call reply (with_call old calls subs)
-taken old call reply calls subs free is a b = (
+taken : (old : Seen) (call : Call) (reply : CallReply) (drained : Bool) (calls : List Call) (subs : Subs) → refusal old.parts call ≡ None → reply ≡ accepted_reply old.parts call
+    → drained ≡ (drains_all call || old.parts.drain.is_accepted) → calls ≡ old.parts.calls ++ call ∷ [] → subs ≡ subs_after old.parts.config old.parts.link.pings (accepted call) old.parts.subs
+    → TakenIn old call reply (with_call old drained calls subs)
+taken old call reply drained calls subs free is d a b = (
   is ∙ sym (ap (λ r. reply_by r (accepted_reply old.parts call)) free),
-  ap (λ cs. with_call old cs subs) a ∙ (ap (with_call old (old.parts.calls ++ call ∷ [])) b ∙ sym (ap (λ r. seen_all old (accepted_step r call)) free)),
+  ap (λ x. with_call old x calls subs) d
+      ∙ (ap (λ cs. with_call old (drains_all call || old.parts.drain.is_accepted) cs subs) a
+      ∙ (ap (with_call old (drains_all call || old.parts.drain.is_accepted) (old.parts.calls ++ call ∷ [])) b ∙ sym (ap (λ r. seen_all old (accepted_step r call)) free))),
 )
 
 -- the same by what the fields of the handler became
-taken_by : (seen old : Seen) (call : Call) (reply : CallReply) (calls : List Call) (subs : Subs) → seen ≡ old → refusal old.parts call ≡ None → reply ≡ accepted_reply seen.parts call
-    → calls ≡ seen.parts.calls ++ call ∷ [] → subs ≡ subs_after seen.parts.config (accepted call) seen.parts.subs → TakenIn old call reply (with_call seen calls subs)
-taken_by seen old call reply calls subs same free is a b =
+taken_by : (seen old : Seen) (call : Call) (reply : CallReply) (drained : Bool) (calls : List Call) (subs : Subs) → seen ≡ old → refusal old.parts call ≡ None
+    → reply ≡ accepted_reply seen.parts call → drained ≡ (drains_all call || seen.parts.drain.is_accepted) → calls ≡ seen.parts.calls ++ call ∷ []
+    → subs ≡ subs_after seen.parts.config seen.parts.link.pings (accepted call) seen.parts.subs → TakenIn old call reply (with_call seen drained calls subs)
+taken_by seen old call reply drained calls subs same free is d a b =
     let free_there : refusal seen.parts call ≡ None = subst (λ (s : Seen). refusal s.parts call ≡ None) (sym same) free in
-    subst (λ s. TakenIn s call reply (with_call seen calls subs)) same (taken seen call reply calls subs free_there is a b)
+    subst (λ s. TakenIn s call reply (with_call seen drained calls subs)) same (taken seen call reply drained calls subs free_there is d a b)
 
 pub numbered_by : (seen old : Seen) (call : Call) (asked : Interest) (calls : List Call) (subs : Subs) (number : ℕ) → seen ≡ old → refusal old.parts call ≡ None → asks call ≡ Some asked
-    → calls ≡ seen.parts.calls ++ call ∷ [] → subs ≡ given_one asked seen.parts.subs → number ≡ subs.given → TakenIn old call (Numbered number) (with_call seen calls subs)
+    → calls ≡ seen.parts.calls ++ call ∷ [] → subs ≡ given_one asked seen.parts.subs → number ≡ subs.given
+    → TakenIn old call (Numbered number) (record seen { parts = record seen.parts { calls = calls; subs = subs } })
 numbered_by seen old call asked calls subs number same free is a b d =
-    taken_by seen old call (Numbered number) calls subs same free
+    taken_by seen old call (Numbered number) seen.parts.drain.is_accepted calls subs same free
     (ap Numbered (d ∙ ap (λ (x : Subs). x.given) b) ∙ sym (ap (λ o. cond (is_some o) (Numbered (suc seen.parts.subs.given)) Accepted) is))
-    a (b ∙ sym (subs_given seen.parts.config call asked seen.parts.subs is))
+    (sym (ap (λ x. x || seen.parts.drain.is_accepted) (no_drain call asked is)))
+    a (b ∙ sym (subs_given seen.parts.config seen.parts.link.pings call asked seen.parts.subs is))
 
-pub shut_by : (seen old : Seen) (call : Call) (calls : List Call) (subs : Subs) → seen ≡ old → refusal old.parts call ≡ None → asks call ≡ None
-    → calls ≡ seen.parts.calls ++ call ∷ [] → subs ≡ with_rows (rows_named (shuts call) alterations.Shut seen.parts.subs.rows) seen.parts.subs
-    → TakenIn old call Accepted (with_call seen calls subs)
-shut_by seen old call calls subs same free is a b =
-    taken_by seen old call Accepted calls subs same free (sym (ap (λ o. cond (is_some o) (Numbered (suc seen.parts.subs.given)) Accepted) is))
-    a (b ∙ sym (subs_shut seen.parts.config call seen.parts.subs is))
+pub shut_by : (seen old : Seen) (call : Call) (drained : Bool) (calls : List Call) (subs : Subs) → seen ≡ old → refusal old.parts call ≡ None → asks call ≡ None
+    → drained ≡ (drains_all call || seen.parts.drain.is_accepted) → calls ≡ seen.parts.calls ++ call ∷ [] → subs ≡ with_rows (rows_named (shuts call) alterations.Shut seen.parts.subs.rows) seen.parts.subs
+    → TakenIn old call Accepted (with_call seen drained calls subs)
+shut_by seen old call drained calls subs same free is d a b =
+    taken_by seen old call Accepted drained calls subs same free (sym (ap (λ o. cond (is_some o) (Numbered (suc seen.parts.subs.given)) Accepted) is))
+    d a (b ∙ sym (subs_shut seen.parts.config seen.parts.link.pings call seen.parts.subs is))
 
 -- ---- a subscription that is let go, whatever the reply
 

@@ -3,20 +3,18 @@ use Rattle.std.proofs.Common.{◌≡◌, ℕ, true, List, [], ◌∷◌, ◌++�
 use Rattle.nats_names.specs.declared.event.Event.{Event}
 use Rattle.nats_names.specs.declared.event.Event.TheVariants.{SlowConsumer}
 use Rattle.nats_wire.specs.declared.message.Message.{Message}
-use Rattle.nats_wire.specs.declared.op.ClientOp.TheVariants as client
 use Rattle.nats_wire.specs.Operations.{Operation, message, got, front, past}
-use Rattle.nats_wire.specs.Commands.{command_text}
 use Rattle.nats_wire.specs.Wire.{Wire}
 use Rattle.nats_history.specs.Parts.{Subs}
 use Rattle.nats_tables.specs.Numbers.{at_number, item_of}
 use Rattle.nats_history.specs.History.{came, read, Sub, kept, unsubscribe_command, is_closing_at, drop_events}
+use Rattle.nats_history.specs.Schedule.{chain}
 use Rattle.nats_history.specs.After.{sub_after, written}
 use Rattle.nats_subs.specs.declared.subs.subscription.Delivery.{Delivery}
 use Rattle.nats_subs.specs.declared.subs.subscription.Delivery.TheVariants.{Put, Dropped, Unwanted, Ignored}
-use Rattle.nats_subs.specs.declared.subs.subscription.Alteration.TheVariants as alterations
-use Rattle.nats_subs.specs.Delivery.{delivery_at, is_unwanted, delivery_events, deliver, rows_with, with_rows}
+use Rattle.nats_subs.specs.Delivery.{delivery_at, is_unwanted, delivery_events, deliver, with_rows}
 use Rattle.nats_subs.proofs.Deliveries.{closing_at, events_at, rows_by, rows_came}
-use Rattle.nats_session.specs.Handler.{Seen, push_all, seen_after, delivery_of, delivered_seen, after_message}
+use Rattle.nats_session.specs.Handler.{Seen, push_all, seen_after, seen_all, delivery_of, delivered_seen, after_message}
 
 -- ---- the handler
 
@@ -87,8 +85,8 @@ with_link seen wire = record seen { parts = record seen.parts { link = record se
 -- a message that was brought to its subscription, and whose bytes were then taken away
 pub consumed_seen : (inside old : Seen) (wire : Wire) (operation : Operation) (sid n : ℕ) (m : Message) → inside ≡ read_seen sid m old
     → wire ≡ record inside.parts.link.wire { unread = drop n inside.parts.link.wire.unread } → operation ≡ message sid m
-    → old.parts.link.is_up ≡ true → front old.parts.link.wire.unread ≡ got operation n → with_link inside wire ≡ seen_after old (read operation)
+    → old.parts.link.is_up ≡ true → front old.parts.link.wire.unread ≡ got operation n → with_link inside wire ≡ seen_all old (chain old.parts (read operation))
 consumed_seen inside old wire operation sid n m same taken is up here =
     ap (with_link inside) taken
     ∙ (ap (consumed n) same
-    ∙ (came_seen old sid n m up (here ∙ ap (λ o. got o n) is) ∙ sym (ap (λ o. seen_after old (read o)) is)))
+    ∙ (came_seen old sid n m up (here ∙ ap (λ o. got o n) is) ∙ sym (ap (λ o. seen_all old (chain old.parts (read o))) is)))

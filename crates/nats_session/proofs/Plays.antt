@@ -1,5 +1,5 @@
 -- Playing over parts and a sheet is playing over histories.
-use Rattle.std.proofs.Common.{◌≡◌, ℕ, zero, suc, ◌≤◌, Bool, true, false, cond, nat_le, List, [], ◌∷◌, ◌++◌, length, Option, Some, None, is_some, refl, sym, ◌∙◌, ap, subst, arith}
+use Rattle.std.proofs.Common.{◌≡◌, ℕ, zero, suc, ◌≤◌, Bool, true, false, cond, nat_le, List, [], ◌∷◌, ◌++◌, length, Option, Some, None, is_some, refl, sym, ap, subst, arith}
 use Rattle.std.proofs.lemmas.List.{append-nil, append_assoc}
 use Rattle.std.proofs.lemmas.Option.{none-some}
 use Rattle.std.proofs.lemmas.Bool.{false≢true}
@@ -14,9 +14,9 @@ use Rattle.nats_history.specs.declared.transcript.LinkWord.TheVariants as word
 use Rattle.nats_history.specs.declared.turn.Turn.{Turn}
 use Rattle.nats_history.specs.declared.turn.Turn.TheVariants.{Up, Piece, Write, Tick, Lost, GiveUp, Hangup, Do, Take}
 use Rattle.nats_tables.specs.Numbers.{item_of}
-use Rattle.nats_history.specs.History.{Step, ticked, link_end, closed, accepted, handled, History, lets_go, Sub, at_of, given}
+use Rattle.nats_history.specs.History.{Step, read, ticked, link_end, closed, handled, History, ticks, lets_go, Sub, at_of, given}
 use Rattle.nats_history.specs.Parts.{Parts, parts_of}
-use Rattle.nats_history.specs.Schedule.{refusal, take_reply, is_there, is_valid_turn, closes, closing, ending, ends_link, tick_limit, chain, accepted_step, gone_step, took_step, own_steps, due_by, due, most_due, put_steps, after_turn, steps_from, steps, out_of_turn_from, out_of_turn}
+use Rattle.nats_history.specs.Schedule.{refusal, take_reply, is_there, is_valid_turn, closes, closing, ending, ends_link, read_end, tick_limit, chain, accepted_step, gone_step, took_step, own_steps, due_by, due, most_due, put_steps, after_turn, steps_from, steps, out_of_turn_from, out_of_turn}
 use Rattle.nats_history.specs.Transcripts.{Answer, answer_of, answers_from, answers, transcript}
 use Rattle.nats_history.specs.After.{after, after_all, due_steps_within, due_steps}
 use Rattle.nats_history.proofs.Rows.{given_grows}
@@ -49,13 +49,14 @@ closing_ends_up : (b : Bool) (p : Parts) → AllEndUp (closing b) p
 closing_ends_up true p = (tt, tt)
 closing_ends_up false p = tt
 
-ending_ends_up : (end : Option LinkWord) (p : Parts) → p.link.is_up ≡ true → AllEndUp (ending end) p
-ending_ends_up None p up = tt
-ending_ends_up (Some end) p up = (up, closing_ends_up (closes end) (after p (link_end end)))
+ending_ends_up : (drained : Bool) (end : Option LinkWord) (p : Parts) → p.link.is_up ≡ true → AllEndUp (ending drained end) p
+ending_ends_up drained None p up = tt
+ending_ends_up drained (Some end) p up = (up, closing_ends_up (closes drained end) (after p (link_end end)))
 
 chain_ends_up : (p : Parts) (step : Step) → p.link.is_up ≡ true → AllEndUp (chain p step) p
-chain_ends_up p (link_end end) up = (up, closing_ends_up (closes end) (after p (link_end end)))
-chain_ends_up p (handled call) up = (tt, ending_ends_up (ends_link call) (after p (handled call)) up)
+chain_ends_up p (link_end end) up = (up, closing_ends_up (closes p.drain.is_handled end) (after p (link_end end)))
+chain_ends_up p (handled call) up = (tt, ending_ends_up p.drain.is_handled (ends_link call) (after p (handled call)) up)
+chain_ends_up p (read operation) up = (tt, ending_ends_up p.drain.is_handled (read_end p.link.pings operation) (after p (read operation)) up)
 chain_ends_up p step up = (tt, tt)
 
 -- ---- due steps
@@ -102,7 +103,7 @@ own_end_up : (turn : Turn) (p : Parts) → is_valid_turn p turn ≡ true → All
 own_end_up (Up info) p valid = (tt, tt)
 own_end_up (Piece bytes) p valid = (tt, tt)
 own_end_up (Write n) p valid = (tt, tt)
-own_end_up Tick p valid = tick_ends_up (nat_le tick_limit p.link.pings) p valid
+own_end_up Tick p valid = tick_ends_up (nat_le tick_limit (ticks p.link.pings)) p valid
 own_end_up Lost p valid = chain_ends_up p (link_end word.Lost) valid
 own_end_up GiveUp p valid = (tt, tt)
 own_end_up Hangup p valid = hangup_ends_up p.link.is_up p refl

@@ -1,6 +1,5 @@
 -- A run is half way: playing the turns that are left from here is playing all of them from the beginning.
-use Rattle.std.specs.Prelude.{IsTrue}
-use Rattle.std.proofs.Common.{◌≡◌, ℕ, suc, ◌+◌, ◌≤◌, ◌<◌, true, false, cond, List, [], ◌∷◌, length, get_or, drop, Some, None, refl, sym, ◌∙◌, ap, add-one, drop-cons}
+use Rattle.std.proofs.Common.{◌≡◌, ℕ, suc, ◌+◌, ◌≤◌, ◌<◌, true, false, cond, List, ◌∷◌, length, get_or, drop, Some, None, refl, sym, ◌∙◌, ap, add-one, drop-cons}
 use Rattle.std.proofs.lemmas.List.{drop_all}
 use Rattle.nats_history.specs.declared.config.Config.{Config}
 use Rattle.nats_history.specs.declared.turn.Turn.{Turn}
@@ -8,7 +7,7 @@ use Rattle.nats_history.specs.Parts.{Parts}
 use Rattle.nats_history.specs.Schedule.{is_valid_turn, due, out_of_turn}
 use Rattle.nats_history.specs.Transcripts.{transcript}
 use Rattle.nats_history.proofs.Dues.{none_left}
-use Rattle.nats_session.specs.Handler.{idle, can_play}
+use Rattle.nats_session.specs.Handler.{idle}
 use Rattle.nats_session.specs.Sheet.{Sheet, empty_sheet, finished}
 use Rattle.nats_session.specs.Machine.{own_parts, turn_parts, turn_sheet, played_parts, played_sheet, first_out_of_turn}
 use Rattle.nats_session.proofs.Plays.{first_from_idle, transcript_from_idle}

@@ -1,37 +1,29 @@
 -- Laws on due steps as they are played, written and played out.
 use Rattle.std.specs.Option.{option_map}
-use Rattle.std.proofs.Common.{◌≡◌, ℕ, zero, suc, ◌<◌, Bool, true, false, cond, ◌&&◌, List, [], ◌∷◌, ◌++◌, Option, Some, None, is_some, refl, sym, ◌∙◌, ap, subst}
+use Rattle.std.proofs.Common.{◌≡◌, ℕ, ◌<◌, Bool, true, false, cond, List, [], ◌∷◌, ◌++◌, Option, Some, None, is_some, refl, sym, ◌∙◌, ap, subst}
 use Rattle.std.proofs.lemmas.Bool.{false≢true}
 use Rattle.std.proofs.lemmas.Option.{none-some, same_Some}
-use Rattle.nats_names.specs.declared.event.Event.{Event}
-use Rattle.nats_wire.specs.declared.message.Message.{Message}
-use Rattle.nats_wire.specs.Operations.{Operation, message, Front, got, unfinished, fault, front}
-use Rattle.nats_history.specs.declared.config.Config.{Config}
+use Rattle.nats_wire.specs.Operations.{message, pong_op, Front, got, unfinished, fault, front}
 use Rattle.nats_history.specs.declared.call.Call.{Call}
 use Rattle.nats_history.specs.declared.call.Call.TheVariants.{Reconnect}
-use Rattle.nats_history.specs.declared.call.TakeReply.{TakeReply}
-use Rattle.nats_history.specs.declared.call.TakeReply.TheVariants as takes
 use Rattle.nats_history.specs.declared.turn.Due.{Due}
 use Rattle.nats_history.specs.declared.turn.Due.TheVariants as due_names
 use Rattle.nats_session.specs.declared.handler.due.Look.{Look}
 use Rattle.nats_session.specs.declared.handler.due.Look.TheVariants as looks
 use Rattle.nats_subs.specs.declared.subs.subscription.Delivery.{Delivery}
 use Rattle.nats_subs.specs.declared.subs.subscription.Delivery.TheVariants.{Put, Dropped, Unwanted, Ignored}
+use Rattle.nats_history.specs.declared.transcript.LinkWord.{LinkWord}
 use Rattle.nats_history.specs.declared.transcript.LinkWord.TheVariants as word
 use Rattle.nats_history.specs.Queue.{first}
-use Rattle.nats_tables.specs.Numbers.{at_number, item_of}
-use Rattle.nats_history.specs.History.{Step, opened, fed, read, ticked, taken, accepted, handled, took, gone, link_end, closed, Sub, is_open, has_room}
-use Rattle.nats_history.specs.declared.stage.Stage.{Stage}
-use Rattle.nats_history.specs.declared.stage.Stage.TheVariants.{Asked, Open, Ended}
+use Rattle.nats_history.specs.History.{Step, opened, fed, read, ticked, taken, accepted, handled, took, gone, link_end, closed}
 use Rattle.nats_history.specs.Parts.{Parts}
-use Rattle.nats_history.specs.Schedule.{chain, due_call, due_by, due, due_chain, most_due}
+use Rattle.nats_history.specs.Schedule.{ending, pong_end, chain, due_call, due_by, due, due_chain, most_due}
 use Rattle.nats_history.specs.After.{after, after_all, due_steps}
 use Rattle.nats_history.proofs.Dues.{bound_falls, none_due, one_due, after_append}
-use Rattle.nats_subs.specs.Delivery.{delivery_at}
-use Rattle.nats_session.specs.Handler.{Seen, delivery_name, delivery_of, end_in, name_of, Advances, Sees, is_nothing}
+use Rattle.nats_session.specs.Handler.{Seen, delivery_name, delivery_of, end_in, ended_or, name_of, Advances, Sees, is_nothing}
 use Rattle.nats_session.specs.Sheet.{Sheet, write_delivery, write_due, write_events}
-use Rattle.nats_session.specs.Machine.{quiet, sheet_noted, sheet_recorded, sheet_written, settled_parts, settled_sheet, write_look, write_before, write_coming, write_end, Notes}
-use Rattle.nats_session.proofs.Chains.{no_events, end_written, played}
+use Rattle.nats_session.specs.Machine.{sheet_noted, sheet_recorded, sheet_written, settled_parts, settled_sheet, write_look, write_before, write_coming, write_end, Notes}
+use Rattle.nats_session.proofs.Chains.{no_events, end_written, ending_written, played}
 
 -- ---- what can be due
 
@@ -60,6 +52,11 @@ can_be_due p step e = by_up p.link.is_up e
 
 -- ---- what is written of a due step
 
+-- an operation that is no message is written by the link's end alone
+unnamed : (place : ℕ) (end : Option LinkWord) (sheet : Sheet) → write_due place (ended_or end due_names.Read) sheet ≡ sheet
+unnamed place None sheet = refl
+unnamed place (Some end) sheet = refl
+
 written_due : (place : ℕ) (p : Parts) (step : Step) (sheet : Sheet) → CanBeDue step
     → write_due place (name_of p step) (write_end (end_in (chain p step)) p (write_before place p (Some step) sheet)) ≡ sheet_written place (chain p step) p sheet
 written_due place p (read (message sid m)) sheet can = by_delivery (delivery_of p sid)
@@ -69,8 +66,13 @@ written_due place p (read (message sid m)) sheet can = by_delivery (delivery_of 
     by_delivery Dropped = refl
     by_delivery Unwanted = refl
     by_delivery Ignored = refl
+written_due place p (read pong_op) sheet can =
+    let end = pong_end (first p.link.pings) in
+    let drained = p.drain.is_handled in
+    unnamed place (end_in (ending drained end)) (write_end (end_in (ending drained end)) p sheet) ∙ ending_written place p (after p (read pong_op)) drained end sheet refl
 written_due place p (read operation) sheet can = refl
-written_due place p (handled Reconnect) sheet can = refl
+written_due place p (handled Reconnect) sheet can =
+    ending_written place p (after p (handled Reconnect)) p.drain.is_handled (Some word.Reconnect) sheet refl
 written_due place p (handled call) sheet can = refl
 written_due place p (link_end end) sheet can = end_written place p end sheet
 written_due place p (opened info) sheet can = absurd can

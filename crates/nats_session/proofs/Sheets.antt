@@ -1,5 +1,5 @@
 -- The sheet after one more step, and after one more answer.
-use Rattle.std.proofs.Common.{◌≡◌, ℕ, suc, ◌+◌, ◌≤◌, ◌<◌, Bool, true, false, cond, not, eqb, ◌&&◌, min, List, [], ◌∷◌, ◌++◌, length, take, drop, map, Option, Some, None, zero, refl, sym, ◌∙◌, ap, subst, arith}
+use Rattle.std.proofs.Common.{◌≡◌, ℕ, suc, ◌+◌, ◌≤◌, Bool, true, false, cond, not, eqb, ◌&&◌, min, List, [], ◌∷◌, ◌++◌, length, take, drop, map, Some, None, zero, refl, sym, ◌∙◌, ap, subst, arith}
 use Rattle.std.proofs.lemmas.List.{append-nil, append_assoc, take-append-le, take_min}
 use Rattle.std.proofs.Math.Seq.{take-add}
 use Rattle.std.proofs.lemmas.Bool.{ne_eqb, le-ltb, ltb-true, ltb-false, false≢true}
@@ -18,13 +18,13 @@ use Rattle.nats_history.specs.declared.transcript.LinkRow.{LinkRow}
 use Rattle.nats_history.specs.declared.transcript.SubRow.{SubRow}
 use Rattle.nats_subs.specs.declared.subs.subscription.Delivery.{Delivery}
 use Rattle.nats_subs.specs.declared.subs.subscription.Delivery.TheVariants.{Put, Dropped, Unwanted, Ignored}
-use Rattle.nats_tables.specs.Numbers.{About, is_about, at_number, item_of, count_from}
-use Rattle.nats_history.specs.History.{Step, opened, fed, read, taken, accepted, handled, took, gone, link_end, History, is_up, subscribes, given_after, at_after, at_of, given, numbers, about, is_given, concerns, Told, nothing_told, Sub, sub_of, is_open, is_ended, has_room, is_over, forgotten, kept, told_after, told, rows_of, link_text, taken_count, waiting_bytes, text_by, events}
+use Rattle.nats_tables.specs.Numbers.{is_about, at_number, item_of, count_from}
+use Rattle.nats_history.specs.History.{Step, opened, read, taken, accepted, link_end, History, is_up, subscribes, given_after, at_after, at_of, given, numbers, about, is_given, concerns, Told, nothing_told, Sub, sub_of, is_open, is_ended, has_room, is_over, forgotten, kept, told_after, told, rows_of, link_text, taken_count, waiting_bytes, text_by, events}
 use Rattle.nats_history.specs.Parts.{Parts, parts_of}
-use Rattle.nats_history.specs.After.{after, events_of}
+use Rattle.nats_history.specs.After.{after}
 use Rattle.nats_subs.specs.Delivery.{delivery, delivery_at}
 use Rattle.nats_history.specs.Transcripts.{Answer, nothing, called, asked, link_row, ended_links, reply_to, take_replies, call_replies, sub_row, sub_rows, shown}
-use Rattle.nats_session.specs.Sheet.{Sheet, empty_sheet, sheet_of, finished, AreGiven, Tells, new_row, write_put, write_drop, write_take, write_delivery, write_step, write_answer, write_events}
+use Rattle.nats_session.specs.Sheet.{Sheet, empty_sheet, sheet_of, finished, AreGiven, Tells, new_row, write_put, write_drop, write_take, write_delivery, write_answer}
 use Rattle.nats_session.specs.Machine.{sheet_noted}
 use Rattle.nats_session.specs.Handler.{idle}
 use Rattle.nats_history.proofs.Words.{taken_fits}

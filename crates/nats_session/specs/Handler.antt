@@ -4,11 +4,11 @@ use Rattle.std.specs.Option.{option_map}
 use Rattle.nats_names.specs.declared.event.Event.{Event}
 use Rattle.nats_names.specs.declared.state.State.{State}
 use Rattle.nats_names.specs.declared.state.State.TheVariants as states
-use Rattle.nats_names.specs.declared.event.Event.TheVariants.{SlowConsumer}
+use Rattle.nats_names.specs.declared.event.Event.TheVariants.{Closed, SlowConsumer}
 use Rattle.nats_wire.specs.declared.op.ClientOp.TheVariants as client
 use Rattle.nats_wire.specs.Commands.{command_text}
 use Rattle.nats_wire.specs.declared.message.Message.{Message}
-use Rattle.nats_wire.specs.Operations.{Operation, message, peeked_view, got, front}
+use Rattle.nats_wire.specs.Operations.{message, peeked_view, got, front}
 use Rattle.nats_wire.specs.Wire.{fresh}
 use Rattle.nats_history.specs.declared.config.Config.{Config}
 use Rattle.nats_history.specs.declared.call.Call.{Call}
@@ -23,12 +23,12 @@ use Rattle.nats_session.specs.declared.handler.due.Look.TheVariants as looks
 use Rattle.nats_subs.specs.declared.subs.subscription.Delivery.{Delivery}
 use Rattle.nats_subs.specs.declared.subs.subscription.Delivery.TheVariants.{Put, Dropped, Unwanted, Ignored}
 use Rattle.nats_history.specs.Queue.{first}
-use Rattle.nats_tables.specs.Numbers.{at_number, item_of}
-use Rattle.nats_history.specs.History.{Step, read, accepted, handled, link_end, History, second, kept, events}
-use Rattle.nats_history.specs.Parts.{Subs, Parts, parts_of}
-use Rattle.nats_history.specs.Schedule.{is_valid_turn, refusal, call_reply, accepted_step, call_steps, due, chain, due_chain, ends_link, put_steps}
+use Rattle.nats_tables.specs.Numbers.{at_number, item_of, change}
+use Rattle.nats_history.specs.History.{Step, read, handled, link_end, History, drained_by, second, kept, events}
+use Rattle.nats_history.specs.Parts.{Parts, parts_of}
+use Rattle.nats_history.specs.Schedule.{is_valid_turn, refusal, call_reply, accepted_step, call_steps, due, chain, ends_link, put_steps}
 use Rattle.nats_history.specs.After.{after, events_of}
-use Rattle.nats_subs.specs.Delivery.{delivery_at, deliver, with_rows, rows_with}
+use Rattle.nats_subs.specs.Delivery.{delivery_at, deliver, altered, with_rows, rows_with}
 use Rattle.nats_subs.specs.declared.subs.subscription.Alteration.TheVariants as alterations
 
 -- ---- a handler as it is seen
@@ -56,7 +56,8 @@ abbrev pub idle : Config → Parts
 idle c = record {
   config = c;
   is_closed = false;
-  link = record { number = 0; is_up = false; max_payload = 1048576; pings = 0; wire = fresh };
+  drain = record { is_accepted = false; is_handled = false };
+  link = record { number = 0; is_up = false; max_payload = 1048576; pings = []; wire = fresh };
   calls = [];
   subs = record { given = 0; subscribed = 0; rows = [] };
 }
@@ -71,6 +72,11 @@ seen_after seen step = record { parts = after seen.parts step; events = push_all
 abbrev pub seen_all : Seen → List Step → Seen
 seen_all seen [] = seen
 seen_all seen (step ∷ steps) = seen_all (seen_after seen step) steps
+
+-- the close has an event
+abbrev pub close_events : Bool → List Event
+close_events false = []
+close_events true = Closed ∷ []
 
 -- how a session stands
 abbrev pub state_of : Parts → State
@@ -130,6 +136,17 @@ after_message sid m Unwanted old = unwanted_seen sid old
 after_message sid m Dropped old = record old { events = old.events ++ SlowConsumer sid ∷ [] }
 after_message sid m Put old = delivered_seen sid m old
 after_message sid m Ignored old = delivered_seen sid m old
+
+-- what is seen after a PONG by which the link stays up, but for its bytes: its PING is answered, and the subscription that it
+-- drained ends
+abbrev pub pong_read : Seen → Seen
+pong_read old = record old {
+  parts = record old.parts {
+    link = record old.parts.link { pings = drop 1 old.parts.link.pings };
+    subs = with_rows (change (drained_by (first old.parts.link.pings)) (λ sub. kept (altered alterations.End sub)) old.parts.subs.rows)
+        old.parts.subs;
+  };
+}
 
 -- the word by which a link ends among the steps
 abbrev pub end_in : List Step → Option LinkWord

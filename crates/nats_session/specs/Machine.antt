@@ -1,5 +1,5 @@
 -- Turns over parts and a sheet alone: what playing leaves, with each event handed out as it comes.
-use Rattle.std.specs.Prelude.{◌≡◌, ℕ, suc, Bool, true, false, List, [], ◌∷◌, ◌++◌, Option, Some, None, if◌then◌else◌}
+use Rattle.std.specs.Prelude.{◌≡◌, ℕ, suc, List, [], ◌∷◌, ◌++◌, Option, Some, None, if◌then◌else◌}
 use Rattle.nats_wire.specs.declared.message.Message.{Message}
 use Rattle.nats_wire.specs.Operations.{Operation, message, peeked_view}
 use Rattle.nats_history.specs.declared.transcript.LinkWord.{LinkWord}

@@ -4,11 +4,13 @@ ghost use Rattle.nats_session.specs.Handler.{StandsFor, nothing_handed, idle};
 
 mod accessors;
 mod calls;
+mod drains;
 mod due;
+mod ends;
 
 pub use due::Look;
 use nats_history::{Call, Config, Event, NoMemory};
-use nats_subs::{Queue, Subscriptions};
+use nats_subs::{Pings, Queue, Subscriptions};
 use nats_wire::Connection;
 use std::alloc::Global;
 use std::marker::Model;
@@ -25,10 +27,12 @@ const TICK_LIMIT: u64 = 2;
 pub struct ConnectionHandler {
     config: Config,
     is_closed: bool,
+    drain_accepted: bool,
+    drain_handled: bool,
     link: u64,
     is_up: bool,
     max_payload: u64,
-    pings: u64,
+    pings: Pings,
     connection: Connection,
     calls: Queue<Call>,
     subs: Subscriptions,
@@ -44,6 +48,7 @@ impl Model for ConnectionHandler {
       parts = record {
         config = h.config;
         is_closed = h.is_closed;
+        drain = record { is_accepted = h.drain_accepted; is_handled = h.drain_handled };
         link = record { number = h.link; is_up = h.is_up; max_payload = h.max_payload; pings = h.pings; wire = h.connection };
         calls = h.calls;
         subs = h.subs;
@@ -61,10 +66,12 @@ impl ConnectionHandler {
         Ok(ConnectionHandler {
             config,
             is_closed: false,
+            drain_accepted: false,
+            drain_handled: false,
             link: 0,
             is_up: false,
             max_payload: DEFAULT_MAX_PAYLOAD,
-            pings: 0,
+            pings: Pings::new(alloc),
             connection: Connection::new(alloc),
             calls: Queue::new(alloc),
             subs: Subscriptions::new(alloc),

@@ -1,7 +1,6 @@
 -- What a message that comes makes of its subscription, by what becomes of it.
 use Rattle.std.proofs.Common.{◌≡◌, ℕ, suc, Bool, true, false, not, cond, ◌&&◌, ◌||◌, List, [], ◌∷◌, ◌++◌, Option, Some, None, refl, sym, ◌∙◌, ap}
 use Rattle.std.proofs.lemmas.Bool.{false≢true}
-use Rattle.nats_names.specs.declared.event.Event.{Event}
 use Rattle.nats_names.specs.declared.event.Event.TheVariants.{SlowConsumer}
 use Rattle.nats_wire.specs.declared.message.Message.{Message}
 use Rattle.nats_history.specs.declared.config.Config.{Config}
@@ -64,41 +63,41 @@ events_by sid Open true room = refl
 events_by sid Open false true = refl
 events_by sid Open false false = refl
 
-abbrev sub_as : Option Interest → Stage → Bool → Bool → Option ℕ → ℕ → List Message → Sub
-sub_as asked stage shut is_gone limit n waiting = record { interest = asked; stage = stage; is_shut = shut; is_gone = is_gone; limit = limit; puts = n; waiting = waiting }
+abbrev sub_as : Option Interest → Stage → Bool → Bool → Bool → Option ℕ → ℕ → List Message → Sub
+sub_as asked stage shut is_gone draining limit n waiting = record { interest = asked; stage = stage; is_shut = shut; is_gone = is_gone; is_draining = draining; limit = limit; puts = n; waiting = waiting }
 
 -- a message that does not end it
-came_with : (asked : Option Interest) (stage : Stage) (shut is_gone : Bool) (limit : Option ℕ) (n : ℕ) (waiting : List Message) (m : Message) (room reach : Bool) → (is_open stage && shut) ≡ false
-    → sub_as asked (end_if (shut || (room && reach)) stage) shut is_gone limit (cond ((is_open stage && not shut) && room) (cut (suc n)) n) (cond ((is_open stage && not shut) && room) (waiting ++ m ∷ []) waiting)
-    ≡ cond ((is_open stage && not shut) && room) (sub_as asked (end_if reach stage) shut is_gone limit (cut (suc n)) (waiting ++ m ∷ [])) (sub_as asked stage shut is_gone limit n waiting)
-came_with asked Asked true is_gone limit n waiting m room reach stays = refl
-came_with asked Asked false is_gone limit n waiting m true true stays = refl
-came_with asked Asked false is_gone limit n waiting m true false stays = refl
-came_with asked Asked false is_gone limit n waiting m false reach stays = refl
-came_with asked Ended true is_gone limit n waiting m room reach stays = refl
-came_with asked Ended false is_gone limit n waiting m true true stays = refl
-came_with asked Ended false is_gone limit n waiting m true false stays = refl
-came_with asked Ended false is_gone limit n waiting m false reach stays = refl
-came_with asked Open true is_gone limit n waiting m room reach stays = absurd (false≢true (sym stays))
-came_with asked Open false is_gone limit n waiting m true reach stays = refl
-came_with asked Open false is_gone limit n waiting m false reach stays = refl
+came_with : (asked : Option Interest) (stage : Stage) (shut is_gone draining : Bool) (limit : Option ℕ) (n : ℕ) (waiting : List Message) (m : Message) (room reach : Bool) → (is_open stage && shut) ≡ false
+    → sub_as asked (end_if (shut || (room && reach)) stage) shut is_gone draining limit (cond ((is_open stage && not shut) && room) (cut (suc n)) n) (cond ((is_open stage && not shut) && room) (waiting ++ m ∷ []) waiting)
+    ≡ cond ((is_open stage && not shut) && room) (sub_as asked (end_if reach stage) shut is_gone draining limit (cut (suc n)) (waiting ++ m ∷ [])) (sub_as asked stage shut is_gone draining limit n waiting)
+came_with asked Asked true is_gone draining limit n waiting m room reach stays = refl
+came_with asked Asked false is_gone draining limit n waiting m true true stays = refl
+came_with asked Asked false is_gone draining limit n waiting m true false stays = refl
+came_with asked Asked false is_gone draining limit n waiting m false reach stays = refl
+came_with asked Ended true is_gone draining limit n waiting m room reach stays = refl
+came_with asked Ended false is_gone draining limit n waiting m true true stays = refl
+came_with asked Ended false is_gone draining limit n waiting m true false stays = refl
+came_with asked Ended false is_gone draining limit n waiting m false reach stays = refl
+came_with asked Open true is_gone draining limit n waiting m room reach stays = absurd (false≢true (sym stays))
+came_with asked Open false is_gone draining limit n waiting m true reach stays = refl
+came_with asked Open false is_gone draining limit n waiting m false reach stays = refl
 
 came_delivered : (c : Config) (sid : ℕ) (m : Message) (sub : Sub) → is_closing sub ≡ false → changed_sub c (came sid m) sub ≡ deliver c m sub
 came_delivered c sid m sub stays =
-    came_with sub.interest sub.stage sub.is_shut sub.is_gone sub.limit sub.puts sub.waiting m (has_room c sub) (reached sub.limit (cut (suc sub.puts))) stays
+    came_with sub.interest sub.stage sub.is_shut sub.is_gone sub.is_draining sub.limit sub.puts sub.waiting m (has_room c sub) (reached sub.limit (cut (suc sub.puts))) stays
 
 -- a message that ends it
-ended_with : (asked : Option Interest) (stage : Stage) (shut is_gone : Bool) (limit : Option ℕ) (n : ℕ) (waiting : List Message) (m : Message) (room reach : Bool) → (is_open stage && shut) ≡ true
-    → sub_as asked (end_if (shut || (room && reach)) stage) shut is_gone limit (cond ((is_open stage && not shut) && room) (cut (suc n)) n) (cond ((is_open stage && not shut) && room) (waiting ++ m ∷ []) waiting)
-    ≡ sub_as asked (end_if true stage) shut is_gone limit n waiting
-ended_with asked Asked shut is_gone limit n waiting m room reach goes = absurd (false≢true goes)
-ended_with asked Ended shut is_gone limit n waiting m room reach goes = absurd (false≢true goes)
-ended_with asked Open false is_gone limit n waiting m room reach goes = absurd (false≢true goes)
-ended_with asked Open true is_gone limit n waiting m room reach goes = refl
+ended_with : (asked : Option Interest) (stage : Stage) (shut is_gone draining : Bool) (limit : Option ℕ) (n : ℕ) (waiting : List Message) (m : Message) (room reach : Bool) → (is_open stage && shut) ≡ true
+    → sub_as asked (end_if (shut || (room && reach)) stage) shut is_gone draining limit (cond ((is_open stage && not shut) && room) (cut (suc n)) n) (cond ((is_open stage && not shut) && room) (waiting ++ m ∷ []) waiting)
+    ≡ sub_as asked (end_if true stage) shut is_gone draining limit n waiting
+ended_with asked Asked shut is_gone draining limit n waiting m room reach goes = absurd (false≢true goes)
+ended_with asked Ended shut is_gone draining limit n waiting m room reach goes = absurd (false≢true goes)
+ended_with asked Open false is_gone draining limit n waiting m room reach goes = absurd (false≢true goes)
+ended_with asked Open true is_gone draining limit n waiting m room reach goes = refl
 
 came_ended : (c : Config) (sid : ℕ) (m : Message) (sub : Sub) → is_closing sub ≡ true → changed_sub c (came sid m) sub ≡ altered alterations.End sub
 came_ended c sid m sub goes =
-    ended_with sub.interest sub.stage sub.is_shut sub.is_gone sub.limit sub.puts sub.waiting m (has_room c sub) (reached sub.limit (cut (suc sub.puts))) goes
+    ended_with sub.interest sub.stage sub.is_shut sub.is_gone sub.is_draining sub.limit sub.puts sub.waiting m (has_room c sub) (reached sub.limit (cut (suc sub.puts))) goes
 
 -- ---- the subscription of a number
 

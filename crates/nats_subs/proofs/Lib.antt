@@ -1,3 +1,4 @@
 pub mod Counted
 pub mod Deliveries
 pub mod Ends
+pub mod Pinged

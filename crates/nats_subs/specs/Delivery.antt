@@ -1,5 +1,5 @@
 -- What becomes of a subscription: what is asked of it, and the messages that come for it.
-use Rattle.std.specs.Prelude.{◌≡◌, ℕ, suc, Bool, true, false, nat_lt, nat_le, List, [], ◌∷◌, ◌++◌, drop, map, Option, Some, None, if◌then◌else◌}
+use Rattle.std.specs.Prelude.{ℕ, suc, Bool, true, false, nat_lt, nat_le, List, [], ◌∷◌, ◌++◌, drop, map, Option, Some, None, if◌then◌else◌}
 use Rattle.nats_names.specs.declared.event.Event.{Event}
 use Rattle.nats_names.specs.declared.event.Event.TheVariants.{SlowConsumer}
 use Rattle.nats_wire.specs.declared.message.Message.{Message}
@@ -12,8 +12,10 @@ use Rattle.nats_subs.specs.declared.subs.subscription.Alteration.{Alteration}
 use Rattle.nats_subs.specs.declared.subs.subscription.Alteration.TheVariants as alterations
 use Rattle.nats_history.specs.Queue.{last}
 use Rattle.nats_tables.specs.Numbers.{named, at_number, change}
-use Rattle.nats_history.specs.History.{cut, Sub, is_open, has_room, puts, reached, open_if, end_if, kept, next_subscribed, again}
-use Rattle.nats_history.specs.Parts.{Subs, at_in}
+use Rattle.nats_subs.specs.declared.subs.subscription.Texts.{Texts}
+use Rattle.nats_subs.specs.declared.subs.subscription.Texts.TheVariants as texts
+use Rattle.nats_history.specs.History.{cut, Sub, is_open, has_room, puts, reached, open_if, end_if, kept, next_number, unsubscribed, again}
+use Rattle.nats_history.specs.Parts.{Subs}
 use Rattle.nats_history.specs.After.{new_sub}
 
 -- ---- one subscription
@@ -58,8 +60,10 @@ altered alterations.Open sub = record sub { stage = open_if true sub.stage }
 altered alterations.Shut sub = record sub { is_shut = true }
 altered alterations.End sub = record sub { stage = end_if true sub.stage }
 altered (alterations.Limit n) sub = record sub { stage = end_if (nat_le n sub.puts) sub.stage; limit = Some n }
+altered alterations.Drain sub = record sub { is_draining = true }
 altered alterations.LetGo sub = record sub { is_shut = true; is_gone = true; waiting = [] }
 altered alterations.Renew sub = record sub { stage = end_if sub.is_shut sub.stage }
+altered alterations.EndLink sub = record sub { stage = end_if sub.is_draining sub.stage }
 altered alterations.Close sub = record sub { stage = end_if true (open_if true sub.stage) }
 
 abbrev pub asking : Interest → Sub → Sub
@@ -80,10 +84,15 @@ abbrev pub youngest : Option Sub → Option Message
 youngest None = None
 youngest (Some sub) = youngest_of sub
 
--- the commands that subscribe the one of a number again, where there is one
-abbrev pub again_at : ℕ → Option Sub → List ClientOp
-again_at s None = []
-again_at s (Some sub) = again s sub
+-- the commands that are written of the subscription of a number
+abbrev pub commands_by : Texts → ℕ → Sub → List ClientOp
+commands_by texts.Again = again
+commands_by texts.Unsubscribe = unsubscribed
+
+-- the same where there is one
+abbrev pub commands_at : Texts → ℕ → Option Sub → List ClientOp
+commands_at which s None = []
+commands_at which s (Some sub) = commands_by which s sub
 
 -- ---- all subscriptions
 
@@ -110,5 +119,5 @@ given_one asked subs = record subs { given = suc subs.given; rows = at_number (s
 abbrev pub subscribed_one : Subs → Subs
 subscribed_one subs = record subs {
   subscribed = if nat_lt subs.subscribed subs.given then suc subs.subscribed else subs.subscribed;
-  rows = rows_named (next_subscribed (at_in subs)) alterations.Open subs.rows;
+  rows = rows_named (next_number subs.given subs.subscribed) alterations.Open subs.rows;
 }

@@ -12,8 +12,10 @@ pub still : (a : Alteration) → tidied is_over forgotten (altered a forgotten) 
 still alterations.Open = refl
 still alterations.Shut = refl
 still alterations.End = refl
+still alterations.Drain = refl
 still alterations.LetGo = refl
 still alterations.Renew = refl
+still alterations.EndLink = refl
 still alterations.Close = refl
 still (alterations.Limit n) = by_end (nat_le n 0)
   where

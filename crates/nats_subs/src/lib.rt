@@ -2,8 +2,10 @@
 //! in the order of what is kept. It has no clock, no lock and no handle. Subscriptions are numbered from 1.
 #![tactic(auto)]
 
+mod pings;
 mod queue;
 mod subs;
 
+pub use pings::Pings;
 pub use queue::Queue;
 pub use subs::{Alteration, Delivery, Subscriptions};

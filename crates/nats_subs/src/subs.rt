@@ -3,10 +3,9 @@ ghost use Rattle.std.specs.Prelude.{◌≡◌, [], ◌++◌, OnOk, OnErr, IfOk};
 ghost use Rattle.std.specs.Option.{option_copied};
 ghost use Rattle.nats_subs.specs.declared.subs.subscription.Alteration.TheVariants as alterations;
 ghost use Rattle.nats_tables.specs.Numbers.{at_number, item_of};
-ghost use Rattle.nats_history.specs.History.{next_subscribed, is_open_at, kept, all_again};
-ghost use Rattle.nats_history.specs.Parts.{at_in};
+ghost use Rattle.nats_history.specs.History.{next_number, is_open_at, kept, all_again, unsubscribed, commands_from};
 ghost use Rattle.nats_history.specs.Schedule.{take_reply_of, is_there};
-ghost use Rattle.nats_subs.specs.Delivery.{deliver, take_from, delivery_at, youngest, given_one, subscribed_one, with_rows, rows_with, rows_named, rows_each, again_at};
+ghost use Rattle.nats_subs.specs.Delivery.{deliver, take_from, delivery_at, youngest, given_one, subscribed_one, with_rows, rows_with, rows_named, rows_each, commands_by, commands_at};
 
 mod subscription;
 
@@ -16,7 +15,7 @@ use nats_wire::ClientOp;
 use std::alloc::Global;
 use std::marker::Model;
 pub use subscription::{Alteration, Delivery};
-use subscription::{Arrival, Subscription, Take};
+use subscription::{Arrival, Subscription, Take, Texts};
 
 /// The subscriptions by their numbers, from 1.
 #[derive(Drop)]
@@ -44,27 +43,32 @@ fn alter_rows(table: &mut Table<Subscription>, alteration: Alteration)
     }
 }
 
-fn push_again(
+fn push_texts(
     alloc: Global,
     table: &Table<Subscription>,
+    texts: Texts,
     sid: u64,
     ops: &mut Vec<ClientOp>,
 ) -> Result<(), NoMemory>
-    ensures { OnOk result (ops.new.items ≡ ops.old.items ++ again_at sid (item_of sid table.now)) }
+    ensures { OnOk result (ops.new.items ≡ ops.old.items ++ commands_at texts sid (item_of sid table.now)) }
 {
     match table.item(sid) {
-        Some(row) => row.push_again(alloc, sid, ops),
+        Some(row) => row.push_texts(alloc, texts, sid, ops),
         None => Ok(()),
     }
 }
 
-fn again_in(alloc: Global, table: &Table<Subscription>) -> Result<Vec<ClientOp>, NoMemory>
-    ensures { IfOk result (λ ops. ops.items ≡ all_again 1 table.now) }
+fn texts_in(
+    alloc: Global,
+    table: &Table<Subscription>,
+    texts: Texts,
+) -> Result<Vec<ClientOp>, NoMemory>
+    ensures { IfOk result (λ ops. ops.items ≡ commands_from (commands_by texts) 1 table.now) }
 {
     let mut ops = Vec::new(alloc);
     let mut last = 0;
     'rows: while let Some(sid) = table.next_after(last) {
-        push_again(alloc, table, sid, &mut ops)?;
+        push_texts(alloc, table, texts, sid, &mut ops)?;
         last = sid;
     }
     Ok(ops)
@@ -90,7 +94,7 @@ impl Subscriptions {
 
     /// The number that the next handled subscribe is of.
     pub fn next_subscribed(&self) -> Option<u64>
-        ensures { result ≡ next_subscribed (at_in self.now) }
+        ensures { result ≡ next_number self.now.given self.now.subscribed }
     {
         if self.subscribed < self.table.len() {
             return Some(self.subscribed + 1);
@@ -111,7 +115,14 @@ impl Subscriptions {
     pub fn again(&self, alloc: Global) -> Result<Vec<ClientOp>, NoMemory>
         ensures { IfOk result (λ ops. ops.items ≡ all_again 1 self.now.rows) }
     {
-        again_in(alloc, &self.table)
+        texts_in(alloc, &self.table, Texts::Again)
+    }
+
+    /// The commands that ask for no further messages of each one that is open, by number.
+    pub fn unsubscribes(&self, alloc: Global) -> Result<Vec<ClientOp>, NoMemory>
+        ensures { IfOk result (λ ops. ops.items ≡ commands_from unsubscribed 1 self.now.rows) }
+    {
+        texts_in(alloc, &self.table, Texts::Unsubscribe)
     }
 
     /// A subscribe is handled: the subscription of the next number that was given opens.

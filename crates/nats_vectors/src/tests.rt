@@ -107,7 +107,47 @@ up 5
 lost
 =up (connected)
 lost (disconnected)
-link 1 down most 5 pending 0 none";
+link 1 down most 5 pending 0 none\
+|config 2048 65536 check _INBOX MUX1
+up 1048576
+sub a ~
+drain 1
+piece MSG%20a%201%201%0D%0Ax%0D%0APONG%0D%0AMSG%20a%201%201%0D%0Ay%0D%0A
+take 1
+take 1
+=up (connected)
+numbered 1 handled
+accepted handled
+fed put 1 read read
+message x
+ended
+link 1 up most 1048576 pending 24 none SUB a 1\r\nUNSUB 1\r\nPING\r\n\
+|config 2048 65536 check _INBOX MUX1
+up 1048576
+drain 1
+sub a ~
+drain 1
+lost
+up 1048576
+take 1
+=up (connected)
+out of turn
+numbered 1 handled
+accepted handled
+lost (disconnected)
+up (connected)
+ended
+link 2 up most 1048576 pending 0 none\
+|config 2048 65536 check _INBOX MUX1
+up 1048576
+drainall
+pub a ~ x
+piece PONG%0D%0A
+=up (connected)
+accepted handled (draining)
+closed
+fed ended (closed)
+link 1 down closed most 1048576 pending 0 none";
 
 #[test]
 fn sessions_answer_as_their_rows_say(rt: HostRuntime) -> Result<(), Fail> {
@@ -137,6 +177,33 @@ put 3 FOO.BAR ~ Hello%20World ~ ~ 18 ~
 take 4 message FOO.BAR ~ Hello%20World ~ ~ 18 ~
 event 1 connected
 call 2 numbered 1
+|config 2048 65536 check _INBOX MUX1
+up 1048576
+drainall
+pub a ~ x
+lost
+=link 1 lost
+out %
+left PING%0D%0A
+event 1 connected
+event 2 draining
+event 4 disconnected
+event 4 closed
+call 2 accepted
+call 3 closed
+|config 2048 65536 check _INBOX MUX1
+up 1048576
+drainall
+pub a ~ x
+piece PONG%0D%0A
+=link 1 drained
+out %
+left PING%0D%0A
+event 1 connected
+event 2 draining
+event 4 closed
+call 2 accepted
+call 3 closed
 |config 2048 65536 check _INBOX MUX1
 up 1048576
 up 1048576

@@ -62,10 +62,9 @@ impl ConnectionHandler {
         ensures { result ≡ may_name self.now.parts (names call.now) }
     {
         match call {
-            Call::Publish(_) | Call::Subscribe { .. } | Call::Reconnect => true,
-            Call::Unsubscribe(sid) | Call::Limit(sid, _) | Call::DropSub(sid) => {
-                self.subs.has(*sid)
-            }
+            Call::Publish(_) | Call::Subscribe { .. } | Call::DrainAll | Call::Reconnect => true,
+            Call::Unsubscribe(sid) | Call::Limit(sid, _) | Call::Drain(sid) | Call::DropSub(sid) =>
+                self.subs.has(*sid),
         }
     }
 
@@ -84,7 +83,7 @@ impl ConnectionHandler {
         if size > limit {
             return Some(CallReply::MaxPayloadExceeded { limit, size });
         }
-        if self.is_closed {
+        if self.is_closed || self.drain_accepted {
             return Some(CallReply::Closed);
         }
         if subscribes(call) && self.subs.given() == u64::MAX {
@@ -151,7 +150,7 @@ impl ConnectionHandler {
     pub(crate) fn tick_word(&self) -> Option<LinkWord>
         ensures { result ≡ end_in (own_steps self.now.parts turns.Tick) }
     {
-        if self.pings >= TICK_LIMIT {
+        if self.pings.ticks() >= TICK_LIMIT {
             return Some(LinkWord::Ticks);
         }
         None

@@ -2,15 +2,16 @@
 ghost use Rattle.std.specs.Prelude.{◌≡◌, ◌<◌, [], ◌∷◌, ◌++◌, OnOk, OnErr, IfOk, IfErr, IsTrue, min, length, is_some};
 ghost use Rattle.nats_wire.specs.Commands.{one_piece};
 ghost use Rattle.nats_history.specs.declared.turn.Turn.TheVariants as turns;
-ghost use Rattle.nats_history.specs.declared.transcript.LinkWord.TheVariants as word;
-ghost use Rattle.nats_history.specs.History.{opened, fed, ticked, taken, took, link_end, closed, all_again};
-ghost use Rattle.nats_history.specs.After.{after, write_all};
+ghost use Rattle.nats_history.specs.History.{opened, fed, ticked, taken, took, all_again};
+ghost use Rattle.nats_history.specs.After.{write_all};
 ghost use Rattle.nats_history.specs.Schedule.{own_steps, due, due_chain, take_reply};
 ghost use Rattle.nats_session.specs.Handler.{LeadTo, TakesIn, Submits, Advances, can_play, seen_after, seen_all};
 
 use super::{ConnectionHandler, TICK_LIMIT};
-use nats_history::refusals::{interest_of, lets_go, shuts};
-use nats_history::{Bytes, Call, CallReply, Due, Event, NoMemory, ServerInfo, TakeReply};
+use nats_history::refusals::{interest_of, is_drained_with, lets_go, shuts};
+use nats_history::{
+    Bytes, Call, CallReply, Due, Event, LinkWord, NoMemory, Ping, ServerInfo, TakeReply,
+};
 use nats_subs::{Alteration, Subscriptions};
 use nats_wire::{ClientOp, Connection};
 use std::alloc::Global;
@@ -36,7 +37,7 @@ impl ConnectionHandler {
         self.link = self.link.saturating_add(1);
         self.is_up = true;
         self.max_payload = info.max_payload;
-        self.pings = 0;
+        self.pings.clear();
         self.connection = connection;
         self.subs.alter_each(Alteration::Renew);
         Ok(())
@@ -97,59 +98,12 @@ impl ConnectionHandler {
         self.let_go(n);
     }
 
-    /// Drops the link with its bytes.
-    pub(crate) fn drop_link(&mut self, alloc: Global)
-        ensures { self.new ≡ record self.old { parts = after self.old.parts (link_end word.Hangup) } }
-    {
-        self.is_up = false;
-        self.pings = 0;
-        self.connection = Connection::new(alloc);
-    }
-
-    /// Drops the calls that wait, and ends each subscription.
-    fn shut_down(&mut self)
-        ensures { self.new ≡ record self.old { parts = after self.old.parts closed } }
-    {
-        self.is_closed = true;
-        self.calls.clear();
-        self.subs.alter_each(Alteration::Close);
-    }
-
-    /// Ends the link, and the session goes on without one.
-    pub(crate) fn disconnect(&mut self, alloc: Global) -> Result<(), NoMemory>
-        ensures ok { OnOk result (self.new ≡ seen_after self.old (link_end word.Lost)) }
-        ensures err { OnErr result (self.new ≡ self.old) }
-    {
-        self.events.push(Event::Disconnected)?;
-        self.drop_link(alloc);
-        Ok(())
-    }
-
-    fn close(&mut self) -> Result<(), NoMemory>
-        ensures ok { OnOk result (self.new ≡ seen_after self.old closed) }
-        ensures err { OnErr result (self.new ≡ self.old) }
-    {
-        self.events.push(Event::Closed)?;
-        self.shut_down();
-        Ok(())
-    }
-
-    fn close_with_link(&mut self, alloc: Global) -> Result<(), NoMemory>
-        ensures ok { OnOk result (self.new ≡ seen_after (seen_after self.old (link_end word.Hangup)) closed) }
-        ensures err { OnErr result (self.new ≡ self.old) }
-    {
-        self.events.push(Event::Closed)?;
-        self.drop_link(alloc);
-        self.shut_down();
-        Ok(())
-    }
-
     fn end_all(&mut self, alloc: Global) -> Result<(), NoMemory>
         ensures ok { OnOk result (self.new ≡ seen_all self.old (own_steps self.old.parts turns.Hangup)) }
         ensures err { OnErr result (self.new ≡ self.old) }
     {
         if self.is_up {
-            self.close_with_link(alloc)
+            self.end_with(alloc, LinkWord::Hangup)
         } else {
             self.close()
         }
@@ -160,9 +114,15 @@ impl ConnectionHandler {
         ensures ok { OnOk result (self.new ≡ seen_after self.old ticked) }
         ensures err { OnErr result (self.new ≡ self.old) }
     {
-        self.connection.enqueue_write_op(alloc, &ClientOp::Ping)?;
-        self.pings = self.pings.saturating_add(1);
-        Ok(())
+        self.pings.push(Ping::Tick)?;
+        let write = self.connection.enqueue_write_op(alloc, &ClientOp::Ping);
+        match write {
+            Ok(()) => Ok(()),
+            Err(NoMemory) => {
+                self.pings.pop_back();
+                Err(NoMemory)
+            }
+        }
     }
 
     fn ping_or_end(&mut self, alloc: Global) -> Result<(), NoMemory>
@@ -170,8 +130,8 @@ impl ConnectionHandler {
         ensures ok { OnOk result (self.new ≡ seen_all self.old (own_steps self.old.parts turns.Tick)) }
         ensures err { OnErr result (self.new ≡ self.old) }
     {
-        if self.pings >= TICK_LIMIT {
-            self.disconnect(alloc)
+        if self.pings.ticks() >= TICK_LIMIT {
+            self.end_with(alloc, LinkWord::Ticks)
         } else {
             self.write_ping(alloc)
         }
@@ -204,7 +164,7 @@ impl ConnectionHandler {
         ensures stands { OnOk result (LeadTo self.old (own_steps self.old.parts turns.Lost) self.new) }
         ensures err { OnErr result (self.new ≡ self.old) }
     {
-        self.disconnect(alloc)
+        self.end_with(alloc, LinkWord::Lost)
     }
 
     /// No further link is tried: the session closes, so its calls are dropped and each subscription ends. Its condition is
@@ -248,10 +208,12 @@ impl ConnectionHandler {
             return Err(call);
         };
         let shut = shuts(&call);
+        let drained = is_drained_with(&call, self.drain_accepted);
         if let Err(refused) = self.calls.push(call) {
             return Err(refused.value);
         }
         let Some(interest) = interest else {
+            self.drain_accepted = drained;
             self.subs.alter_named(shut, Alteration::Shut);
             return Ok(CallReply::Accepted);
         };
@@ -280,7 +242,8 @@ impl ConnectionHandler {
     /// Takes in a call, or refuses it by the first of these that holds. `InvalidSubject`: a publish whose subject, or a reply
     /// that is there, is empty, or is not publishable and the settings don't skip that; a subscribe whose subject is not valid.
     /// `InvalidQueueName`: a group that is not publishable. `MaxPayloadExceeded`: the payload with its header block is larger
-    /// than the server of the newest link takes, 1,048,576 bytes before any. `NoNumber`: a subscribe, and number 2^64 - 1 was
+    /// than the server of the newest link takes, 1,048,576 bytes before any. `Closed`: the session closed, or a drain of the whole
+    /// session was accepted. `NoNumber`: a subscribe, and number 2^64 - 1 was
     /// given. `Full`: as many accepted calls wait as the client capacity. A refused call is dropped and changes nothing, but
     /// that a `DropSub` lets its subscription go whatever the reply. An accepted call is handled by `advance`, in the order of
     /// acceptance; an accepted `Unsubscribe` shuts its subscription at once. Its condition is `check` of that turn. The crate's

@@ -1,25 +1,29 @@
 //! Due steps.
-ghost use Rattle.std.specs.Prelude.{◌≡◌, ◌++◌, ◌≤◌, length, OnOk, OnErr, IfOk, IsTrue, true, is_some};
+ghost use Rattle.std.specs.Prelude.{◌≡◌, ◌++◌, ◌≤◌, length, drop, Some, OnOk, OnErr, IfOk, IsTrue, true, is_some};
 ghost use Rattle.nats_wire.specs.declared.op.ClientOp.TheVariants as client;
-ghost use Rattle.nats_wire.specs.Operations.{front, unfinished, got, peeked_view};
+ghost use Rattle.nats_wire.specs.Operations.{pong_op, front, unfinished, got, peeked_view};
 ghost use Rattle.nats_wire.specs.Commands.{command_text};
-ghost use Rattle.nats_history.specs.declared.transcript.LinkWord.TheVariants.{Fault};
 ghost use Rattle.nats_history.specs.declared.turn.Due.TheVariants as due_names;
 ghost use Rattle.nats_history.specs.Queue.{first};
 ghost use Rattle.nats_tables.specs.Numbers.{item_of};
-ghost use Rattle.nats_history.specs.History.{link_end, read, handled, unsubscribe_command, is_open_at, commands, info_events};
-ghost use Rattle.nats_history.specs.Parts.{at_in};
-ghost use Rattle.nats_history.specs.Schedule.{due, due_chain};
+ghost use Rattle.nats_history.specs.declared.transcript.LinkWord.TheVariants as word;
+ghost use Rattle.nats_history.specs.History.{link_end, read, handled, unsubscribe_command, is_open_at, commands, info_events, pings_after};
+ghost use Rattle.nats_history.specs.Parts.{at_with};
+ghost use Rattle.nats_history.specs.Schedule.{due, due_chain, chain, read_end, pong_end};
 ghost use Rattle.nats_history.specs.After.{written, subs_after};
 ghost use Rattle.nats_subs.specs.Delivery.{with_rows, rows_with};
-ghost use Rattle.nats_session.specs.Handler.{Advances, Sees, command_end, seen_handled, is_nothing, handled_first, seen_after, own_name, delivery_of, delivery_name, unwanted_seen, after_message, end_in, push_all};
+ghost use Rattle.nats_session.specs.Handler.{Advances, Sees, command_end, seen_handled, is_nothing, handled_first, seen_all, name_of, delivery_of, delivery_name, unwanted_seen, after_message, pong_read, end_in, push_all};
 
 use super::ConnectionHandler;
-use nats_history::refusals::ends_link;
-use nats_history::{
-    Call, Config, Due, Event, LinkWord, Message, NoMemory, OutboundMessage, Subject,
+use super::drains::{
+    drain, drain_all, forget_draining, note_draining, unsubscribe, write_unsubscribe,
 };
-use nats_subs::{Alteration, Delivery, Subscriptions};
+use super::ends::note_end;
+use nats_history::refusals::{drains_all, ends_link};
+use nats_history::{
+    Call, Config, Due, Event, LinkWord, Message, NoMemory, OutboundMessage, Ping, Subject,
+};
+use nats_subs::{Alteration, Delivery, Pings, Subscriptions};
 use nats_wire::{ClientOp, Connection, Peeked, PeekedOp, WireError, copy_headers, copy_subject};
 use std::alloc::Global;
 
@@ -86,61 +90,23 @@ fn write_subscribe(
     connection.enqueue_write_op(alloc, &op)
 }
 
-/// Asks the server for no further messages of a subscription that is open, or for so many in all.
-fn write_unsubscribe(
-    connection: &mut Connection,
-    alloc: Global,
-    is_open: bool,
-    sid: u64,
-    max: Option<u64>,
-) -> Result<(), NoMemory>
-    ensures ok { OnOk result (connection.new ≡ record connection.old {
-      waiting = written true (unsubscribe_command is_open sid max) connection.old.waiting;
-    }) }
-    ensures err { OnErr result (connection.new ≡ connection.old) }
-{
-    if !is_open {
-        return Ok(());
-    }
-    connection.enqueue_write_op(alloc, &ClientOp::Unsubscribe { sid, max })
-}
-
-/// Unsubscribes a subscription where it is open, and then something happens to it.
-fn unsubscribe(
-    connection: &mut Connection,
-    subs: &mut Subscriptions,
-    alloc: Global,
-    sid: u64,
-    max: Option<u64>,
-    alteration: Alteration,
-) -> Result<(), NoMemory>
-    ensures text { OnOk result (connection.new ≡ record connection.old {
-      waiting
-          = written true (unsubscribe_command (is_open_at (item_of sid subs.old.rows)) sid max) connection.old.waiting;
-    }) }
-    ensures subs { OnOk result (subs.new ≡ with_rows (rows_with sid alteration subs.old.rows) subs.old) }
-    ensures err { OnErr result ((connection.new ≡ connection.old) × (subs.new ≡ subs.old)) }
-{
-    let is_open = subs.is_open(sid);
-    write_unsubscribe(connection, alloc, is_open, sid, max)?;
-    subs.alter(sid, alteration);
-    Ok(())
-}
-
 /// Writes the commands of a call that is handled, and changes the subscription that it is about.
 fn handle_call(
     connection: &mut Connection,
     subs: &mut Subscriptions,
+    pings: &mut Pings,
     alloc: Global,
     _config: &Config,
     call: &Call,
 ) -> Result<(), NoMemory>
     ensures text { OnOk result (connection.new ≡ record connection.old {
-      waiting
-          = written true (commands _config.now (at_in subs.old) subs.old.rows (handled call.now)) connection.old.waiting;
+      waiting = written true (commands _config.now (at_with pings.old subs.old) subs.old.rows (handled call.now))
+          connection.old.waiting;
     }) }
-    ensures subs { OnOk result (subs.new ≡ subs_after _config.now (handled call.now) subs.old) }
-    ensures err { OnErr result ((connection.new ≡ connection.old) × (subs.new ≡ subs.old)) }
+    ensures subs { OnOk result (subs.new ≡ subs_after _config.now pings.old (handled call.now) subs.old) }
+    ensures pings { OnOk result (pings.new ≡ pings_after (handled call.now) pings.old) }
+    ensures err { OnErr result
+        ((connection.new ≡ connection.old) × (subs.new ≡ subs.old) × (pings.new ≡ pings.old)) }
 {
     match call {
         Call::Publish(message) => write_publish(connection, alloc, message),
@@ -158,6 +124,8 @@ fn handle_call(
         Call::Unsubscribe(sid) | Call::DropSub(sid) => {
             unsubscribe(connection, subs, alloc, *sid, None, Alteration::End)
         }
+        Call::Drain(sid) => drain(connection, subs, pings, alloc, *sid),
+        Call::DrainAll => drain_all(connection, subs, pings, alloc),
         Call::Reconnect => Ok(()),
         Call::Limit(sid, limit) => {
             let alteration = Alteration::Limit(*limit);
@@ -202,7 +170,32 @@ impl ConnectionHandler {
         match look {
             Look::Fault => Some(LinkWord::Fault),
             Look::Command => self.command_end(),
-            Look::Nothing | Look::Read(_) => None,
+            Look::Read(peeked) => self.read_end(&peeked.op),
+            Look::Nothing => None,
+        }
+    }
+
+    /// The word by which the link ends as an operation is read, if it does.
+    fn read_end(&self, op: &PeekedOp) -> Option<LinkWord>
+        ensures { result ≡ read_end self.now.parts.link.pings (peeked_view op.now) }
+    {
+        match op {
+            PeekedOp::Pong => self.pong_end(),
+            PeekedOp::Message { .. }
+            | PeekedOp::Ok
+            | PeekedOp::Info(_)
+            | PeekedOp::Ping
+            | PeekedOp::Error(_) => None,
+        }
+    }
+
+    /// The word by which the link ends as a PONG comes, if it does.
+    fn pong_end(&self) -> Option<LinkWord>
+        ensures { result ≡ pong_end (first self.now.parts.link.pings) }
+    {
+        match self.pings.front() {
+            Some(Ping::DrainAll) => Some(LinkWord::Drained),
+            Some(Ping::Tick | Ping::Drain(_)) | None => None,
         }
     }
 
@@ -226,18 +219,18 @@ impl ConnectionHandler {
         match look {
             Look::Nothing => Ok(Due::Nothing),
             Look::Read(peeked) => self.handle_server_op(alloc, peeked),
-            Look::Fault => self.end_link(alloc),
+            Look::Fault => self.end_faulty(alloc),
             Look::Command => self.handle_command(alloc),
         }
     }
 
     /// Ends the link by a fault.
-    fn end_link(&mut self, alloc: Global) -> Result<Due, NoMemory>
-        ensures ok { OnOk result (self.new ≡ seen_after self.old (link_end Fault)) }
+    fn end_faulty(&mut self, alloc: Global) -> Result<Due, NoMemory>
+        ensures ok { OnOk result (self.new ≡ seen_all self.old (chain self.old.parts (link_end word.Fault))) }
         ensures name { IfOk result (λ name. name ≡ due_names.Ended) }
         ensures err { OnErr result (self.new ≡ self.old) }
     {
-        self.disconnect(alloc)?;
+        self.end_with(alloc, LinkWord::Fault)?;
         Ok(Due::Ended)
     }
 
@@ -245,8 +238,9 @@ impl ConnectionHandler {
         requires fits { peeked.len ≤ length self.old.parts.link.wire.unread }
         requires up { IsTrue self.old.parts.link.is_up }
         requires front { front self.old.parts.link.wire.unread ≡ got (peeked_view peeked.op) peeked.len }
-        ensures ok { OnOk result (self.new ≡ seen_after self.old (read (peeked_view peeked.op))) }
-        ensures name { IfOk result (λ name. name ≡ own_name self.old.parts (read (peeked_view peeked.op))) }
+        ensures ok { OnOk result
+            (self.new ≡ seen_all self.old (chain self.old.parts (read (peeked_view peeked.op)))) }
+        ensures name { IfOk result (λ name. name ≡ name_of self.old.parts (read (peeked_view peeked.op))) }
         ensures err { OnErr result (self.new ≡ self.old) }
     {
         let Peeked { op, len } = peeked;
@@ -273,16 +267,52 @@ impl ConnectionHandler {
                 self.connection.consume(len);
                 Ok(Due::Read)
             }
-            PeekedOp::Pong => {
-                self.pings = self.pings.saturating_sub(1);
-                self.connection.consume(len);
-                Ok(Due::Read)
-            }
+            PeekedOp::Pong => self.read_pong(alloc, len),
             PeekedOp::Ok => {
                 self.connection.consume(len);
                 Ok(Due::Read)
             }
         }
+    }
+
+    /// A PONG answers the oldest PING of the link that none answered.
+    fn read_pong(&mut self, alloc: Global, len: usize) -> Result<Due, NoMemory>
+        requires fits { len ≤ length self.old.parts.link.wire.unread }
+        requires up { IsTrue self.old.parts.link.is_up }
+        requires front { front self.old.parts.link.wire.unread ≡ got pong_op len }
+        ensures ok { OnOk result (self.new ≡ seen_all self.old (chain self.old.parts (read pong_op))) }
+        ensures name { IfOk result (λ name. name ≡ name_of self.old.parts (read pong_op)) }
+        ensures err { OnErr result (self.new ≡ self.old) }
+    {
+        match self.pong_end() {
+            Some(end) => self.end_drained(alloc, end),
+            None => {
+                self.answer_ping();
+                self.connection.consume(len);
+                Ok(Due::Read)
+            }
+        }
+    }
+
+    /// The oldest PING is answered; where it is of a drain, its subscription ends.
+    fn answer_ping(&mut self)
+        ensures { self.new ≡ pong_read self.old }
+    {
+        if let Some(Ping::Drain(sid)) = self.pings.front() {
+            self.subs.alter(sid, Alteration::End);
+        }
+        self.pings.discard();
+    }
+
+    /// The session was drained: the link ends.
+    fn end_drained(&mut self, alloc: Global, end: LinkWord) -> Result<Due, NoMemory>
+        requires { pong_end (first self.old.parts.link.pings) ≡ Some end }
+        ensures ok { OnOk result (self.new ≡ seen_all self.old (chain self.old.parts (read pong_op))) }
+        ensures name { IfOk result (λ name. name ≡ name_of self.old.parts (read pong_op)) }
+        ensures err { OnErr result (self.new ≡ self.old) }
+    {
+        self.end_with(alloc, end)?;
+        Ok(Due::Ended)
     }
 
     fn note_info(&mut self, is_lame_duck: bool) -> Result<(), NoMemory>
@@ -351,7 +381,7 @@ impl ConnectionHandler {
         ensures err { OnErr result (self.new ≡ self.old) }
     {
         match self.command_end() {
-            Some(_) => self.handle_last(alloc),
+            Some(end) => self.handle_last(alloc, end),
             None => {
                 self.handle_next(alloc)?;
                 Ok(Due::Handled)
@@ -360,14 +390,15 @@ impl ConnectionHandler {
     }
 
     /// Handles a call by which the link ends.
-    fn handle_last(&mut self, alloc: Global) -> Result<Due, NoMemory>
-        requires { IsTrue (is_some (command_end (first self.old.parts.calls))) }
+    fn handle_last(&mut self, alloc: Global, end: LinkWord) -> Result<Due, NoMemory>
+        requires { command_end (first self.old.parts.calls) ≡ Some end }
         ensures ok { IfOk result (λ name. Advances (handled_first self.old.parts) self.old name self.new) }
         ensures err { OnErr result (self.new ≡ self.old) }
     {
-        self.events.push(Event::Disconnected)?;
+        let closes = self.closes(end);
+        note_end(&mut self.events, end, closes)?;
         self.calls.discard();
-        self.drop_link(alloc);
+        self.leave(alloc, closes);
         Ok(Due::Ended)
     }
 
@@ -379,14 +410,25 @@ impl ConnectionHandler {
         let Some(call) = self.calls.front() else {
             return Ok(());
         };
-        handle_call(
+        let is_whole = drains_all(call);
+        note_draining(&mut self.events, is_whole)?;
+        match handle_call(
             &mut self.connection,
             &mut self.subs,
+            &mut self.pings,
             alloc,
             &self.config,
             call,
-        )?;
-        self.calls.discard();
-        Ok(())
+        ) {
+            Ok(()) => {
+                self.drain_handled = is_whole || self.drain_handled;
+                self.calls.discard();
+                Ok(())
+            }
+            Err(NoMemory) => {
+                forget_draining(&mut self.events, is_whole);
+                Err(NoMemory)
+            }
+        }
     }
 }

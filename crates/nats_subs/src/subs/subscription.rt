@@ -2,10 +2,10 @@
 ghost use Rattle.std.specs.Prelude.{◌≡◌, ◌∷◌, [], ◌++◌, true, OnErr, IfOk, OnOk};
 ghost use Rattle.std.proofs.Common.{refl};
 ghost use Rattle.std.specs.Option.{option_copied};
-ghost use Rattle.nats_history.specs.History.{is_open, is_over, has_room, forgotten, open_if, end_if, reached, again, limit_commands};
+ghost use Rattle.nats_history.specs.History.{is_open, is_over, has_room, forgotten, open_if, end_if, reached, again, unsubscribed, limit_commands};
 ghost use Rattle.nats_wire.specs.declared.op.ClientOp.TheVariants as client;
 ghost use Rattle.nats_history.specs.Schedule.{sub_take};
-ghost use Rattle.nats_subs.specs.Delivery.{asked_sub, altered, deliver, take_from, delivery, youngest_of};
+ghost use Rattle.nats_subs.specs.Delivery.{asked_sub, altered, deliver, take_from, delivery, youngest_of, commands_by};
 ghost use Rattle.nats_subs.specs.Forgetting.{still};
 
 use crate::queue::Queue;
@@ -22,6 +22,7 @@ pub struct Subscription {
     stage: Stage,
     is_shut: bool,
     is_gone: bool,
+    is_draining: bool,
     limit: Option<u64>,
     puts: u64,
     waiting: Queue<Message>,
@@ -37,6 +38,7 @@ impl Model for Subscription {
       stage = s.stage;
       is_shut = s.is_shut;
       is_gone = s.is_gone;
+      is_draining = s.is_draining;
       limit = s.limit;
       puts = s.puts;
       waiting = s.waiting;
@@ -80,12 +82,25 @@ pub enum Alteration {
     End,
     /// It ends at so many puts.
     Limit(u64),
+    /// Its drain is handled.
+    Drain,
     /// Its user lets it go.
     LetGo,
     /// A new link came up.
     Renew,
+    /// The link ended.
+    EndLink,
     /// The session closes.
     Close,
+}
+
+/// Which commands are written of each subscription.
+#[derive(Clone, Copy)]
+pub enum Texts {
+    /// Those that subscribe it again on a new link.
+    Again,
+    /// That which asks for no further messages, where it is open.
+    Unsubscribe,
 }
 
 impl Change<Subscription> for Alteration {
@@ -222,6 +237,7 @@ impl Subscription {
             stage: Stage::Asked,
             is_shut: false,
             is_gone: false,
+            is_draining: false,
             limit: None,
             puts: 0,
             waiting: Queue::new(alloc),
@@ -239,12 +255,14 @@ impl Subscription {
                 self.limit = Some(limit);
                 self.stage = ended_if(limit <= self.puts, self.stage);
             }
+            Alteration::Drain => self.is_draining = true,
             Alteration::LetGo => {
                 self.is_shut = true;
                 self.is_gone = true;
                 self.waiting.clear();
             }
             Alteration::Renew => self.stage = ended_if(self.is_shut, self.stage),
+            Alteration::EndLink => self.stage = ended_if(self.is_draining, self.stage),
             Alteration::Close => self.stage = ended_if(true, opened(self.stage)),
         }
     }
@@ -297,13 +315,33 @@ impl Subscription {
         }
     }
 
-    /// Adds the commands that subscribe it again on a new link: where it is open and not shut, with what is left of its limit.
-    pub fn push_again(
+    /// Adds the commands that are written of it.
+    pub fn push_texts(
         &self,
         alloc: Global,
+        texts: Texts,
         sid: u64,
         ops: &mut Vec<ClientOp>,
     ) -> Result<(), NoMemory>
+        ensures { OnOk result (ops.new.items ≡ ops.old.items ++ commands_by texts sid self.now) }
+    {
+        match texts {
+            Texts::Again => self.push_again(alloc, sid, ops),
+            Texts::Unsubscribe => self.push_unsubscribe(sid, ops),
+        }
+    }
+
+    fn push_unsubscribe(&self, sid: u64, ops: &mut Vec<ClientOp>) -> Result<(), NoMemory>
+        ensures { OnOk result (ops.new.items ≡ ops.old.items ++ unsubscribed sid self.now) }
+    {
+        if self.is_open() {
+            ops.push(ClientOp::Unsubscribe { sid, max: None })?;
+        }
+        Ok(())
+    }
+
+    /// Adds the commands that subscribe it again on a new link: where it is open and not shut, with what is left of its limit.
+    fn push_again(&self, alloc: Global, sid: u64, ops: &mut Vec<ClientOp>) -> Result<(), NoMemory>
         ensures { OnOk result (ops.new.items ≡ ops.old.items ++ again sid self.now) }
     {
         if !self.is_open() || self.is_shut {

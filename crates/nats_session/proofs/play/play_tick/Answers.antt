@@ -1,6 +1,7 @@
 -- A PING was written, or the link ended.
 use Rattle.std.proofs.Common.{nat_le, ◌∙◌, ap}
 use Rattle.nats_history.specs.declared.turn.Turn.TheVariants as turns
+use Rattle.nats_history.specs.History.{ticks}
 use Rattle.nats_history.specs.Schedule.{tick_limit, own_steps}
 use Rattle.nats_session.specs.Machine.{write_end}
 use Rattle.nats_session.proofs.Handlers.{on_ok_both}
@@ -10,7 +11,7 @@ use Rattle.nats_session.proofs.play.play_tick.Goals as goal
 pub returns-clause-parts : goal.returns-clause-parts
 returns-clause-parts c =
     let old = c.args.handler.now in
-    let written = c.in_ok-note_end.ensures ∙ (ap (λ end. write_end end old.parts c.args.draft.now) c.tick_word-end.ensures ∙ tick_written c.args.place old.parts (nat_le tick_limit old.parts.link.pings) c.args.draft.now) in
+    let written = c.in_ok-note_end.ensures ∙ (ap (λ end. write_end end old.parts c.args.draft.now) c.tick_word-end.ensures ∙ tick_written c.args.place old.parts (nat_le tick_limit (ticks old.parts.link.pings)) c.args.draft.now) in
     on_ok_both c.note_events.result c.note_events.ensures.written c.note_events.ensures.handed_out (λ events handed.
     (played c.args.place (own_steps old.parts turns.Tick) old c.tick.new.self c.note_events.new.handler c.args.draft.now c.note_end.new.draft c.note_events.new.draft
     c.requires.none c.in_ok-tick.ensures.ok written events handed).0)
@@ -18,7 +19,7 @@ returns-clause-parts c =
 pub returns-clause-sheet : goal.returns-clause-sheet
 returns-clause-sheet c =
     let old = c.args.handler.now in
-    let written = c.in_ok-note_end.ensures ∙ (ap (λ end. write_end end old.parts c.args.draft.now) c.tick_word-end.ensures ∙ tick_written c.args.place old.parts (nat_le tick_limit old.parts.link.pings) c.args.draft.now) in
+    let written = c.in_ok-note_end.ensures ∙ (ap (λ end. write_end end old.parts c.args.draft.now) c.tick_word-end.ensures ∙ tick_written c.args.place old.parts (nat_le tick_limit (ticks old.parts.link.pings)) c.args.draft.now) in
     on_ok_both c.note_events.result c.note_events.ensures.written c.note_events.ensures.handed_out (λ events handed.
     (played c.args.place (own_steps old.parts turns.Tick) old c.tick.new.self c.note_events.new.handler c.args.draft.now c.note_end.new.draft c.note_events.new.draft
     c.requires.none c.in_ok-tick.ensures.ok written events handed).1)

@@ -6,4 +6,4 @@ use Rattle.nats_session.proofs.handler.ConnectionHandler.lost.Goals as goal
 
 pub returns-clause-stands : goal.returns-clause-stands
 returns-clause-stands c =
-    leads_all c.disconnect.result c.args.self.now c.disconnect.new.self (own_steps c.args.self.now.parts turns.Lost) c.disconnect.ensures.ok
+    leads_all c.end_with.result c.args.self.now c.end_with.new.self (own_steps c.args.self.now.parts turns.Lost) c.end_with.ensures.ok

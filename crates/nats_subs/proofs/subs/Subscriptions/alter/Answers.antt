@@ -1,5 +1,5 @@
 -- The row of the number was changed.
-use Rattle.std.proofs.Common.{◌≡◌, ◌∙◌, ap}
+use Rattle.std.proofs.Common.{◌∙◌, ap}
 use Rattle.nats_history.specs.History.{Sub, kept}
 use Rattle.nats_history.specs.Parts.{Subs}
 use Rattle.nats_subs.specs.Delivery.{altered, rows_with, with_rows}

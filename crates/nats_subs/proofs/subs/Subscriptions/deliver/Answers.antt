@@ -1,5 +1,5 @@
 -- The row of the number took the message in.
-use Rattle.std.proofs.Common.{◌≡◌, ◌∙◌, ap}
+use Rattle.std.proofs.Common.{◌∙◌, ap}
 use Rattle.std.proofs.lemmas.Result.{on_ok_weaker}
 use Rattle.nats_tables.specs.Numbers.{at_number}
 use Rattle.nats_history.specs.History.{Sub, kept}

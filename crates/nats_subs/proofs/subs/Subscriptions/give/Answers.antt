@@ -1,5 +1,5 @@
 -- One more row came.
-use Rattle.std.proofs.Common.{◌≡◌, ◌++◌, ◌∷◌, [], ◌∙◌, ap}
+use Rattle.std.proofs.Common.{◌++◌, ◌∷◌, [], ◌∙◌, ap}
 use Rattle.std.proofs.lemmas.Result.{on_ok_weaker}
 use Rattle.nats_subs.specs.Delivery.{given_one}
 use Rattle.nats_subs.proofs.Counted.{one_given}

@@ -1,5 +1,5 @@
 -- The next number that was given opens.
-use Rattle.std.proofs.Common.{◌≡◌, ◌<◌, ◌∙◌, ap, length, arith, add-one}
+use Rattle.std.proofs.Common.{◌<◌, ◌∙◌, ap, length, arith, add-one}
 use Rattle.std.proofs.lemmas.Bool.{lt-ltb}
 use Rattle.nats_subs.specs.declared.subs.subscription.Alteration.TheVariants as alterations
 use Rattle.nats_subs.specs.Delivery.{rows_with, subscribed_one}

@@ -1,0 +1,155 @@
+//! Subscriptions that are to end, one or all.
+ghost use Rattle.std.specs.Prelude.{◌≡◌, ◌++◌, ◌∷◌, [], OnOk, OnErr, IfOk, true, None};
+ghost use Rattle.nats_wire.specs.declared.op.ClientOp.TheVariants as client;
+ghost use Rattle.nats_wire.specs.Commands.{command_texts};
+ghost use Rattle.nats_tables.specs.Numbers.{item_of};
+ghost use Rattle.nats_history.specs.declared.ping.Ping.TheVariants as pinged;
+ghost use Rattle.nats_history.specs.History.{unsubscribe_command, unsubscribed, commands_from, is_open_at, drain_events};
+ghost use Rattle.nats_history.specs.After.{written};
+ghost use Rattle.nats_subs.specs.Delivery.{with_rows, rows_with};
+ghost use Rattle.nats_subs.specs.declared.subs.subscription.Alteration.TheVariants as alterations;
+ghost use Rattle.nats_session.specs.Handler.{push_all};
+
+use nats_history::{Event, NoMemory, Ping};
+use nats_subs::{Alteration, Pings, Queue, Subscriptions};
+use nats_wire::{ClientOp, Connection};
+use std::alloc::Global;
+
+/// Asks the server for no further messages of a subscription that is open, or for so many in all.
+pub fn write_unsubscribe(
+    connection: &mut Connection,
+    alloc: Global,
+    is_open: bool,
+    sid: u64,
+    max: Option<u64>,
+) -> Result<(), NoMemory>
+    ensures ok { OnOk result (connection.new ≡ record connection.old {
+      waiting = written true (unsubscribe_command is_open sid max) connection.old.waiting;
+    }) }
+    ensures err { OnErr result (connection.new ≡ connection.old) }
+{
+    if !is_open {
+        return Ok(());
+    }
+    connection.enqueue_write_op(alloc, &ClientOp::Unsubscribe { sid, max })
+}
+
+/// Unsubscribes a subscription where it is open, and then something happens to it.
+pub fn unsubscribe(
+    connection: &mut Connection,
+    subs: &mut Subscriptions,
+    alloc: Global,
+    sid: u64,
+    max: Option<u64>,
+    alteration: Alteration,
+) -> Result<(), NoMemory>
+    ensures text { OnOk result (connection.new ≡ record connection.old {
+      waiting
+          = written true (unsubscribe_command (is_open_at (item_of sid subs.old.rows)) sid max) connection.old.waiting;
+    }) }
+    ensures subs { OnOk result (subs.new ≡ with_rows (rows_with sid alteration subs.old.rows) subs.old) }
+    ensures err { OnErr result ((connection.new ≡ connection.old) × (subs.new ≡ subs.old)) }
+{
+    let is_open = subs.is_open(sid);
+    write_unsubscribe(connection, alloc, is_open, sid, max)?;
+    subs.alter(sid, alteration);
+    Ok(())
+}
+
+/// Writes some commands and then a PING, whose PONG will find it among those that wait.
+fn write_with_ping(
+    connection: &mut Connection,
+    pings: &mut Pings,
+    alloc: Global,
+    mut ops: Vec<ClientOp>,
+    ping: Ping,
+) -> Result<(), NoMemory>
+    ensures text { OnOk result (connection.new ≡ record connection.old {
+      waiting = written true (ops.items ++ client.Ping ∷ []) connection.old.waiting;
+    }) }
+    ensures pings { OnOk result (pings.new ≡ pings.old ++ ping ∷ []) }
+    ensures err { OnErr result ((connection.new ≡ connection.old) × (pings.new ≡ pings.old)) }
+{
+    ops.push(ClientOp::Ping)?;
+    pings.push(ping)?;
+    let write = connection.enqueue_write_ops(alloc, ops.as_slice());
+    match write {
+        Ok(()) => Ok(()),
+        Err(NoMemory) => {
+            pings.pop_back();
+            Err(NoMemory)
+        }
+    }
+}
+
+/// The command that asks for no further messages of a subscription, where it is open.
+fn unsubscribe_ops(alloc: Global, is_open: bool, sid: u64) -> Result<Vec<ClientOp>, NoMemory>
+    ensures { IfOk result (λ ops. ops.items ≡ unsubscribe_command is_open sid None) }
+{
+    let mut ops = Vec::new(alloc);
+    if is_open {
+        ops.push(ClientOp::Unsubscribe { sid, max: None })?;
+    }
+    Ok(ops)
+}
+
+/// Drains a subscription.
+pub fn drain(
+    connection: &mut Connection,
+    subs: &mut Subscriptions,
+    pings: &mut Pings,
+    alloc: Global,
+    sid: u64,
+) -> Result<(), NoMemory>
+    ensures text { OnOk result (connection.new ≡ record connection.old {
+      waiting
+          = written true (unsubscribe_command (is_open_at (item_of sid subs.old.rows)) sid None ++ client.Ping ∷ [])
+          connection.old.waiting;
+    }) }
+    ensures subs { OnOk result (subs.new ≡ with_rows (rows_with sid alterations.Drain subs.old.rows) subs.old) }
+    ensures pings { OnOk result (pings.new ≡ pings.old ++ pinged.Drain sid ∷ []) }
+    ensures err { OnErr result
+        ((connection.new ≡ connection.old) × (subs.new ≡ subs.old) × (pings.new ≡ pings.old)) }
+{
+    let ops = unsubscribe_ops(alloc, subs.is_open(sid), sid)?;
+    write_with_ping(connection, pings, alloc, ops, Ping::Drain(sid))?;
+    subs.alter(sid, Alteration::Drain);
+    Ok(())
+}
+
+/// Drains all subscriptions.
+pub fn drain_all(
+    connection: &mut Connection,
+    subs: &Subscriptions,
+    pings: &mut Pings,
+    alloc: Global,
+) -> Result<(), NoMemory>
+    ensures text { OnOk result (connection.new ≡ record connection.old {
+      waiting = written true (commands_from unsubscribed 1 subs.now.rows ++ client.Ping ∷ []) connection.old.waiting;
+    }) }
+    ensures pings { OnOk result (pings.new ≡ pings.old ++ pinged.DrainAll ∷ []) }
+    ensures err { OnErr result ((connection.new ≡ connection.old) × (pings.new ≡ pings.old)) }
+{
+    let ops = subs.unsubscribes(alloc)?;
+    write_with_ping(connection, pings, alloc, ops, Ping::DrainAll)
+}
+
+/// Puts down the event of a drain of the whole session, where one is handled.
+pub fn note_draining(events: &mut Queue<Event>, is_whole: bool) -> Result<(), NoMemory>
+    ensures ok { OnOk result (events.new ≡ push_all (drain_events is_whole) events.old) }
+    ensures err { OnErr result (events.new ≡ events.old) }
+{
+    if is_whole {
+        events.push(Event::Draining)?;
+    }
+    Ok(())
+}
+
+/// Takes it back.
+pub fn forget_draining(events: &mut Queue<Event>, is_whole: bool)
+    ensures { (before : _) → events.old ≡ push_all (drain_events is_whole) before → events.new ≡ before }
+{
+    if is_whole {
+        let _ = events.pop_back();
+    }
+}
