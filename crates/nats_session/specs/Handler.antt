@@ -24,7 +24,7 @@ use Rattle.nats_subs.specs.declared.subs.subscription.Delivery.{Delivery}
 use Rattle.nats_subs.specs.declared.subs.subscription.Delivery.TheVariants.{Put, Dropped, Unwanted, Ignored}
 use Rattle.nats_history.specs.Queue.{first}
 use Rattle.nats_tables.specs.Numbers.{at_number, item_of}
-use Rattle.nats_history.specs.History.{Step, read, accepted, handled, link_end, History, second, kept, events}
+use Rattle.nats_history.specs.History.{Step, cut, read, accepted, handled, link_end, History, second, kept, events}
 use Rattle.nats_history.specs.Parts.{Subs, Parts, parts_of}
 use Rattle.nats_history.specs.Schedule.{is_valid_turn, refusal, call_reply, accepted_step, call_steps, due, chain, due_chain, ends_link, put_steps}
 use Rattle.nats_history.specs.After.{after, events_of}
@@ -56,7 +56,7 @@ abbrev pub idle : Config → Parts
 idle c = record {
   config = c;
   is_closed = false;
-  link = record { number = 0; is_up = false; max_payload = 1048576; pings = 0; wire = fresh };
+  link = record { number = 0; is_up = false; max_payload = 1048576; info = None; reads = 0; pings = 0; wire = fresh };
   calls = [];
   subs = record { given = 0; subscribed = 0; rows = [] };
 }
@@ -80,6 +80,17 @@ state_of p = if p.link.is_up then states.Connected else (if p.link.number == 0 t
 abbrev pub all_events : Parts → List Step → List Event
 all_events p [] = []
 all_events p (step ∷ steps) = events_of p step ++ all_events (after p step) steps
+
+-- the first unread bytes are taken away, as one more operation was read
+abbrev pub read_past : ℕ → Seen → Seen
+read_past n seen = record seen {
+  parts = record seen.parts {
+    link = record seen.parts.link {
+      reads = cut (suc seen.parts.link.reads);
+      wire = record seen.parts.link.wire { unread = drop n seen.parts.link.wire.unread };
+    };
+  };
+}
 
 -- a turn may be played: it may come here and no step is due
 abbrev pub can_play : Parts → Turn → Bool

@@ -7,7 +7,7 @@ mod calls;
 mod due;
 
 pub use due::Look;
-use nats_history::{Call, Config, Event, NoMemory};
+use nats_history::{Call, Config, Event, NoMemory, ServerInfo};
 use nats_subs::{Queue, Subscriptions};
 use nats_wire::Connection;
 use std::alloc::Global;
@@ -28,6 +28,8 @@ pub struct ConnectionHandler {
     link: u64,
     is_up: bool,
     max_payload: u64,
+    info: Option<ServerInfo>,
+    reads: u64,
     pings: u64,
     connection: Connection,
     calls: Queue<Call>,
@@ -44,7 +46,15 @@ impl Model for ConnectionHandler {
       parts = record {
         config = h.config;
         is_closed = h.is_closed;
-        link = record { number = h.link; is_up = h.is_up; max_payload = h.max_payload; pings = h.pings; wire = h.connection };
+        link = record {
+          number = h.link;
+          is_up = h.is_up;
+          max_payload = h.max_payload;
+          info = h.info;
+          reads = h.reads;
+          pings = h.pings;
+          wire = h.connection;
+        };
         calls = h.calls;
         subs = h.subs;
       };
@@ -64,6 +74,8 @@ impl ConnectionHandler {
             link: 0,
             is_up: false,
             max_payload: DEFAULT_MAX_PAYLOAD,
+            info: None,
+            reads: 0,
             pings: 0,
             connection: Connection::new(alloc),
             calls: Queue::new(alloc),

@@ -12,7 +12,7 @@ ghost use Rattle.nats_history.specs.Parts.{at_in};
 ghost use Rattle.nats_history.specs.Schedule.{due, due_chain};
 ghost use Rattle.nats_history.specs.After.{written, subs_after};
 ghost use Rattle.nats_subs.specs.Delivery.{with_rows, rows_with};
-ghost use Rattle.nats_session.specs.Handler.{Advances, Sees, command_end, seen_handled, is_nothing, look_message, handled_first, seen_after, own_name, delivery_of, delivery_name, after_message, end_in, push_all};
+ghost use Rattle.nats_session.specs.Handler.{Advances, Sees, read_past, command_end, seen_handled, is_nothing, look_message, handled_first, seen_after, own_name, delivery_of, delivery_name, after_message, end_in, push_all};
 
 use super::ConnectionHandler;
 use crate::refusals::ends_link;
@@ -270,34 +270,44 @@ impl ConnectionHandler {
         match Box::into_inner(op) {
             ServerOp::Message { sid, message } => {
                 let name = self.read_message(alloc, sid, message)?;
-                self.connection.consume(len);
+                self.read_past(len);
                 Ok(name)
             }
             ServerOp::Ping => {
                 self.connection.enqueue_write_op(alloc, &ClientOp::Pong)?;
-                self.connection.consume(len);
+                self.read_past(len);
                 Ok(Due::Read)
             }
             ServerOp::Error(error) => {
                 self.events.push(Event::ServerError(error))?;
-                self.connection.consume(len);
+                self.read_past(len);
                 Ok(Due::Read)
             }
             ServerOp::Info(info) => {
                 self.note_info(info.lame_duck_mode)?;
-                self.connection.consume(len);
+                self.info = Some(Box::into_inner(info));
+                self.read_past(len);
                 Ok(Due::Read)
             }
             ServerOp::Pong => {
                 self.pings = self.pings.saturating_sub(1);
-                self.connection.consume(len);
+                self.read_past(len);
                 Ok(Due::Read)
             }
             ServerOp::Ok => {
-                self.connection.consume(len);
+                self.read_past(len);
                 Ok(Due::Read)
             }
         }
+    }
+
+    /// One more operation was read, which took so many bytes.
+    fn read_past(&mut self, len: usize)
+        requires { len ≤ length self.old.parts.link.wire.unread }
+        ensures { self.new ≡ read_past len self.old }
+    {
+        self.reads = self.reads.saturating_add(1);
+        self.connection.consume(len);
     }
 
     fn note_info(&mut self, is_lame_duck: bool) -> Result<(), NoMemory>
