@@ -9,7 +9,7 @@ use Rattle.nats_wire.specs.declared.op.ClientOp.TheVariants as client
 use Rattle.nats_wire.specs.Commands.{command_text}
 use Rattle.nats_wire.specs.declared.message.Message.{Message}
 use Rattle.nats_wire.specs.Operations.{Operation, message, op_view, got, front}
-use Rattle.nats_wire.specs.Wire.{fresh}
+use Rattle.nats_wire.specs.Wire.{Wire, fresh}
 use Rattle.nats_history.specs.declared.config.Config.{Config}
 use Rattle.nats_history.specs.declared.call.Call.{Call}
 use Rattle.nats_history.specs.declared.call.CallReply.{CallReply}
@@ -80,6 +80,10 @@ state_of p = if p.link.is_up then states.Connected else (if p.link.number == 0 t
 abbrev pub all_events : Parts → List Step → List Event
 all_events p [] = []
 all_events p (step ∷ steps) = events_of p step ++ all_events (after p step) steps
+
+-- the same with these buffers of the link
+abbrev pub with_buffers : Wire → Seen → Seen
+with_buffers wire seen = record seen { parts = record seen.parts { link = record seen.parts.link { wire = wire } } }
 
 -- the first unread bytes are taken away, as one more operation was read
 abbrev pub read_past : ℕ → Seen → Seen

@@ -28,7 +28,7 @@ pub struct ConnectionHandler {
     link: u64,
     is_up: bool,
     max_payload: u64,
-    info: Option<ServerInfo>,
+    info: Option<Box<ServerInfo>>,
     reads: u64,
     pings: u64,
     connection: Connection,
@@ -38,6 +38,7 @@ pub struct ConnectionHandler {
 }
 
 impl Model for ConnectionHandler {
+    ghost use Rattle.std.specs.Option.{option_map};
     ghost use Rattle.nats_session.specs.Handler.{Seen};
 
     ghost Value = { Seen };
@@ -50,7 +51,7 @@ impl Model for ConnectionHandler {
           number = h.link;
           is_up = h.is_up;
           max_payload = h.max_payload;
-          info = h.info;
+          info = option_map (λ info. info.value) h.info;
           reads = h.reads;
           pings = h.pings;
           wire = h.connection;

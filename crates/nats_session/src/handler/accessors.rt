@@ -134,7 +134,10 @@ impl ConnectionHandler {
     pub fn server_info(&self) -> Option<&ServerInfo>
         ensures { option_copied result ≡ self.now.parts.link.info }
     {
-        self.info.as_ref()
+        match &self.info {
+            Some(info) => Some(info),
+            None => None,
+        }
     }
 
     /// How many operations were read over all links; the count stops at 2^64 - 1. Own call.

@@ -7,7 +7,7 @@ ghost use Rattle.nats_history.specs.declared.transcript.LinkWord.TheVariants as 
 ghost use Rattle.nats_history.specs.History.{opened, fed, ticked, taken, took, link_end, closed, all_again};
 ghost use Rattle.nats_history.specs.After.{after, write_all};
 ghost use Rattle.nats_history.specs.Schedule.{own_steps, due, due_chain, take_reply};
-ghost use Rattle.nats_session.specs.Handler.{LeadTo, TakesIn, Submits, Advances, can_play, seen_after, seen_all};
+ghost use Rattle.nats_session.specs.Handler.{LeadTo, TakesIn, Submits, Advances, can_play, seen_after, seen_all, with_buffers};
 
 use super::{ConnectionHandler, TICK_LIMIT};
 use crate::refusals::{interest_of, lets_go, shuts};
@@ -41,9 +41,9 @@ impl ConnectionHandler {
     }
 
     /// The link is up, with these buffers.
-    fn use_link(&mut self, info: ServerInfo, connection: Connection)
-        requires { connection ≡ record { unread = []; waiting = write_all (all_again 1 self.old.parts.subs.rows) [] } }
-        ensures { self.new ≡ record self.old { parts = after self.old.parts (opened info) } }
+    fn use_link(&mut self, info: Box<ServerInfo>, connection: Connection)
+        ensures { self.new
+            ≡ with_buffers connection (record self.old { parts = after self.old.parts (opened info.value) }) }
     {
         self.link = self.link.saturating_add(1);
         self.is_up = true;
@@ -58,6 +58,7 @@ impl ConnectionHandler {
         ensures ok { OnOk result (self.new ≡ seen_after self.old (opened info)) }
         ensures err { OnErr result (self.new ≡ self.old) }
     {
+        let info = Box::new(alloc, info)?;
         let connection = self.new_link(alloc)?;
         self.use_link(info, connection);
         Ok(())

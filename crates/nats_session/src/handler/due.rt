@@ -285,7 +285,7 @@ impl ConnectionHandler {
             }
             ServerOp::Info(info) => {
                 self.note_info(info.lame_duck_mode)?;
-                self.info = Some(Box::into_inner(info));
+                self.info = Some(info);
                 self.read_past(len);
                 Ok(Due::Read)
             }

@@ -7,4 +7,4 @@ use Rattle.nats_session.proofs.handler.ConnectionHandler.handle_server_op.Goals 
 pub returns-in_ok-name-in-Message-clause-ok : goal.returns-in_ok-name-in-Message-clause-ok
 returns-in_ok-name-in-Message-clause-ok c =
     consumed_seen _ c.args.self.now c.read_past.new.self (op_view c.args.peeked.op.value) c.in-Message.sid c.args.peeked.len c.in-Message.message
-    (c.self.view_is ∙ c.in_ok-name-in-Message.ensures.ok) c.read_past.ensures (ap op_view (sym c.into_inner.ensures ∙ c.in-Message.is)) c.requires.up c.requires.front
+    c.in_ok-name-in-Message.ensures.ok c.read_past.ensures (ap op_view (sym c.into_inner.ensures ∙ c.in-Message.is)) c.requires.up c.requires.front
