@@ -29,7 +29,8 @@ impl fmt::Display for Left {
     }
 }
 
-fn bring_up(alloc: Global, session: &mut ConnectionHandler) -> Result<(), NoMemory> {
+/// A link comes up where none is, of a server that says nothing of itself.
+pub fn bring_up(alloc: Global, session: &mut ConnectionHandler) -> Result<(), NoMemory> {
     let turn = Turn::Up(ServerInfo::default(alloc));
     if session.check(&turn) {
         session.up(alloc, ServerInfo::default(alloc))?;
@@ -66,7 +67,7 @@ fn number_of(reply: &CallReply) -> Option<u64> {
 }
 
 /// Plays the step that is due: how many calls it handled.
-fn handle(alloc: Global, session: &mut ConnectionHandler) -> Result<u64, NoMemory> {
+pub fn handle(alloc: Global, session: &mut ConnectionHandler) -> Result<u64, NoMemory> {
     match session.advance(alloc)? {
         Due::Handled => Ok(1),
         Due::Nothing | Due::Read | Due::Put(_) | Due::Dropped(..) | Due::Ended => Ok(0),
@@ -74,13 +75,14 @@ fn handle(alloc: Global, session: &mut ConnectionHandler) -> Result<u64, NoMemor
 }
 
 /// The link takes all that waits.
-fn write(session: &mut ConnectionHandler) {
+pub fn write(session: &mut ConnectionHandler) {
     if session.check(&Turn::Write(u64::MAX)) {
         session.written(u64::MAX);
     }
 }
 
-fn make(alloc: Global, session: &mut ConnectionHandler) -> Result<Option<u64>, NoMemory> {
+/// Asks for a subscription: the number that it gets.
+pub fn make(alloc: Global, session: &mut ConnectionHandler) -> Result<Option<u64>, NoMemory> {
     let call = Call::Subscribe {
         subject: Subject::from_static("churn"),
         queue_group: None,
@@ -107,7 +109,7 @@ fn make_and_drop(
 }
 
 /// How many of the numbers up to `last` a turn may name.
-fn named(session: &ConnectionHandler, last: u64) -> u64 {
+pub fn named(session: &ConnectionHandler, last: u64) -> u64 {
     let mut count = 0u64;
     for s in 1..=last {
         if session.check(&Turn::Take(s)) {

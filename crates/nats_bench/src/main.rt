@@ -1,14 +1,17 @@
 //! Measures the session: a mixed list of turns is made in memory and played, and as many subscriptions are made and dropped
 //! again, one after another. `count N` prints what N turns showed and what N subscriptions left, `time N` how long they took.
+//! `links N` carries N subscriptions over N links and prints how long that took; `count N` does so with 20 at most.
 #![tactic(auto)]
 
 ghost use Rattle.std.specs.Prelude.{◌≤◌, IfSome};
 
+mod carry;
 mod churn;
 mod counts;
 mod mix;
 mod report;
 
+use crate::carry::{Carried, carry};
 use crate::churn::{Left, churn};
 use crate::counts::{Counts, counts_of};
 use crate::mix::mixed_turns;
@@ -24,6 +27,9 @@ use std::time::{Duration, Instant};
 /// The most turns of a list, and the most subscriptions.
 const TURN_LIMIT: usize = 10_000_000;
 
+/// The most subscriptions that `count` carries over links.
+const CARRIED: usize = 20;
+
 /// Nothing was measured.
 const FAILED: u8 = 1;
 /// The words are no command.
@@ -36,6 +42,8 @@ enum Command {
     Count(usize),
     /// How long they took.
     Time(usize),
+    /// How long it took to carry so many over as many links.
+    Links(usize),
 }
 
 fn number_of(word: &str) -> Option<usize>
@@ -53,6 +61,7 @@ fn command_of(words: &[String]) -> Option<Command> {
     match word.as_str() {
         "count" => Some(Command::Count(count)),
         "time" => Some(Command::Time(count)),
+        "links" => Some(Command::Links(count)),
         _ => None,
     }
 }
@@ -97,10 +106,24 @@ fn play_churn<R: Clock + AllocGlobal>(rt: &R, count: usize) -> Result<(Left, Dur
     Ok((left, start.elapsed(rt)?))
 }
 
+/// Carries `count` subscriptions over as many links: what they came to, and how long it took.
+fn play_links<R: Clock + AllocGlobal>(rt: &R, count: usize) -> Result<(Carried, Duration)> {
+    let config = settings(rt.alloc())?;
+    let start = Instant::now(rt)?;
+    let carried = carry(rt.alloc(), config, count)?;
+    Ok((carried, start.elapsed(rt)?))
+}
+
 fn counted<R: Clock + AllocGlobal>(rt: &R, count: usize) -> Result<Report> {
     let (counts, _) = play(rt, count)?;
     let (left, _) = play_churn(rt, count)?;
-    Ok(Report::Counted(counts, left))
+    let (carried, _) = play_links(rt, count.min(CARRIED))?;
+    Ok(Report::Counted(counts, left, carried))
+}
+
+fn linked<R: Clock + AllocGlobal>(rt: &R, count: usize) -> Result<Report> {
+    let (carried, elapsed) = play_links(rt, count)?;
+    Ok(Report::Linked(carried, elapsed))
 }
 
 fn timed<R: Clock + AllocGlobal>(rt: &R, count: usize) -> Result<Report> {
@@ -131,6 +154,7 @@ fn measure<R: Clock + Env + AllocGlobal>(rt: &R) -> Result<Option<Report>> {
     match asked(rt)? {
         Some(Command::Count(count)) => Ok(Some(counted(rt, count)?)),
         Some(Command::Time(count)) => Ok(Some(timed(rt, count)?)),
+        Some(Command::Links(count)) => Ok(Some(linked(rt, count)?)),
         None => Ok(None),
     }
 }
@@ -147,7 +171,7 @@ fn main(rt: HostRuntime) -> ExitCode {
         Ok(Some(report)) => print(&rt, &report),
         Ok(None) => {
             let _ = eprintln!(rt;
-                "usage: nats_bench count N, or time N; N is at most {TURN_LIMIT}"
+                "usage: nats_bench count N, time N or links N; N is at most {TURN_LIMIT}"
             );
             UNKNOWN
         }

@@ -2,6 +2,7 @@
 ghost use Rattle.std.specs.Prelude.{◌≡◌, ◌*◌, ◌/◌, max};
 ghost use Rattle.std.specs.Duration.{as_nanos};
 
+use crate::carry::Carried;
 use crate::churn::Left;
 use crate::counts::Counts;
 use std::fmt;
@@ -23,10 +24,13 @@ pub struct Times {
 /// What a command found.
 #[derive(Clone, Copy)]
 pub enum Report {
-    /// What a list of turns showed, and what subscriptions left that were made and dropped.
-    Counted(Counts, Left),
-    /// How long both took.
+    /// What a list of turns showed, what subscriptions left that were made and dropped, and what others came to that were
+    /// carried over links.
+    Counted(Counts, Left, Carried),
+    /// How long the first two took.
     Timed(Times),
+    /// What subscriptions came to that were carried over links, and how long that took.
+    Linked(Carried, Duration),
 }
 
 /// How many of `count` are a second's share; a time of nothing is taken as one nanosecond.
@@ -60,8 +64,12 @@ impl fmt::Display for Times {
 impl fmt::Display for Report {
     fn fmt<W: fmt::Write>(&self, f: &mut fmt::Formatter<W>) -> fmt::Result {
         match self {
-            Report::Counted(counts, left) => write!(f, "{counts}{left}"),
+            Report::Counted(counts, left, carried) => write!(f, "{counts}{left}{carried}"),
             Report::Timed(times) => write!(f, "{times}"),
+            Report::Linked(carried, elapsed) => {
+                let millis = elapsed.as_millis();
+                write!(f, "{carried}in {millis} ms\n")
+            }
         }
     }
 }

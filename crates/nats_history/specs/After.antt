@@ -8,7 +8,7 @@ use Rattle.nats_wire.specs.Commands.{command_text}
 use Rattle.nats_wire.specs.Wire.{Wire}
 use Rattle.nats_history.specs.declared.config.Config.{Config}
 use Rattle.nats_history.specs.declared.call.Call.{Call}
-use Rattle.nats_history.specs.History.{Step, opened, fed, read, taken, accepted, handled, took, gone, link_end, closed, links_after, up_after, closed_after, drain_after, max_payload_after, pings_after, cut, subscribes, At, given_after, subscribed_after, about, Sub, puts, interest_after, stage_after, shut_after, gone_after, draining_after, limit_after, kept, commands, new_events}
+use Rattle.nats_history.specs.History.{Step, opened, fed, read, taken, accepted, handled, took, gone, link_end, closed, links_after, up_after, closed_after, drain_after, max_payload_after, info_after, all_reads_after, pings_after, cut, subscribes, At, given_after, subscribed_after, about, Sub, puts, interest_after, stage_after, shut_after, gone_after, draining_after, limit_after, kept, commands, new_events}
 use Rattle.nats_history.specs.declared.stage.Stage.TheVariants.{Asked}
 use Rattle.nats_history.specs.declared.ping.Ping.{Ping}
 use Rattle.nats_tables.specs.Numbers.{change}
@@ -105,6 +105,8 @@ link_after commands step link = record {
   number = links_after step link.number;
   is_up = up_after step link.is_up;
   max_payload = max_payload_after step link.max_payload;
+  info = info_after step link.info;
+  reads = all_reads_after step link.reads;
   pings = pings_after step link.pings;
   wire = wire_after link.is_up commands step link.wire;
 }

@@ -104,6 +104,26 @@ abbrev pub max_payload : History → ℕ
 max_payload [] = 1048576
 max_payload ((place, step) ∷ h) = max_payload_after step (max_payload h)
 
+abbrev pub info_after : Step → Option ServerInfo → Option ServerInfo
+info_after (opened info) last = Some info
+info_after (read (info_op info)) last = Some info
+info_after step last = last
+
+-- what a server said of itself last, if one did
+abbrev pub last_info : History → Option ServerInfo
+last_info [] = None
+last_info ((place, step) ∷ h) = info_after step (last_info h)
+
+-- one more operation was read, on whichever link
+abbrev pub all_reads_after : Step → ℕ → ℕ
+all_reads_after (read operation) n = cut (suc n)
+all_reads_after step n = n
+
+-- how many operations were read over all links
+abbrev pub all_reads : History → ℕ
+all_reads [] = 0
+all_reads ((place, step) ∷ h) = all_reads_after step (all_reads h)
+
 -- the bytes that joined the newest link, as one text
 abbrev pub joined : History → List ℕ
 joined [] = []

@@ -1,10 +1,11 @@
 -- What a handler keeps: the parts of a session, which the words on histories determine.
-use Rattle.std.specs.Prelude.{ℕ, Bool, List}
+use Rattle.std.specs.Prelude.{ℕ, Bool, List, Option}
+use Rattle.nats_info.specs.declared.info.ServerInfo.{ServerInfo}
 use Rattle.nats_wire.specs.Wire.{Wire}
 use Rattle.nats_history.specs.declared.config.Config.{Config}
 use Rattle.nats_history.specs.declared.call.Call.{Call}
 use Rattle.nats_history.specs.declared.ping.Ping.{Ping}
-use Rattle.nats_history.specs.History.{History, links, is_up, is_closed, WholeDrain, max_payload, whole_drain, pings, unread, waiting_bytes, waiting_calls, At, at_of, Sub, rows_of}
+use Rattle.nats_history.specs.History.{History, links, is_up, is_closed, WholeDrain, max_payload, last_info, all_reads, whole_drain, pings, unread, waiting_bytes, waiting_calls, At, at_of, Sub, rows_of}
 
 -- the newest link
 pub record Link : Type 0 where
@@ -13,6 +14,10 @@ pub record Link : Type 0 where
   pub is_up : Bool
   -- the limit of a payload's size with its header block, in bytes
   pub max_payload : ℕ
+  -- what a server said of itself last
+  pub info : Option ServerInfo
+  -- how many operations were read over all links
+  pub reads : ℕ
   -- its PINGs that no PONG answered, oldest first
   pub pings : List Ping
   -- the unread and the waiting bytes while it is up
@@ -50,6 +55,8 @@ link_of c h = record {
   number = links h;
   is_up = is_up h;
   max_payload = max_payload h;
+  info = last_info h;
+  reads = all_reads h;
   pings = pings h;
   wire = record { unread = unread h; waiting = waiting_bytes c h };
 }

@@ -1,5 +1,5 @@
 -- What a message that is read makes of a handler, by what becomes of it.
-use Rattle.std.proofs.Common.{◌≡◌, ℕ, true, List, [], ◌∷◌, ◌++◌, drop, None, refl, sym, ◌∙◌, ap}
+use Rattle.std.proofs.Common.{◌≡◌, ℕ, suc, true, List, [], ◌∷◌, ◌++◌, drop, None, refl, sym, ◌∙◌, ap}
 use Rattle.nats_names.specs.declared.event.Event.{Event}
 use Rattle.nats_names.specs.declared.event.Event.TheVariants.{SlowConsumer}
 use Rattle.nats_wire.specs.declared.message.Message.{Message}
@@ -7,32 +7,29 @@ use Rattle.nats_wire.specs.Operations.{Operation, message, got, front, past}
 use Rattle.nats_wire.specs.Wire.{Wire}
 use Rattle.nats_history.specs.Parts.{Subs}
 use Rattle.nats_tables.specs.Numbers.{at_number, item_of}
-use Rattle.nats_history.specs.History.{came, read, Sub, kept, unsubscribe_command, is_closing_at, drop_events}
+use Rattle.nats_history.specs.History.{came, read, cut, Sub, kept, unsubscribe_command, is_closing_at, drop_events}
 use Rattle.nats_history.specs.Schedule.{chain}
 use Rattle.nats_history.specs.After.{sub_after, written}
 use Rattle.nats_subs.specs.declared.subs.subscription.Delivery.{Delivery}
 use Rattle.nats_subs.specs.declared.subs.subscription.Delivery.TheVariants.{Put, Dropped, Unwanted, Ignored}
 use Rattle.nats_subs.specs.Delivery.{delivery_at, is_unwanted, delivery_events, deliver, with_rows}
 use Rattle.nats_subs.proofs.Deliveries.{closing_at, events_at, rows_by, rows_came}
-use Rattle.nats_session.specs.Handler.{Seen, push_all, seen_after, seen_all, delivery_of, delivered_seen, after_message}
+use Rattle.nats_session.specs.Handler.{Seen, push_all, seen_after, seen_all, read_past, delivery_of, delivered_seen, after_message}
 
 -- ---- the handler
 
 abbrev seen_with : Seen → List ℕ → List ℕ → List Sub → List Event → Seen
 seen_with old unread waiting rows events = record {
-  parts = record old.parts { link = record old.parts.link { wire = record { unread = unread; waiting = waiting } }; subs = with_rows rows old.parts.subs };
+  parts = record old.parts {
+    link = record old.parts.link { reads = cut (suc old.parts.link.reads); wire = record { unread = unread; waiting = waiting } };
+    subs = with_rows rows old.parts.subs;
+  };
   events = events;
-}
-
--- the first bytes are taken away
-abbrev pub consumed : ℕ → Seen → Seen
-consumed n seen = record seen {
-  parts = record seen.parts { link = record seen.parts.link { wire = record seen.parts.link.wire { unread = drop n seen.parts.link.wire.unread } } };
 }
 
 seen_by : (old : Seen) (sid n : ℕ) (m : Message) (d : Delivery)
     → seen_with old (drop n old.parts.link.wire.unread) (written true (unsubscribe_command (is_unwanted d) sid None) old.parts.link.wire.waiting) (rows_by old.parts.config sid m d old.parts.subs.rows) (push_all (delivery_events sid d) old.events)
-    ≡ consumed n (after_message sid m d old)
+    ≡ read_past n (after_message sid m d old)
 seen_by old sid n m Unwanted = refl
 seen_by old sid n m Dropped = refl
 seen_by old sid n m Put = refl
@@ -40,7 +37,7 @@ seen_by old sid n m Ignored = refl
 
 -- a message that was brought to its subscription and whose bytes were taken away was read
 pub came_seen : (old : Seen) (sid n : ℕ) (m : Message) → old.parts.link.is_up ≡ true → front old.parts.link.wire.unread ≡ got (message sid m) n
-    → consumed n (after_message sid m (delivery_at old.parts.config (item_of sid old.parts.subs.rows)) old) ≡ seen_after old (came sid m)
+    → read_past n (after_message sid m (delivery_at old.parts.config (item_of sid old.parts.subs.rows)) old) ≡ seen_after old (came sid m)
 came_seen old sid n m up here =
     let c = old.parts.config in
     let rows = old.parts.subs.rows in
@@ -79,14 +76,10 @@ dropped_one seen old sid m events same is b =
     ap (λ es. record seen { events = es }) b
     ∙ (ap (after_message sid m Dropped) same ∙ sym (ap (λ e. after_message sid m e old) is))
 
-abbrev with_link : Seen → Wire → Seen
-with_link seen wire = record seen { parts = record seen.parts { link = record seen.parts.link { wire = wire } } }
-
 -- a message that was brought to its subscription, and whose bytes were then taken away
-pub consumed_seen : (inside old : Seen) (wire : Wire) (operation : Operation) (sid n : ℕ) (m : Message) → inside ≡ read_seen sid m old
-    → wire ≡ record inside.parts.link.wire { unread = drop n inside.parts.link.wire.unread } → operation ≡ message sid m
-    → old.parts.link.is_up ≡ true → front old.parts.link.wire.unread ≡ got operation n → with_link inside wire ≡ seen_all old (chain old.parts (read operation))
-consumed_seen inside old wire operation sid n m same taken is up here =
-    ap (with_link inside) taken
-    ∙ (ap (consumed n) same
+pub consumed_seen : (inside old new : Seen) (operation : Operation) (sid n : ℕ) (m : Message) → inside ≡ read_seen sid m old → new ≡ read_past n inside
+    → operation ≡ message sid m → old.parts.link.is_up ≡ true → front old.parts.link.wire.unread ≡ got operation n → new ≡ seen_all old (chain old.parts (read operation))
+consumed_seen inside old new operation sid n m same taken is up here =
+    taken
+    ∙ (ap (read_past n) same
     ∙ (came_seen old sid n m up (here ∙ ap (λ o. got o n) is) ∙ sym (ap (λ o. seen_all old (chain old.parts (read o))) is)))

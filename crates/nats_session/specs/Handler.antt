@@ -9,7 +9,7 @@ use Rattle.nats_wire.specs.declared.op.ClientOp.TheVariants as client
 use Rattle.nats_wire.specs.Commands.{command_text}
 use Rattle.nats_wire.specs.declared.message.Message.{Message}
 use Rattle.nats_wire.specs.Operations.{message, peeked_view, got, front}
-use Rattle.nats_wire.specs.Wire.{fresh}
+use Rattle.nats_wire.specs.Wire.{Wire, fresh}
 use Rattle.nats_history.specs.declared.config.Config.{Config}
 use Rattle.nats_history.specs.declared.call.Call.{Call}
 use Rattle.nats_history.specs.declared.call.CallReply.{CallReply}
@@ -24,8 +24,8 @@ use Rattle.nats_subs.specs.declared.subs.subscription.Delivery.{Delivery}
 use Rattle.nats_subs.specs.declared.subs.subscription.Delivery.TheVariants.{Put, Dropped, Unwanted, Ignored}
 use Rattle.nats_history.specs.Queue.{first}
 use Rattle.nats_tables.specs.Numbers.{at_number, item_of, change}
-use Rattle.nats_history.specs.History.{Step, read, handled, link_end, History, drained_by, second, kept, events}
-use Rattle.nats_history.specs.Parts.{Parts, parts_of}
+use Rattle.nats_history.specs.History.{Step, cut, read, handled, link_end, History, drained_by, second, kept, events}
+use Rattle.nats_history.specs.Parts.{Subs, Parts, parts_of}
 use Rattle.nats_history.specs.Schedule.{is_valid_turn, refusal, call_reply, accepted_step, call_steps, due, chain, ends_link, put_steps}
 use Rattle.nats_history.specs.After.{after, events_of}
 use Rattle.nats_subs.specs.Delivery.{delivery_at, deliver, altered, with_rows, rows_with}
@@ -57,7 +57,7 @@ idle c = record {
   config = c;
   is_closed = false;
   drain = record { is_accepted = false; is_handled = false };
-  link = record { number = 0; is_up = false; max_payload = 1048576; pings = []; wire = fresh };
+  link = record { number = 0; is_up = false; max_payload = 1048576; info = None; reads = 0; pings = []; wire = fresh };
   calls = [];
   subs = record { given = 0; subscribed = 0; rows = [] };
 }
@@ -86,6 +86,21 @@ state_of p = if p.link.is_up then states.Connected else (if p.link.number == 0 t
 abbrev pub all_events : Parts → List Step → List Event
 all_events p [] = []
 all_events p (step ∷ steps) = events_of p step ++ all_events (after p step) steps
+
+-- the same with these buffers of the link
+abbrev pub with_buffers : Wire → Seen → Seen
+with_buffers wire seen = record seen { parts = record seen.parts { link = record seen.parts.link { wire = wire } } }
+
+-- the first unread bytes are taken away, as one more operation was read
+abbrev pub read_past : ℕ → Seen → Seen
+read_past n seen = record seen {
+  parts = record seen.parts {
+    link = record seen.parts.link {
+      reads = cut (suc seen.parts.link.reads);
+      wire = record seen.parts.link.wire { unread = drop n seen.parts.link.wire.unread };
+    };
+  };
+}
 
 -- a turn may be played: it may come here and no step is due
 abbrev pub can_play : Parts → Turn → Bool

@@ -9,7 +9,7 @@ mod due;
 mod ends;
 
 pub use due::Look;
-use nats_history::{Call, Config, Event, NoMemory};
+use nats_history::{Call, Config, Event, NoMemory, ServerInfo};
 use nats_subs::{Pings, Queue, Subscriptions};
 use nats_wire::Connection;
 use std::alloc::Global;
@@ -32,6 +32,8 @@ pub struct ConnectionHandler {
     link: u64,
     is_up: bool,
     max_payload: u64,
+    info: Option<Box<ServerInfo>>,
+    reads: u64,
     pings: Pings,
     connection: Connection,
     calls: Queue<Call>,
@@ -40,6 +42,7 @@ pub struct ConnectionHandler {
 }
 
 impl Model for ConnectionHandler {
+    ghost use Rattle.std.specs.Option.{option_map};
     ghost use Rattle.nats_session.specs.Handler.{Seen};
 
     ghost Value = { Seen };
@@ -49,7 +52,15 @@ impl Model for ConnectionHandler {
         config = h.config;
         is_closed = h.is_closed;
         drain = record { is_accepted = h.drain_accepted; is_handled = h.drain_handled };
-        link = record { number = h.link; is_up = h.is_up; max_payload = h.max_payload; pings = h.pings; wire = h.connection };
+        link = record {
+          number = h.link;
+          is_up = h.is_up;
+          max_payload = h.max_payload;
+          info = option_map (λ info. info.value) h.info;
+          reads = h.reads;
+          pings = h.pings;
+          wire = h.connection;
+        };
         calls = h.calls;
         subs = h.subs;
       };
@@ -71,6 +82,8 @@ impl ConnectionHandler {
             link: 0,
             is_up: false,
             max_payload: DEFAULT_MAX_PAYLOAD,
+            info: None,
+            reads: 0,
             pings: Pings::new(alloc),
             connection: Connection::new(alloc),
             calls: Queue::new(alloc),

@@ -219,10 +219,19 @@ fn say_state(out: &mut Vec<u8>, handler: &ConnectionHandler) -> Result<(), NoMem
     say_if(out, !handler.has_room(), " full")
 }
 
+fn say_info(out: &mut Vec<u8>, info: Option<&ServerInfo>) -> Result<(), NoMemory> {
+    match info {
+        Some(info) => say_number(out, " said", info.max_payload),
+        None => say(out, " unsaid"),
+    }
+}
+
 fn say_link(out: &mut Vec<u8>, handler: &ConnectionHandler) -> Result<(), NoMemory> {
     say_number(out, "link", handler.link())?;
     say_state(out, handler)?;
     say_number(out, " most", handler.max_payload())?;
+    say_info(out, handler.server_info())?;
+    say_number(out, " reads", handler.reads())?;
     say_number(out, " pending", handler.pending())
 }
 
@@ -275,7 +284,8 @@ fn drive(
 
 /// What a session answers to copies of the turns of a script, a line for each: the answer to the turn's own call, the due steps that
 /// `advance` then plays, and the events; `out of turn` where `check` refuses the turn, which is then not played. A last line
-/// says what the session tells of itself: its link, how much waits, the youngest message of subscription 1, the waiting bytes.
+/// says what the session tells of itself: its link, the payload's limit that a server said last, how much was read and how much
+/// waits, the youngest message of subscription 1, the waiting bytes.
 /// Where a line cannot be read, its number alone.
 pub fn answers(alloc: Global, script: &str) -> Result<Vec<u8>, NoMemory> {
     let mut out = Vec::new(alloc);

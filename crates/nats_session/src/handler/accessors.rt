@@ -11,7 +11,7 @@ ghost use Rattle.nats_session.specs.Handler.{can_play, HandsOut, end_in, state_o
 
 use super::{ConnectionHandler, TICK_LIMIT};
 use nats_history::refusals::{has_group, has_subjects, size_of, subscribes};
-use nats_history::{Call, CallReply, Event, LinkWord, Message, Turn};
+use nats_history::{Call, CallReply, Event, LinkWord, Message, ServerInfo, Turn};
 use nats_names::State;
 
 impl ConnectionHandler {
@@ -127,6 +127,23 @@ impl ConnectionHandler {
         ensures { result ≡ self.now.parts.link.max_payload }
     {
         self.max_payload
+    }
+
+    /// What a server said of itself last, as a link came up or since; `None` before any link.
+    pub fn server_info(&self) -> Option<&ServerInfo>
+        ensures { option_copied result ≡ self.now.parts.link.info }
+    {
+        match &self.info {
+            Some(info) => Some(info),
+            None => None,
+        }
+    }
+
+    /// How many operations were read over all links; the count stops at 2^64 - 1. Own call.
+    pub fn reads(&self) -> u64
+        ensures { result ≡ self.now.parts.link.reads }
+    {
+        self.reads
     }
 
     /// Whether the session closed.

@@ -1,11 +1,12 @@
 //! The calls that play a session, turn by turn and step by step.
 ghost use Rattle.std.specs.Prelude.{◌≡◌, ◌<◌, [], ◌∷◌, ◌++◌, OnOk, OnErr, IfOk, IfErr, IsTrue, min, length, is_some};
+ghost use Rattle.nats_names.specs.declared.event.Event.TheVariants.{Connected};
 ghost use Rattle.nats_wire.specs.Commands.{one_piece};
 ghost use Rattle.nats_history.specs.declared.turn.Turn.TheVariants as turns;
 ghost use Rattle.nats_history.specs.History.{opened, fed, ticked, taken, took, all_again};
 ghost use Rattle.nats_history.specs.After.{write_all};
 ghost use Rattle.nats_history.specs.Schedule.{own_steps, due, due_chain, take_reply};
-ghost use Rattle.nats_session.specs.Handler.{LeadTo, TakesIn, Submits, Advances, can_play, seen_after, seen_all};
+ghost use Rattle.nats_session.specs.Handler.{LeadTo, TakesIn, Submits, Advances, can_play, seen_after, seen_all, with_buffers};
 
 use super::{ConnectionHandler, TICK_LIMIT};
 use nats_history::refusals::{interest_of, is_drained_with, lets_go, shuts};
@@ -28,18 +29,39 @@ fn subscribed_again(alloc: Global, subs: &Subscriptions) -> Result<Connection, N
 }
 
 impl ConnectionHandler {
-    fn open_link(&mut self, alloc: Global, info: &ServerInfo) -> Result<(), NoMemory>
-        ensures ok { OnOk result (self.new ≡ seen_after self.old (opened info.now)) }
+    /// What wants memory as a link comes up: its buffers, and its event.
+    fn new_link(&mut self, alloc: Global) -> Result<Connection, NoMemory>
+        ensures buffers { IfOk result
+            (λ connection. connection ≡ record { unread = []; waiting = write_all (all_again 1 self.old.parts.subs.rows) [] }) }
+        ensures ok { OnOk result (self.new ≡ record self.old { events = self.old.events ++ Connected ∷ [] }) }
         ensures err { OnErr result (self.new ≡ self.old) }
     {
         let connection = subscribed_again(alloc, &self.subs)?;
         self.events.push(Event::Connected)?;
+        Ok(connection)
+    }
+
+    /// The link is up, with these buffers.
+    fn use_link(&mut self, info: Box<ServerInfo>, connection: Connection)
+        ensures { self.new
+            ≡ with_buffers connection (record self.old { parts = after self.old.parts (opened info.value) }) }
+    {
         self.link = self.link.saturating_add(1);
         self.is_up = true;
         self.max_payload = info.max_payload;
+        self.info = Some(info);
         self.pings.clear();
         self.connection = connection;
         self.subs.alter_each(Alteration::Renew);
+    }
+
+    fn open_link(&mut self, alloc: Global, info: ServerInfo) -> Result<(), NoMemory>
+        ensures ok { OnOk result (self.new ≡ seen_after self.old (opened info)) }
+        ensures err { OnErr result (self.new ≡ self.old) }
+    {
+        let info = Box::new(alloc, info)?;
+        let connection = self.new_link(alloc)?;
+        self.use_link(info, connection);
         Ok(())
     }
 
@@ -56,7 +78,7 @@ impl ConnectionHandler {
         ensures stands { OnOk result (LeadTo self.old (own_steps self.old.parts (turns.Up info)) self.new) }
         ensures err { OnErr result (self.new ≡ self.old) }
     {
-        self.open_link(alloc, &info)
+        self.open_link(alloc, info)
     }
 
     fn feed(&mut self, alloc: Global, bytes: &[u8]) -> Result<(), NoMemory>

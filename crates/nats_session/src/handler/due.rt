@@ -12,7 +12,7 @@ ghost use Rattle.nats_history.specs.Parts.{at_with};
 ghost use Rattle.nats_history.specs.Schedule.{due, due_chain, chain, read_end, pong_end};
 ghost use Rattle.nats_history.specs.After.{written, subs_after};
 ghost use Rattle.nats_subs.specs.Delivery.{with_rows, rows_with};
-ghost use Rattle.nats_session.specs.Handler.{Advances, Sees, command_end, seen_handled, is_nothing, handled_first, seen_all, name_of, delivery_of, delivery_name, unwanted_seen, after_message, pong_read, end_in, push_all};
+ghost use Rattle.nats_session.specs.Handler.{Advances, Sees, read_past, command_end, seen_handled, is_nothing, handled_first, seen_all, name_of, delivery_of, delivery_name, unwanted_seen, after_message, pong_read, end_in, push_all};
 
 use super::ConnectionHandler;
 use super::drains::{
@@ -248,28 +248,29 @@ impl ConnectionHandler {
             PeekedOp::Message { sid, message } => {
                 let name = self.read_message(alloc, sid, message);
                 if name.is_ok() {
-                    self.connection.consume(len);
+                    self.read_past(len);
                 }
                 name
             }
             PeekedOp::Ping => {
                 self.connection.enqueue_write_op(alloc, &ClientOp::Pong)?;
-                self.connection.consume(len);
+                self.read_past(len);
                 Ok(Due::Read)
             }
             PeekedOp::Error(error) => {
                 self.events.push(Event::ServerError(error))?;
-                self.connection.consume(len);
+                self.read_past(len);
                 Ok(Due::Read)
             }
             PeekedOp::Info(info) => {
                 self.note_info(info.lame_duck_mode)?;
-                self.connection.consume(len);
+                self.info = Some(info);
+                self.read_past(len);
                 Ok(Due::Read)
             }
             PeekedOp::Pong => self.read_pong(alloc, len),
             PeekedOp::Ok => {
-                self.connection.consume(len);
+                self.read_past(len);
                 Ok(Due::Read)
             }
         }
@@ -288,7 +289,7 @@ impl ConnectionHandler {
             Some(end) => self.end_drained(alloc, end),
             None => {
                 self.answer_ping();
-                self.connection.consume(len);
+                self.read_past(len);
                 Ok(Due::Read)
             }
         }
@@ -312,7 +313,17 @@ impl ConnectionHandler {
         ensures err { OnErr result (self.new ≡ self.old) }
     {
         self.end_with(alloc, end)?;
+        self.reads = self.reads.saturating_add(1);
         Ok(Due::Ended)
+    }
+
+    /// One more operation was read, which took so many bytes.
+    fn read_past(&mut self, len: usize)
+        requires { len ≤ length self.old.parts.link.wire.unread }
+        ensures { self.new ≡ read_past len self.old }
+    {
+        self.reads = self.reads.saturating_add(1);
+        self.connection.consume(len);
     }
 
     fn note_info(&mut self, is_lame_duck: bool) -> Result<(), NoMemory>
