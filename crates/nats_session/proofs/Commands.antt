@@ -1,6 +1,6 @@
 -- What the oldest waiting call makes of a handler, and the link that it may end.
 use Rattle.std.specs.Option.{option_map}
-use Rattle.std.proofs.Common.{◌≡◌, ℕ, Bool, true, false, List, [], ◌∷◌, ◌++◌, drop, Option, Some, None, is_some, refl, sym, ◌∙◌, ap}
+use Rattle.std.proofs.Common.{◌≡◌, ℕ, suc, Bool, true, false, List, [], ◌∷◌, ◌++◌, drop, Option, Some, None, is_some, refl, sym, ◌∙◌, ap}
 use Rattle.std.proofs.lemmas.Bool.{false≢true}
 use Rattle.std.proofs.lemmas.Option.{none-some, same_Some}
 use Rattle.nats_names.specs.declared.event.Event.{Event}
@@ -17,14 +17,13 @@ use Rattle.nats_history.specs.declared.transcript.LinkWord.{LinkWord}
 use Rattle.nats_history.specs.declared.transcript.LinkWord.TheVariants as word
 use Rattle.nats_history.specs.Queue.{first}
 use Rattle.nats_tables.specs.Numbers.{nobody, change}
-use Rattle.nats_history.specs.History.{read, handled, link_end, drained_by, Sub, texts, end_events}
+use Rattle.nats_history.specs.History.{read, handled, link_end, drained_by, cut, Sub, texts, end_events}
 use Rattle.nats_history.specs.Parts.{Parts}
 use Rattle.nats_history.specs.Schedule.{closes, closing, ending, ends_link, pong_end, read_end, chain, due, due_chain}
 use Rattle.nats_history.specs.After.{sub_after, after_all, write_all, written}
 use Rattle.nats_history.proofs.Words.{written_all}
 use Rattle.nats_subs.specs.Delivery.{with_rows}
-use Rattle.nats_session.specs.Handler.{Seen, push_all, seen_after, seen_all, close_events, Advances, command_end, seen_handled, handled_first, name_of, ended_or, end_in, pong_read}
-use Rattle.nats_session.proofs.Messages.{consumed}
+use Rattle.nats_session.specs.Handler.{Seen, push_all, seen_after, seen_all, close_events, Advances, command_end, seen_handled, handled_first, name_of, ended_or, end_in, counted, read_past, pong_read}
 
 end_in_ending : (drained : Bool) (end : Option LinkWord) → end_in (ending drained end) ≡ end
 end_in_ending drained None = refl
@@ -100,21 +99,21 @@ last_by seen old new end b calls events same ends closing_is a es is = by_first 
 -- ---- a PONG
 
 abbrev with_unread : Seen → List ℕ → Seen
-with_unread seen unread = record seen { parts = record seen.parts { link = record seen.parts.link { wire = record seen.parts.link.wire { unread = unread } } } }
+with_unread seen unread = record seen {
+  parts = record seen.parts { link = record seen.parts.link { reads = cut (suc seen.parts.link.reads); wire = record seen.parts.link.wire { unread = unread } } };
+}
 
 -- by which the link goes on
 pub answered : (old : Seen) (n : ℕ) → front old.parts.link.wire.unread ≡ got pong_op n → pong_end (first old.parts.link.pings) ≡ None
-    → consumed n (pong_read old) ≡ seen_all old (chain old.parts (read pong_op))
+    → read_past n (pong_read old) ≡ seen_all old (chain old.parts (read pong_op))
 answered old n here none =
     sym (ap (λ end. seen_all (seen_after old (read pong_op)) (ending old.parts.drain.is_handled end)) none ∙ ap (with_unread (pong_read old)) (ap (λ f. past f old.parts.link.wire.unread) here))
 
--- the same by what the fields of the handler became
-pub answered_by : (seen old : Seen) (wire : Wire) (n : ℕ) → seen ≡ pong_read old → wire ≡ record seen.parts.link.wire { unread = drop n seen.parts.link.wire.unread }
+-- the same in two steps
+pub answered_by : (seen old new : Seen) (n : ℕ) → seen ≡ pong_read old → new ≡ read_past n seen
     → front old.parts.link.wire.unread ≡ got pong_op n → pong_end (first old.parts.link.pings) ≡ None
-    → record seen { parts = record seen.parts { link = record seen.parts.link { wire = wire } } } ≡ seen_all old (chain old.parts (read pong_op))
-answered_by seen old wire n same is here none =
-    ap (λ w. record seen { parts = record seen.parts { link = record seen.parts.link { wire = w } } }) is
-    ∙ (ap (consumed n) same ∙ answered old n here none)
+    → new ≡ seen_all old (chain old.parts (read pong_op))
+answered_by seen old new n same is here none = is ∙ (ap (read_past n) same ∙ answered old n here none)
 
 drains_none : (ping : Option Ping) (end : LinkWord) → pong_end ping ≡ Some end → drained_by ping ≡ nobody
 drains_none None end e = absurd (none-some end e)
@@ -122,14 +121,19 @@ drains_none (Some pinged.Tick) end e = absurd (none-some end e)
 drains_none (Some (pinged.Drain s)) end e = absurd (none-some end e)
 drains_none (Some pinged.DrainAll) end e = refl
 
+counted_before : (old : Seen) (end : LinkWord) (b : Bool) → counted (seen_all old (link_end end ∷ closing b)) ≡ seen_all (counted old) (link_end end ∷ closing b)
+counted_before old end true = refl
+counted_before old end false = refl
+
 -- by which it ends
-pub drained : (old new : Seen) (end : LinkWord) → pong_end (first old.parts.link.pings) ≡ Some end → new ≡ seen_all old (chain old.parts (link_end end))
-    → new ≡ seen_all old (chain old.parts (read pong_op))
-drained old new end ends is =
+pub drained : (old mid new : Seen) (end : LinkWord) → pong_end (first old.parts.link.pings) ≡ Some end → mid ≡ seen_all old (chain old.parts (link_end end))
+    → new ≡ counted mid → new ≡ seen_all old (chain old.parts (read pong_op))
+drained old mid new end ends is counts =
     let drain = old.parts.drain.is_handled in
     let rows = old.parts.subs.rows in
-    let leaving = λ (rs : List Sub). seen_all (record old { parts = record old.parts { subs = with_rows rs old.parts.subs } }) (link_end end ∷ closing (closes drain end)) in
-    is
+    let leaving = λ (rs : List Sub). seen_all (counted (record old { parts = record old.parts { subs = with_rows rs old.parts.subs } })) (link_end end ∷ closing (closes drain end)) in
+    counts
+    ∙ (ap counted is ∙ counted_before old end (closes drain end))
     ∙ sym (ap (λ e. seen_all (seen_after old (read pong_op)) (ending drain e)) ends
     ∙ ap leaving (ap (λ a. change a (sub_after old.parts.config (read pong_op)) rows) (drains_none (first old.parts.link.pings) end ends)))
 

@@ -91,6 +91,10 @@ all_events p (step ∷ steps) = events_of p step ++ all_events (after p step) st
 abbrev pub with_buffers : Wire → Seen → Seen
 with_buffers wire seen = record seen { parts = record seen.parts { link = record seen.parts.link { wire = wire } } }
 
+-- one more operation was read
+abbrev pub counted : Seen → Seen
+counted seen = record seen { parts = record seen.parts { link = record seen.parts.link { reads = cut (suc seen.parts.link.reads) } } }
+
 -- the first unread bytes are taken away, as one more operation was read
 abbrev pub read_past : ℕ → Seen → Seen
 read_past n seen = record seen {

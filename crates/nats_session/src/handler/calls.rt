@@ -4,7 +4,7 @@ ghost use Rattle.nats_names.specs.declared.event.Event.TheVariants.{Connected};
 ghost use Rattle.nats_wire.specs.Commands.{one_piece};
 ghost use Rattle.nats_history.specs.declared.turn.Turn.TheVariants as turns;
 ghost use Rattle.nats_history.specs.History.{opened, fed, ticked, taken, took, all_again};
-ghost use Rattle.nats_history.specs.After.{write_all};
+ghost use Rattle.nats_history.specs.After.{after, write_all};
 ghost use Rattle.nats_history.specs.Schedule.{own_steps, due, due_chain, take_reply};
 ghost use Rattle.nats_session.specs.Handler.{LeadTo, TakesIn, Submits, Advances, can_play, seen_after, seen_all, with_buffers};
 

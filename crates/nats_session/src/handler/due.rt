@@ -12,7 +12,7 @@ ghost use Rattle.nats_history.specs.Parts.{at_with};
 ghost use Rattle.nats_history.specs.Schedule.{due, due_chain, chain, read_end, pong_end};
 ghost use Rattle.nats_history.specs.After.{written, subs_after};
 ghost use Rattle.nats_subs.specs.Delivery.{with_rows, rows_with};
-ghost use Rattle.nats_session.specs.Handler.{Advances, Sees, read_past, command_end, seen_handled, is_nothing, handled_first, seen_all, name_of, delivery_of, delivery_name, unwanted_seen, after_message, pong_read, end_in, push_all};
+ghost use Rattle.nats_session.specs.Handler.{Advances, Sees, counted, read_past, command_end, seen_handled, is_nothing, handled_first, seen_all, name_of, delivery_of, delivery_name, unwanted_seen, after_message, pong_read, end_in, push_all};
 
 use super::ConnectionHandler;
 use super::drains::{
@@ -313,8 +313,14 @@ impl ConnectionHandler {
         ensures err { OnErr result (self.new ≡ self.old) }
     {
         self.end_with(alloc, end)?;
-        self.reads = self.reads.saturating_add(1);
+        self.count_read();
         Ok(Due::Ended)
+    }
+
+    fn count_read(&mut self)
+        ensures { self.new ≡ counted self.old }
+    {
+        self.reads = self.reads.saturating_add(1);
     }
 
     /// One more operation was read, which took so many bytes.
@@ -322,7 +328,7 @@ impl ConnectionHandler {
         requires { len ≤ length self.old.parts.link.wire.unread }
         ensures { self.new ≡ read_past len self.old }
     {
-        self.reads = self.reads.saturating_add(1);
+        self.count_read();
         self.connection.consume(len);
     }
 

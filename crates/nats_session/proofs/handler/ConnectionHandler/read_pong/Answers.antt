@@ -8,7 +8,7 @@ end_drained-requires c = sym c.pong_end.ensures ∙ c.in-Some.is
 
 pub returns-in-None-clause-ok : goal.returns-in-None-clause-ok
 returns-in-None-clause-ok c =
-    answered_by _ c.args.self.now c.consume.new.self c.args.len (c.self.view_is ∙ c.answer_ping.ensures) c.consume.ensures c.requires.front
+    answered_by _ c.args.self.now c.read_past.new.self c.args.len c.answer_ping.ensures c.read_past.ensures c.requires.front
     (sym c.pong_end.ensures ∙ c.in-None.is)
 
 pub returns-in-None-clause-name : goal.returns-in-None-clause-name
