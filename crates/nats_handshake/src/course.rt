@@ -151,7 +151,7 @@ fn ended(verdict: Verdict, taken: usize, left: usize, out: Vec<u8>) -> Course
 }
 
 // What the text behind `taken` bytes comes to, of a course that begins there.
-fn begun(taken: usize, more: Course) -> Course
+pub(crate) fn begun(taken: usize, more: Course) -> Course
     requires { taken + more.taken < 2 ^ 64 }
     ensures { result ≡ record more { taken = taken + more.taken } }
 {
@@ -169,7 +169,7 @@ fn with_pong(out: Vec<u8>) -> Result<Vec<u8>, NoMemory>
     Ok(out)
 }
 
-fn behind(text: &[u8], len: usize) -> &[u8]
+pub(crate) fn behind(text: &[u8], len: usize) -> &[u8]
     requires { len ≤ length text.now }
     ensures { result.now ≡ drop len text.now }
 {
