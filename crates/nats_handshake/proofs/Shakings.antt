@@ -1,5 +1,5 @@
 -- What a handshake makes of want of memory.
-use Rattle.std.proofs.Common.{◌≡◌, refl, ◌∙◌, sym, ap, ◌⊎◌, inl, inr, ℕ, ◌+◌, Bool, false, List, ◌++◌, drop, take, length, Option, Result, Ok, Err}
+use Rattle.std.proofs.Common.{◌≡◌, refl, ◌∙◌, sym, ap, subst, ◌⊎◌, inl, inr, ℕ, ◌+◌, Bool, false, List, ◌++◌, drop, take, length, Option, Result, Ok, Err}
 use Rattle.std.proofs.lemmas.List.{drop-drop}
 use Rattle.nats_names.specs.declared.addr_error.AddrError.{AddrError}
 use Rattle.nats_pool.specs.Auths.{AuthValue}
@@ -18,7 +18,7 @@ use Rattle.nats_info.specs.declared.info.ServerInfo.{ServerInfo}
 use Rattle.nats_handshake.specs.declared.error.ConnectErrorKind.{ConnectErrorKind}
 use Rattle.nats_handshake.specs.declared.error.ConnectErrorKind.TheVariants as kind
 use Rattle.nats_handshake.specs.Credentials.{RefusedAs}
-use Rattle.nats_handshake.specs.Shaking.{Talk, wanting, wants_tls, operations_most, opening, staged, DiscoverFails, Takes, Declines, Welcomes, Opens, Goes, Follows, StopsOrWants, Took, WentOn, first_course, Repelled, Hears, Heeds, Settles, FedOpen, FedAt, left_by, with_bytes}
+use Rattle.nats_handshake.specs.Shaking.{Talk, wanting, wants_tls, operations_most, opening, staged, advanced, DiscoverFails, Takes, Declines, Welcomes, Opens, Goes, Follows, StopsOrWants, Took, WentOn, first_course, Repelled, Hears, Heeds, Settles, FedOpen, FedAt, left_by, with_bytes}
 
 -- behind an INFO the code's course is followed
 pub entered : (info : ServerInfo) (n : ℕ) (t mid new : Talk) (c : code.Course) (k : Course) (s : Shake)
@@ -98,10 +98,26 @@ module _ (Discovers : List (List ℕ) → Result (Unit {0}) AddrError → Type 0
         → Hears Discovers Stays Offers by_option name no_echo said t res new
     hears_entered said info n auth t new out (Ok s) e takes o f = rw e (auth, takes, rw o at f)
     hears_entered said info n auth t new out (Err r) e takes o f =
-        let f' = rw o at f in rw e (repelled_entered info n auth t r takes f'.0, f'.1)
+        rw e (repelled_entered info n auth t r takes f.0, f.1)
 
     -- one that knows the INFO goes on
     pub heeds_on : (info : ServerInfo) (left : ℕ) (t new : Talk) (res : Result Shake Failure) → t.stage ≡ stage.Asks info left
-        → Stays → WentOn left t res new → Heeds Discovers Stays Offers by_option name no_echo t.stage t res new
-    heeds_on info left t new (Ok s) e stays went = let w = rw e at went in rw e (stays, w)
-    heeds_on info left t new (Err r) e stays went = rw e (stays, went)
+        → Stays → WentOn left t res new → Heeds Discovers Stays Offers by_option name no_echo (stage.Asks info left) t res new
+    heeds_on info left t new (Ok s) e stays went =
+        let c = course left t.unread in
+        (stays, (went.0, went.1 ∙ ap (λ (at : Stage). record t { stage = advanced at c.left s; unread = c.rest; out = t.out ++ c.out }) e))
+    heeds_on info left t new (Err r) e stays went = (stays, went)
+
+    -- the same at an equal stage
+    pub heeds_at : (at same : Stage) (t new : Talk) (res : Result Shake Failure) → at ≡ same
+        → Heeds Discovers Stays Offers by_option name no_echo at t res new
+        → Heeds Discovers Stays Offers by_option name no_echo same t res new
+    heeds_at at same t new res e h =
+        subst (λ (s : Stage). Heeds Discovers Stays Offers by_option name no_echo s t res new) e h
+
+    -- the same at what is equal
+    pub hears_at : (said at : Greeting) (t new : Talk) (res : Result Shake Failure) → said ≡ at
+        → Hears Discovers Stays Offers by_option name no_echo said t res new
+        → Hears Discovers Stays Offers by_option name no_echo at t res new
+    hears_at said at t new res e h =
+        subst (λ (g : Greeting). Hears Discovers Stays Offers by_option name no_echo g t res new) e h

@@ -4,7 +4,7 @@ ghost use Rattle.nats_pool.specs.Auths.{auth_value};
 ghost use Rattle.nats_handshake.specs.Pooled.{PoolTakes};
 ghost use Rattle.nats_names.specs.declared.cause.Cause.TheVariants as cause;
 ghost use Rattle.nats_handshake.specs.declared.error.ConnectErrorKind.TheVariants as kind;
-ghost use Rattle.nats_handshake.specs.Course.{greeting_at, course, behind_out};
+ghost use Rattle.nats_handshake.specs.Course.{greeting_at, greeted_within, course, behind_out};
 ghost use Rattle.nats_handshake.specs.Credentials.{SignerAnswers, AuthAnswers, Offers};
 ghost use Rattle.nats_handshake.specs.Shaking.{IsNew, Discovered, Opens, Welcomes, opening, Shakes, Took, WentOn, Follows, Hears, operations_most, Heeds, Settles, FedOpen, Feeds, Expires, ExpiresOpen, advanced, closed, is_late, is_wanting, end_cause, finished, by_content, left_by};
 ghost use Rattle.nats_wire.specs.Operations.{front};
@@ -241,6 +241,21 @@ impl Handshake {
         Ok(shake)
     }
 
+    // The first thing that the server says.
+    fn greeting(&self, alloc: Global) -> Result<Greeting, NoMemory>
+        ensures says { IfOk result (λ g. g ≡ greeting_at (front self.now.unread)) }
+        ensures fits { IfOk result (λ g. greeted_within g ≤ length self.now.unread) }
+    {
+        read_greeting(alloc, self.unread.as_slice())
+    }
+
+    // Whether the address wants TLS.
+    fn wants_tls(&self) -> bool
+        ensures { result ≡ self.now.is_tls }
+    {
+        self.is_tls
+    }
+
     // What comes of the first thing that the server says.
     #[tactic(none)]
     fn greet(
@@ -254,11 +269,11 @@ impl Handshake {
             options.now.tls_required options.now.name options.now.no_echo
             (greeting_at (front self.old.unread)) self.old result self.new }
     {
-        match read_greeting(alloc, self.unread.as_slice()) {
+        match self.greeting(alloc) {
             Ok(Greeting::Waits) => Ok(Shake::More),
             Ok(Greeting::Refuses(refusal)) => Err(refusal),
             Ok(Greeting::Greets(info, len)) => {
-                match welcome(alloc, &info, self.is_tls, options, pool) {
+                match welcome(alloc, &info, self.wants_tls(), options, pool) {
                     Ok(out) => self.enter(alloc, info, len, out),
                     Err(refusal) => Err(refusal),
                 }
