@@ -60,7 +60,7 @@ knows_more info left unread said text bytes c same k w = record {
       ∙ ap (λ (t : List ℕ). behind_out said (course left t)) (sym (append_assoc unread bytes more))
       ∙ ap (λ (d : Course). behind_out said d) (rw same (course_more left (unread ++ bytes) more (rw same at w)))
       ∙ ap (λ (o : List ℕ). record (course c.left (c.rest ++ more)) { out = o })
-          (sym (append_assoc said c.out ((course c.left (c.rest ++ more)).out)));
+      (sym (append_assoc said c.out ((course c.left (c.rest ++ more)).out)));
 }
 
 module _ (Offers : List ℕ → Result AuthValue (List ℕ) → Type 0) (name : Option (List ℕ)) (no_echo : Bool) where
@@ -80,8 +80,11 @@ module _ (Offers : List ℕ → Result AuthValue (List ℕ) → Type 0) (name : 
   goes_first shake.Done info n auth t new c same e offers goes = rw goes.1 (
     opening name no_echo auth ++ c.out,
     refl,
-    (c.out, (auth, offers, refl),
-    record { len = n; left = c.left; first = e; all = sym same ∙ succeeded c (answer_succeeds c.verdict goes.0) }),
+    (
+      c.out,
+      (auth, offers, refl),
+      record { len = n; left = c.left; first = e; all = sym same ∙ succeeded c (answer_succeeds c.verdict goes.0) },
+    ),
   )
 
   goes_more : (s : Shake) (info : ServerInfo) (left : ℕ) (t new : Talk) (unread wrote said text bytes : List ℕ) (c : Course)
@@ -90,19 +93,25 @@ module _ (Offers : List ℕ → Result AuthValue (List ℕ) → Type 0) (name : 
   goes_more shake.More info left t new unread wrote said text bytes c same w k goes = rw goes.1 (
     c.out,
     refl,
-    (said ++ c.out, wrote_more info wrote said c.out w,
-    knows_more info left unread said text bytes c same k (answer_waits c.verdict goes.0)),
+    (
+      said ++ c.out,
+      wrote_more info wrote said c.out w,
+      knows_more info left unread said text bytes c same k (answer_waits c.verdict goes.0),
+    ),
   )
   goes_more shake.Done info left t new unread wrote said text bytes c same w k goes = rw goes.1 (
     c.out,
     refl,
-    (said ++ c.out, wrote_more info wrote said c.out w,
-    record {
-      len = k.len;
-      left = c.left;
-      first = front_more text bytes (info_op info) k.len k.first;
-      all = k.alike bytes ∙ ap (λ (d : Course). behind_out said d) (sym same ∙ succeeded c (answer_succeeds c.verdict goes.0));
-    }),
+    (
+      said ++ c.out,
+      wrote_more info wrote said c.out w,
+      record {
+        len = k.len;
+        left = c.left;
+        first = front_more text bytes (info_op info) k.len k.first;
+        all = k.alike bytes ∙ ap (λ (d : Course). behind_out said d) (sym same ∙ succeeded c (answer_succeeds c.verdict goes.0));
+      },
+    ),
   )
 
 module _ (Discovers : List (List ℕ) → Result (Unit {0}) AddrError → Type 0) (Stays : Type 0)

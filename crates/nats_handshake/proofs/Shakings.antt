@@ -1,6 +1,6 @@
 -- What a handshake makes of want of memory.
-use Rattle.std.proofs.Common.{◌≡◌, refl, ◌∙◌, sym, ap, subst, ◌⊎◌, inl, inr, ℕ, ◌+◌, Bool, false, List, ◌++◌, drop, take, length, Option, Result, Ok, Err}
-use Rattle.std.proofs.lemmas.List.{drop-drop}
+use Rattle.std.proofs.Common.{◌≡◌, refl, ◌∙◌, sym, ap, subst, ◌⊎◌, inl, inr, ℕ, ◌+◌, Bool, false, List, ◌++◌, drop, take, length, Option, Result, Ok, Err, Some, None}
+use Rattle.std.proofs.lemmas.List.{drop-drop, take_at}
 use Rattle.nats_names.specs.declared.addr_error.AddrError.{AddrError}
 use Rattle.nats_pool.specs.Auths.{AuthValue}
 use Rattle.nats_wire.specs.Operations.{front}
@@ -18,7 +18,10 @@ use Rattle.nats_info.specs.declared.info.ServerInfo.{ServerInfo}
 use Rattle.nats_handshake.specs.declared.error.ConnectErrorKind.{ConnectErrorKind}
 use Rattle.nats_handshake.specs.declared.error.ConnectErrorKind.TheVariants as kind
 use Rattle.nats_handshake.specs.Credentials.{RefusedAs}
-use Rattle.nats_handshake.specs.Shaking.{Talk, wanting, wants_tls, operations_most, opening, staged, advanced, DiscoverFails, Takes, Declines, Welcomes, Opens, Goes, Follows, StopsOrWants, Took, WentOn, first_course, Repelled, Hears, Heeds, Settles, FedOpen, FedAt, left_by, with_bytes}
+use Rattle.nats_handshake.specs.Shaking.{Talk, wanting, wants_tls, operations_most, opening, staged, advanced, DiscoverFails, Takes, Declines, Welcomes, Opens, Goes, Follows, StopsOrWants, Took, WentOn, first_course, Repelled, Hears, Heeds, Settles, FedOpen, FedAt, left_by, refused_of, with_bytes}
+
+abbrev refusal_of : ConnectErrorKind → Result Shake Failure
+refusal_of k = Err (k, None)
 
 -- behind an INFO the code's course is followed
 pub entered : (info : ServerInfo) (n : ℕ) (t mid new : Talk) (c : code.Course) (k : Course) (s : Shake)
@@ -27,7 +30,7 @@ pub entered : (info : ServerInfo) (n : ℕ) (t mid new : Talk) (c : code.Course)
 entered info n t mid new c k s e took same = rw (← e) (
   took.0,
   same ∙ ap (λ (m : Talk). record m { stage = staged info c.left s }) took.1
-  ∙ ap (λ (r : List ℕ). record t { stage = staged info c.left s; unread = r; out = t.out ++ c.out.items })
+      ∙ ap (λ (r : List ℕ). record t { stage = staged info c.left s; unread = r; out = t.out ++ c.out.items })
       (sym (drop-drop c.taken n t.unread)),
 )
 
@@ -121,3 +124,50 @@ module _ (Discovers : List (List ℕ) → Result (Unit {0}) AddrError → Type 0
         → Hears Discovers Stays Offers by_option name no_echo at t res new
     hears_at said at t new res e h =
         subst (λ (g : Greeting). Hears Discovers Stays Offers by_option name no_echo g t res new) e h
+
+    -- a refusal is kept
+    pub settles_left : (at : Stage) (t mid new : Talk) (before : ℕ) (e : Failure) (k : ConnectErrorKind)
+        → Heeds Discovers Stays Offers by_option name no_echo at t (Err e) mid → k ≡ e.0
+        → new ≡ left_by k (record mid { unread = take before mid.unread }) mid
+        → Settles Discovers Stays Offers by_option name no_echo at before t (Err e) new
+    settles_left at t mid new before e k h same left =
+        let m = heeds_same at t mid e h in (
+          subst (λ (u : Talk). Heeds Discovers Stays Offers by_option name no_echo at t (Err e) u) m h,
+          left ∙ ap (λ (u : Talk). left_by k (record u { unread = take before u.unread }) u) m
+              ∙ ap (λ (j : ConnectErrorKind). left_by j (record t { unread = take before t.unread }) t) same,
+        )
+
+    -- what comes of bytes that were taken
+    pub fed_settled : (t more new : Talk) (bytes : List ℕ) (before : ℕ) (res : Result Shake Failure) → more ≡ with_bytes t bytes
+        → before ≡ length t.unread → Settles Discovers Stays Offers by_option name no_echo more.stage before more res new
+        → FedOpen Discovers Stays Offers by_option name no_echo t.stage t bytes res new
+    fed_settled t more new bytes before (Ok s) same len h =
+        subst (λ (u : Talk). Heeds Discovers Stays Offers by_option name no_echo u.stage u (Ok s) new) same h
+    fed_settled t more new bytes before (Err e) same len h = (
+      subst (λ (u : Talk). Heeds Discovers Stays Offers by_option name no_echo u.stage u (Err e) u) same h.0,
+      h.1 ∙ ap (λ (u : Talk). left_by e.0 (record u { unread = take before u.unread }) u) same
+          ∙ ap (λ (l : List ℕ). left_by e.0 (record t { unread = l }) (with_bytes t bytes)) (take_at t.unread bytes before (sym len)),
+    )
+
+    -- want of memory for the bytes
+    pub fed_wanting : (t : Talk) (bytes : List ℕ) → Stays
+        → FedOpen Discovers Stays Offers by_option name no_echo t.stage t bytes (Err wanting) t
+    fed_wanting t bytes stays = (heeds_wanting t.stage (with_bytes t bytes) stays, refl)
+
+    -- one that was refused, and one that was not
+    pub fed_refused : (at : Stage) (t : Talk) (bytes : List ℕ) (k : ConnectErrorKind) → refused_of at ≡ Some k → Stays
+        → FedAt Discovers Stays Offers by_option name no_echo at t bytes (Err (k, None)) t
+    fed_refused stage.Greets t bytes k e stays = cc
+    fed_refused (stage.Asks info left) t bytes k e stays = cc
+    fed_refused (stage.Linked info) t bytes k e stays = cc
+    fed_refused (stage.Refused j) t bytes k e stays =
+        let same : j ≡ k = cc in
+        (stays, ap refusal_of (sym same), refl)
+
+    pub fed_open : (at : Stage) (t new : Talk) (bytes : List ℕ) (res : Result Shake Failure) → refused_of at ≡ None
+        → FedOpen Discovers Stays Offers by_option name no_echo at t bytes res new
+        → FedAt Discovers Stays Offers by_option name no_echo at t bytes res new
+    fed_open stage.Greets t new bytes res e f = f
+    fed_open (stage.Asks info left) t new bytes res e f = f
+    fed_open (stage.Linked info) t new bytes res e f = f
+    fed_open (stage.Refused j) t new bytes res e f = cc

@@ -68,17 +68,3 @@ module _ (Discovers : List (List ℕ) → Result (Unit {0}) AddrError → Type 0
 
     abbrev pub RefusesText : Bool → List ℕ → Failure → Type 0
     RefusesText by_scheme text e = RefusesIn by_scheme (greeting_at (front text)) text e
-
-    -- one that heard a text and takes more bytes heard both
-    abbrev pub HearsOn : Type 0
-    HearsOn = (t new : Talk) (s : Shake) (unread wrote text bytes : List ℕ) → IsOpen t.stage → t.unread ≡ unread ++ bytes
-        → Heard Offers name no_echo t.stage unread wrote text
-        → Heeds Discovers Stays Offers by_option name no_echo t.stage t (Ok s) new
-        → HeardMore Offers name no_echo t new wrote (text ++ bytes)
-
-    -- one that heard a text and refuses at more bytes refuses both
-    abbrev pub RefusesBoth : Type 0
-    RefusesBoth = (t : Talk) (unread wrote text bytes : List ℕ) (e : Failure) → IsOpen t.stage → t.unread ≡ unread ++ bytes
-        → Heard Offers name no_echo t.stage unread wrote text
-        → Heeds Discovers Stays Offers by_option name no_echo t.stage t (Err e) t
-        → RefusesText t.is_tls (text ++ bytes) e

@@ -137,6 +137,13 @@ WentOn left old (Ok s) new = let c = course left old.unread in IsAnswer c.verdic
     × (new ≡ record old { stage = advanced old.stage c.left s; unread = c.rest; out = old.out ++ c.out })
 WentOn left old (Err e) new = StopsOrWants ((course left old.unread).verdict) e × (new ≡ old)
 
+-- the kind by which it was refused
+abbrev pub refused_of : Stage → Option ConnectErrorKind
+refused_of (stage.Refused kind) = Some kind
+refused_of stage.Greets = None
+refused_of (stage.Asks info left) = None
+refused_of (stage.Linked info) = None
+
 abbrev pub is_wanting : ConnectErrorKind → Bool
 is_wanting kind.NoMemory = true
 is_wanting kind.ServerParse = false

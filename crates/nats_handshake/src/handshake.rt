@@ -1,12 +1,12 @@
 //! The handshake of a link, as a machine that is fed what the server sends and says what is to be written.
-ghost use Rattle.std.specs.Prelude.{◌≡◌, ◌≤◌, Some, length, take, drop, option_map, IfOk};
+ghost use Rattle.std.specs.Prelude.{◌≡◌, ◌≤◌, Some, length, take, drop, option_map, IfOk, OnOk, OnErr};
 ghost use Rattle.nats_pool.specs.Auths.{auth_value};
 ghost use Rattle.nats_handshake.specs.Pooled.{PoolTakes};
 ghost use Rattle.nats_names.specs.declared.cause.Cause.TheVariants as cause;
 ghost use Rattle.nats_handshake.specs.declared.error.ConnectErrorKind.TheVariants as kind;
 ghost use Rattle.nats_handshake.specs.Course.{greeting_at, greeted_within, course, behind_out};
 ghost use Rattle.nats_handshake.specs.Credentials.{SignerAnswers, AuthAnswers, Offers};
-ghost use Rattle.nats_handshake.specs.Shaking.{IsNew, Discovered, Opens, Welcomes, opening, Shakes, Took, WentOn, Follows, Hears, operations_most, Heeds, Settles, FedOpen, Feeds, Expires, ExpiresOpen, advanced, closed, is_late, is_wanting, end_cause, finished, by_content, left_by};
+ghost use Rattle.nats_handshake.specs.Shaking.{IsNew, Discovered, Opens, Welcomes, opening, Shakes, Took, WentOn, Follows, Hears, operations_most, Heeds, Settles, FedOpen, Feeds, Expires, ExpiresOpen, advanced, closed, is_late, is_wanting, end_cause, finished, by_content, left_by, refused_of, with_bytes};
 ghost use Rattle.nats_wire.specs.Operations.{front};
 
 use crate::course::{
@@ -257,7 +257,6 @@ impl Handshake {
     }
 
     // What comes of the first thing that the server says.
-    #[tactic(none)]
     fn greet(
         &mut self,
         alloc: Global,
@@ -283,7 +282,6 @@ impl Handshake {
     }
 
     // What comes of the bytes that are there. A refusal changes nothing.
-    #[tactic(none)]
     fn heed(
         &mut self,
         alloc: Global,
@@ -331,7 +329,6 @@ impl Handshake {
     /// by an option, the scheme of the address or the INFO. `ServerParse` where an address that the INFO tells of does not
     /// parse. `Authentication` where the signer or the authentication callback refuses. After each of these the handshake
     /// refuses with the same kind. `NoMemory` leaves the handshake as it was; the pool may have the INFO's addresses.
-    #[tactic(none)]
     pub fn feed(
         &mut self,
         alloc: Global,
@@ -344,16 +341,36 @@ impl Handshake {
             options.now.tls_required options.now.name options.now.no_echo
             self.old bytes.now result self.new }
     {
-        match &self.stage {
-            Stage::Greets => self.feed_open(alloc, bytes, options, pool),
-            Stage::Asks { .. } => self.feed_open(alloc, bytes, options, pool),
-            Stage::Linked { .. } => self.feed_open(alloc, bytes, options, pool),
-            Stage::Refused(kind) => Err(ConnectError::new(*kind)),
+        match self.refused() {
+            Some(kind) => Err(ConnectError::new(kind)),
+            None => self.feed_open(alloc, bytes, options, pool),
         }
     }
 
+    // The kind by which it was refused.
+    fn refused(&self) -> Option<ConnectErrorKind>
+        ensures { result ≡ refused_of self.now.stage }
+    {
+        self.stage.refused()
+    }
+
+    // How many bytes no operation took yet.
+    fn unread_len(&self) -> usize
+        ensures { result ≡ length self.now.unread }
+    {
+        self.unread.len()
+    }
+
+    // Takes bytes, whole or not at all.
+    fn append(&mut self, bytes: &[u8]) -> Result<(), NoMemory>
+        ensures ok { OnOk result (self.new ≡ with_bytes self.old bytes.now) }
+        ensures err { OnErr result (self.new ≡ self.old) }
+    {
+        self.unread.extend_from_slice(bytes)?;
+        Ok(())
+    }
+
     // The same for one that was not refused.
-    #[tactic(none)]
     fn feed_open(
         &mut self,
         alloc: Global,
@@ -366,15 +383,14 @@ impl Handshake {
             options.now.tls_required options.now.name options.now.no_echo
             self.old.stage self.old bytes.now result self.new }
     {
-        let before = self.unread.len();
-        match self.unread.extend_from_slice(bytes) {
+        let before = self.unread_len();
+        match self.append(bytes) {
             Ok(()) => self.settle(alloc, before, options, pool),
-            Err(_) => Err(ConnectError::new(ConnectErrorKind::NoMemory)),
+            Err(NoMemory) => Err(ConnectError::new(ConnectErrorKind::NoMemory)),
         }
     }
 
     // The same once the bytes are there, behind the first `before`.
-    #[tactic(none)]
     fn settle(
         &mut self,
         alloc: Global,

@@ -1,6 +1,6 @@
 //! How far a handshake came.
 ghost use Rattle.std.specs.Prelude.{◌≡◌};
-ghost use Rattle.nats_handshake.specs.Shaking.{staged, advanced, closed, end_cause};
+ghost use Rattle.nats_handshake.specs.Shaking.{staged, advanced, closed, refused_of, end_cause};
 
 use crate::error::ConnectErrorKind;
 use nats_names::Cause;
@@ -68,6 +68,16 @@ impl Stage {
             Stage::Asks { .. } => Stage::Refused(kind),
             Stage::Linked { info } => Stage::Linked { info },
             Stage::Refused(before) => Stage::Refused(before),
+        }
+    }
+
+    // The kind by which it was refused.
+    pub(crate) fn refused(&self) -> Option<ConnectErrorKind>
+        ensures { result ≡ refused_of self.now }
+    {
+        match self {
+            Stage::Greets | Stage::Asks { .. } | Stage::Linked { .. } => None,
+            Stage::Refused(kind) => Some(*kind),
         }
     }
 

@@ -9,7 +9,7 @@ use Rattle.nats_handshake.proofs.handshake.welcome.Goals as goal
 pub returns-in-Ok : goal.returns-in-Ok
 returns-in-Ok g c =
     let plain : wants_tls c.args.options.now.tls_required c.args.is_tls c.args.info.now ≡ false =
-        rw (c.if-options.false, c.if-is_tls.false, c.if-info.false) refl in
+    rw (c.if-options.false, c.if-is_tls.false, c.if-info.false) refl in
     welcomes_opened (PoolTakes c.args.pool.now c.discover.new.pool) (c.discover.new.pool ≡ c.args.pool.now)
     (Offers SignerAnswers AuthAnswers c.args.options.now.signer c.args.options.now.auth_callback (auth_value c.args.options.now.auth))
     c.args.options.now.tls_required c.args.options.now.name c.args.options.now.no_echo c.args.is_tls c.args.info.now
@@ -18,7 +18,7 @@ returns-in-Ok g c =
 pub returns-in-Err : goal.returns-in-Err
 returns-in-Err g c =
     let plain : wants_tls c.args.options.now.tls_required c.args.is_tls c.args.info.now ≡ false =
-        rw (c.if-options.false, c.if-is_tls.false, c.if-info.false) refl in
+    rw (c.if-options.false, c.if-is_tls.false, c.if-info.false) refl in
     declines_undiscovered (PoolTakes c.args.pool.now c.discover.new.pool) (c.discover.new.pool ≡ c.args.pool.now)
     (Offers SignerAnswers AuthAnswers c.args.options.now.signer c.args.options.now.auth_callback (auth_value c.args.options.now.auth))
     c.args.options.now.tls_required c.args.options.now.name c.args.options.now.no_echo c.args.is_tls c.args.info.now

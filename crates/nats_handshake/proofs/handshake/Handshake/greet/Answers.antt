@@ -46,7 +46,10 @@ returns-in-Err-welcome g c = hears_at (PoolTakes c.args.pool.now c.welcome.new.p
     (inl (rw c.wants_tls.ensures at c.in-Err-welcome.ensures), refl)
 
 pub returns-in-Err : goal.returns-in-Err
-returns-in-Err g c = rw c.new.ensures (repelled_wanting (PoolTakes c.args.pool.now c.args.pool.now) (c.args.pool.now ≡ c.args.pool.now)
-    (Offers SignerAnswers AuthAnswers c.args.options.now.signer c.args.options.now.auth_callback (auth_value c.args.options.now.auth))
-    c.args.options.now.tls_required c.args.options.now.name c.args.options.now.no_echo
-    (greeting_at (front c.args.self.now.unread)) c.args.self.now refl, refl)
+returns-in-Err g c = rw c.new.ensures (
+  repelled_wanting (PoolTakes c.args.pool.now c.args.pool.now) (c.args.pool.now ≡ c.args.pool.now)
+      (Offers SignerAnswers AuthAnswers c.args.options.now.signer c.args.options.now.auth_callback (auth_value c.args.options.now.auth))
+      c.args.options.now.tls_required c.args.options.now.name c.args.options.now.no_echo
+      (greeting_at (front c.args.self.now.unread)) c.args.self.now refl,
+  refl,
+)
