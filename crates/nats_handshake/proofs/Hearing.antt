@@ -1,5 +1,5 @@
 -- A handshake that is fed a text in pieces heard the whole text.
-use Rattle.std.proofs.Common.{◌≡◌, refl, ◌∙◌, sym, ap, subst, ◌⊎◌, inl, inr, ℕ, Bool, List, [], ◌++◌, drop, append_assoc, append-nil, Option, Result, Ok, Err}
+use Rattle.std.proofs.Common.{◌≡◌, refl, ◌∙◌, sym, ap, subst, inl, inr, ℕ, Bool, List, [], ◌++◌, drop, append_assoc, append-nil, Option, Result, Ok, Err}
 use Rattle.std.proofs.lemmas.List.{drop-append-le}
 use Rattle.nats_names.specs.declared.addr_error.AddrError.{AddrError}
 use Rattle.nats_info.specs.declared.info.ServerInfo.{ServerInfo}
@@ -15,9 +15,9 @@ use Rattle.nats_handshake.specs.declared.stage.Stage.TheVariants as stage
 use Rattle.nats_handshake.specs.declared.stage.Shake.{Shake}
 use Rattle.nats_handshake.specs.declared.stage.Shake.TheVariants as shake
 use Rattle.nats_handshake.specs.Course.{Course, course, behind_out, greeting_at}
-use Rattle.nats_handshake.specs.Shaking.{Talk, operations_most, opening, IsAnswer, Goes, Stops, StopsOrWants, Takes, first_course, Greeted, Repelled, Heeds}
+use Rattle.nats_handshake.specs.Shaking.{Talk, operations_most, opening, IsAnswer, Goes, Stops, StopsOrWants, Greeted, Repelled, Heeds}
 use Rattle.nats_handshake.specs.Errors.{Failure}
-use Rattle.nats_handshake.specs.Heard.{Knows, Succeeds, Wrote, Heard, HeardMore, IsOpen, RefusesIn, RefusesText}
+use Rattle.nats_handshake.specs.Heard.{Knows, Wrote, Heard, HeardMore, IsOpen, RefusesIn, RefusesText}
 use Rattle.nats_handshake.proofs.Heard.{course_more}
 
 answer_waits : (v : Verdict) → IsAnswer v shake.More → v ≡ verdict.Waits

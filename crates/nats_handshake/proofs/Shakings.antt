@@ -1,5 +1,5 @@
 -- What a handshake makes of want of memory.
-use Rattle.std.proofs.Common.{◌≡◌, refl, ◌∙◌, sym, ap, subst, ◌⊎◌, inl, inr, ℕ, ◌+◌, Bool, false, List, ◌++◌, drop, take, length, Option, Result, Ok, Err, Some, None}
+use Rattle.std.proofs.Common.{◌≡◌, refl, ◌∙◌, sym, ap, subst, inl, inr, ℕ, ◌+◌, Bool, false, List, ◌++◌, drop, take, length, Option, Result, Ok, Err, Some, None}
 use Rattle.std.proofs.lemmas.List.{drop-drop, take_at}
 use Rattle.nats_names.specs.declared.addr_error.AddrError.{AddrError}
 use Rattle.nats_pool.specs.Auths.{AuthValue}

@@ -1,18 +1,17 @@
 -- What a handshake makes of the whole text that it was fed, however that was cut.
-use Rattle.std.specs.Prelude.{◌≡◌, ◌⊎◌, ℕ, Bool, List, [], ◌++◌, drop, Option, Result, Ok, Err}
+use Rattle.std.specs.Prelude.{◌≡◌, ◌⊎◌, ℕ, Bool, List, [], ◌++◌, drop, Option, Result, Ok}
 use Rattle.nats_names.specs.declared.addr_error.AddrError.{AddrError}
 use Rattle.nats_info.specs.declared.info.ServerInfo.{ServerInfo}
 use Rattle.nats_pool.specs.Auths.{AuthValue}
 use Rattle.nats_wire.specs.Operations.{front, got, info_op}
 use Rattle.nats_handshake.specs.declared.stage.Stage.{Stage}
 use Rattle.nats_handshake.specs.declared.stage.Stage.TheVariants as stage
-use Rattle.nats_handshake.specs.declared.stage.Shake.{Shake}
 use Rattle.nats_handshake.specs.declared.course.Greeting.{Greeting}
 use Rattle.nats_handshake.specs.declared.course.Greeting.TheVariants as greeting
 use Rattle.nats_handshake.specs.declared.course.Verdict.TheVariants as verdict
 use Rattle.nats_handshake.specs.Course.{course, behind_out, greeting_at}
 use Rattle.nats_handshake.specs.Errors.{Failure}
-use Rattle.nats_handshake.specs.Shaking.{Talk, Declines, StopsOrWants, Heeds, wanting, opening, operations_most}
+use Rattle.nats_handshake.specs.Shaking.{Talk, Declines, StopsOrWants, wanting, opening, operations_most}
 
 -- the text begins with this INFO, and where more comes the operations behind it come to what those still to come do, behind
 -- these answers

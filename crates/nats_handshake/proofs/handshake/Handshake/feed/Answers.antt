@@ -1,5 +1,5 @@
 -- What comes of bytes, of one that was refused and of one that was not.
-use Rattle.std.proofs.Common.{◌≡◌, refl, sym, ◌∙◌}
+use Rattle.std.proofs.Common.{◌≡◌, refl, sym}
 use Rattle.nats_pool.specs.Auths.{auth_value}
 use Rattle.nats_handshake.specs.Credentials.{SignerAnswers, AuthAnswers, Offers}
 use Rattle.nats_handshake.specs.Pooled.{PoolTakes}

@@ -1,14 +1,12 @@
 -- What comes of the first thing that the server says.
-use Rattle.std.proofs.Common.{◌≡◌, refl, ◌∙◌, sym, inl, inr, Ok, Err}
+use Rattle.std.proofs.Common.{◌≡◌, refl, ◌∙◌, sym, inl, Ok, Err}
 use Rattle.nats_pool.specs.Auths.{auth_value}
 use Rattle.nats_wire.specs.Operations.{front}
-use Rattle.nats_handshake.specs.declared.course.Greeting.{Greeting}
 use Rattle.nats_handshake.specs.declared.course.Greeting.TheVariants as greeting
 use Rattle.nats_handshake.specs.declared.stage.Shake.TheVariants as shake
 use Rattle.nats_handshake.specs.Course.{greeting_at}
 use Rattle.nats_handshake.specs.Credentials.{SignerAnswers, AuthAnswers, Offers}
 use Rattle.nats_handshake.specs.Pooled.{PoolTakes}
-use Rattle.nats_handshake.specs.Shaking.{wanting}
 use Rattle.nats_handshake.proofs.Shakings.{hears_at, hears_entered, repelled_wanting}
 use Rattle.nats_handshake.proofs.handshake.Handshake.greet.Goals as goal
 
