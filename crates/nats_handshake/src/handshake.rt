@@ -1,7 +1,6 @@
 //! The handshake of a link, as a machine that is fed what the server sends and says what is to be written.
 ghost use Rattle.std.specs.Prelude.{◌≡◌, ◌≤◌, Some, length, take, drop, option_map, IfOk, OnOk, OnErr};
 ghost use Rattle.nats_pool.specs.Auths.{auth_value};
-ghost use Rattle.nats_handshake.specs.Pooled.{PoolTakes};
 ghost use Rattle.nats_names.specs.declared.cause.Cause.TheVariants as cause;
 ghost use Rattle.nats_handshake.specs.declared.error.ConnectErrorKind.TheVariants as kind;
 ghost use Rattle.nats_handshake.specs.Course.{greeting_at, greeted_within, course, behind_out};
@@ -18,7 +17,7 @@ use crate::offer::credentials;
 use crate::stage::{Shake, Stage, staged};
 use nats_connect::connect_text;
 use nats_names::{AddrError, Cause, NoMemory};
-use nats_pool::{Auth, ConnectOptions, Pool, ServerAddr};
+use nats_pool::{Auth, ConnectOptions, ServerAddr, ServerList};
 use nats_wire::ServerInfo;
 use std::alloc::Global;
 use std::marker::Model;
@@ -70,10 +69,10 @@ fn unspelled(error: AddrError) -> Refusal
     Refusal::by(ConnectErrorKind::ServerParse, Cause::Addr(error))
 }
 
-fn discover(alloc: Global, info: &ServerInfo, pool: &mut Pool) -> Result<(), Refusal>
-    ensures { Discovered (PoolTakes pool.old pool.new) (pool.new ≡ pool.old) info.now.connect_urls result }
+fn discover<P: ServerList>(alloc: Global, info: &ServerInfo, pool: &mut P) -> Result<(), Refusal>
+    ensures { Discovered (P.Takes pool.old pool.new) (pool.new ≡ pool.old) info.now.connect_urls result }
 {
-    match pool.discover(alloc, info.connect_urls.as_slice()) {
+    match pool.take_in(alloc, info.connect_urls.as_slice()) {
         Ok(()) => Ok(()),
         Err(AddrError::NoMemory) => Err(Refusal::new(ConnectErrorKind::NoMemory)),
         Err(AddrError::Url) => Err(unspelled(AddrError::Url)),
@@ -108,14 +107,14 @@ fn offer_opening(
 }
 
 // What a client writes for an INFO, or why it ends the handshake.
-fn welcome(
+fn welcome<P: ServerList>(
     alloc: Global,
     info: &ServerInfo,
     is_tls: bool,
     options: &ConnectOptions,
-    pool: &mut Pool,
+    pool: &mut P,
 ) -> Result<Vec<u8>, Refusal>
-    ensures { Welcomes (PoolTakes pool.old pool.new) (pool.new ≡ pool.old)
+    ensures { Welcomes (P.Takes pool.old pool.new) (pool.new ≡ pool.old)
         (Offers SignerAnswers AuthAnswers options.now.signer options.now.auth_callback (auth_value options.now.auth))
         options.now.tls_required options.now.name options.now.no_echo is_tls info.now result }
 {
@@ -257,13 +256,13 @@ impl Handshake {
     }
 
     // What comes of the first thing that the server says.
-    fn greet(
+    fn greet<P: ServerList>(
         &mut self,
         alloc: Global,
         options: &ConnectOptions,
-        pool: &mut Pool,
+        pool: &mut P,
     ) -> Result<Shake, Refusal>
-        ensures { Hears (PoolTakes pool.old pool.new) (pool.new ≡ pool.old)
+        ensures { Hears (P.Takes pool.old pool.new) (pool.new ≡ pool.old)
             (Offers SignerAnswers AuthAnswers options.now.signer options.now.auth_callback (auth_value options.now.auth))
             options.now.tls_required options.now.name options.now.no_echo
             (greeting_at (front self.old.unread)) self.old result self.new }
@@ -282,13 +281,13 @@ impl Handshake {
     }
 
     // What comes of the bytes that are there. A refusal changes nothing.
-    fn heed(
+    fn heed<P: ServerList>(
         &mut self,
         alloc: Global,
         options: &ConnectOptions,
-        pool: &mut Pool,
+        pool: &mut P,
     ) -> Result<Shake, Refusal>
-        ensures { Heeds (PoolTakes pool.old pool.new) (pool.new ≡ pool.old)
+        ensures { Heeds (P.Takes pool.old pool.new) (pool.new ≡ pool.old)
             (Offers SignerAnswers AuthAnswers options.now.signer options.now.auth_callback (auth_value options.now.auth))
             options.now.tls_required options.now.name options.now.no_echo
             self.old.stage self.old result self.new }
@@ -329,14 +328,14 @@ impl Handshake {
     /// by an option, the scheme of the address or the INFO. `ServerParse` where an address that the INFO tells of does not
     /// parse. `Authentication` where the signer or the authentication callback refuses. After each of these the handshake
     /// refuses with the same kind. `NoMemory` leaves the handshake as it was; the pool may have the INFO's addresses.
-    pub fn feed(
+    pub fn feed<P: ServerList>(
         &mut self,
         alloc: Global,
         bytes: &[u8],
         options: &ConnectOptions,
-        pool: &mut Pool,
+        pool: &mut P,
     ) -> Result<Shake, ConnectError>
-        ensures { Feeds (PoolTakes pool.old pool.new) (pool.new ≡ pool.old)
+        ensures { Feeds (P.Takes pool.old pool.new) (pool.new ≡ pool.old)
             (Offers SignerAnswers AuthAnswers options.now.signer options.now.auth_callback (auth_value options.now.auth))
             options.now.tls_required options.now.name options.now.no_echo
             self.old bytes.now result self.new }
@@ -371,14 +370,14 @@ impl Handshake {
     }
 
     // The same for one that was not refused.
-    fn feed_open(
+    fn feed_open<P: ServerList>(
         &mut self,
         alloc: Global,
         bytes: &[u8],
         options: &ConnectOptions,
-        pool: &mut Pool,
+        pool: &mut P,
     ) -> Result<Shake, ConnectError>
-        ensures { FedOpen (PoolTakes pool.old pool.new) (pool.new ≡ pool.old)
+        ensures { FedOpen (P.Takes pool.old pool.new) (pool.new ≡ pool.old)
             (Offers SignerAnswers AuthAnswers options.now.signer options.now.auth_callback (auth_value options.now.auth))
             options.now.tls_required options.now.name options.now.no_echo
             self.old.stage self.old bytes.now result self.new }
@@ -391,14 +390,14 @@ impl Handshake {
     }
 
     // The same once the bytes are there, behind the first `before`.
-    fn settle(
+    fn settle<P: ServerList>(
         &mut self,
         alloc: Global,
         before: usize,
         options: &ConnectOptions,
-        pool: &mut Pool,
+        pool: &mut P,
     ) -> Result<Shake, ConnectError>
-        ensures { Settles (PoolTakes pool.old pool.new) (pool.new ≡ pool.old)
+        ensures { Settles (P.Takes pool.old pool.new) (pool.new ≡ pool.old)
             (Offers SignerAnswers AuthAnswers options.now.signer options.now.auth_callback (auth_value options.now.auth))
             options.now.tls_required options.now.name options.now.no_echo
             self.old.stage before self.old result self.new }
