@@ -1,5 +1,6 @@
-use crate::{ConnectErrorKind, ConnectOptions, Handshake, NoMemory, Shake};
-use nats_pool::{Delay, Pool, PoolOptions, ServerAddr};
+use crate::{ConnectErrorKind, ConnectOptions, Handshake, NoMemory, Shake, Text};
+use nats_names::AddrError;
+use nats_pool::{ServerAddr, ServerList};
 use std::alloc::Global;
 use std::test::Fail;
 
@@ -31,15 +32,20 @@ fn word(kind: ConnectErrorKind) -> &'static str {
     }
 }
 
-fn pool(alloc: Global) -> Result<Pool, NoMemory> {
-    let options = PoolOptions {
-        max_reconnects: None,
-        retain_servers_order: true,
-        ignore_discovered_servers: false,
-        delay: Delay::Default,
-        choice: None,
-    };
-    Pool::new(alloc, Vec::new(alloc), options, 1)
+// Takes no server in.
+#[derive(Drop)]
+struct NoServers;
+
+impl ServerList for NoServers {
+    ghost Takes = { λ before after urls result. Unit {0} };
+
+    fn take_in(&mut self, _alloc: Global, urls: &[Text]) -> Result<(), AddrError> {
+        if urls.is_empty() {
+            Ok(())
+        } else {
+            Err(AddrError::Scheme)
+        }
+    }
 }
 
 fn begun(alloc: Global, addr: &str, options: &ConnectOptions) -> Result<Handshake, &'static str> {
@@ -54,10 +60,7 @@ fn fed(
     bytes: &[u8],
     options: &ConnectOptions,
 ) -> &'static str {
-    let Ok(mut pool) = pool(alloc) else {
-        return "pool";
-    };
-    match shaking.feed(alloc, bytes, options, &mut pool) {
+    match shaking.feed(alloc, bytes, options, &mut NoServers) {
         Ok(Shake::More) => "more",
         Ok(Shake::Done) => "done",
         Err(error) => word(error.kind()),
