@@ -48,19 +48,17 @@ impl ServerList for NoServers {
     }
 }
 
-fn begun(alloc: Global, addr: &str, options: &ConnectOptions) -> Result<Handshake, &'static str> {
+fn begun(alloc: Global, addr: &str) -> Result<Handshake, &'static str> {
     let addr = ServerAddr::parse(alloc, addr).ok().ok_or("addr")?;
-    Handshake::new(alloc, &addr, options, START).map_err(|error| word(error.kind()))
+    match Handshake::new(alloc, &addr, &ConnectOptions::new(), START) {
+        Ok(shaking) => Ok(shaking),
+        Err(error) => Err(word(error.kind())),
+    }
 }
 
 // What a handshake answers to one piece.
-fn fed(
-    alloc: Global,
-    shaking: &mut Handshake,
-    bytes: &[u8],
-    options: &ConnectOptions,
-) -> &'static str {
-    match shaking.feed(alloc, bytes, options, &mut NoServers) {
+fn fed(alloc: Global, shaking: &mut Handshake, bytes: &[u8]) -> &'static str {
+    match shaking.feed(alloc, bytes, &ConnectOptions::new(), &mut NoServers) {
         Ok(Shake::More) => "more",
         Ok(Shake::Done) => "done",
         Err(error) => word(error.kind()),
@@ -68,24 +66,25 @@ fn fed(
 }
 
 // What it answers to the last of these pieces.
-fn told(alloc: Global, addr: &str, pieces: &str, options: &ConnectOptions) -> &'static str {
-    match begun(alloc, addr, options) {
-        Ok(mut shaking) => {
-            let mut last = "none";
-            for piece in pieces.split('|') {
-                last = fed(alloc, &mut shaking, piece.as_bytes(), options);
-            }
-            last
-        }
+fn last_word(alloc: Global, shaking: &mut Handshake, pieces: &str) -> &'static str {
+    let mut last = "none";
+    for piece in pieces.split('|') {
+        last = fed(alloc, shaking, piece.as_bytes());
+    }
+    last
+}
+
+fn told(alloc: Global, addr: &str, pieces: &str) -> &'static str {
+    match begun(alloc, addr) {
+        Ok(mut shaking) => last_word(alloc, &mut shaking, pieces),
         Err(word) => word,
     }
 }
 
 fn all_told(alloc: Global, rows: &[(&str, &str, &str)]) -> bool {
-    let options = ConnectOptions::new();
     let mut holds = true;
     for (addr, pieces, wanted) in rows {
-        holds = holds && told(alloc, addr, pieces, &options) == *wanted;
+        holds = holds && told(alloc, addr, pieces) == *wanted;
     }
     holds
 }
@@ -121,10 +120,9 @@ fn oks(alloc: Global, count: usize) -> Result<Vec<u8>, NoMemory> {
 }
 
 fn after_oks(alloc: Global, count: usize) -> Result<&'static str, NoMemory> {
-    let options = ConnectOptions::new();
     let text = oks(alloc, count)?;
-    Ok(match begun(alloc, "a", &options) {
-        Ok(mut shaking) => fed(alloc, &mut shaking, text.as_slice(), &options),
+    Ok(match begun(alloc, "a") {
+        Ok(mut shaking) => fed(alloc, &mut shaking, text.as_slice()),
         Err(word) => word,
     })
 }
@@ -145,19 +143,17 @@ fn expires(shaking: &mut Handshake, now: u64) -> &'static str {
 
 #[test]
 fn a_handshake_expires(rt: HostRuntime) -> Result<(), Fail> {
-    let options = ConnectOptions::new();
-    let mut shaking = begun(rt.alloc(), "a", &options)?;
+    let mut shaking = begun(rt.alloc(), "a")?;
     assert!(rt; expires(&mut shaking, START + 4_999) == "in time");
     assert!(rt; expires(&mut shaking, START + 5_000) == "late");
-    assert!(rt; fed(rt.alloc(), &mut shaking, USUAL_INFO, &options) == "late");
+    assert!(rt; fed(rt.alloc(), &mut shaking, USUAL_INFO) == "late");
     Ok(())
 }
 
 fn usual(alloc: Global, shaking: &mut Handshake, answer: &[u8]) -> bool {
-    let options = ConnectOptions::new();
-    fed(alloc, shaking, USUAL_INFO, &options) == "more"
+    fed(alloc, shaking, USUAL_INFO) == "more"
         && shaking.out() == USUAL_OUT
-        && fed(alloc, shaking, answer, &options) == "done"
+        && fed(alloc, shaking, answer) == "done"
 }
 
 fn ends_with(shaking: Handshake, wanted: &[u8]) -> bool {
@@ -170,7 +166,7 @@ fn ends_with(shaking: Handshake, wanted: &[u8]) -> bool {
 #[test]
 fn the_usual_handshake(rt: HostRuntime) -> Result<(), Fail> {
     let alloc = rt.alloc();
-    let mut shaking = begun(alloc, "a", &ConnectOptions::new())?;
+    let mut shaking = begun(alloc, "a")?;
     assert!(rt; usual(alloc, &mut shaking, b"+OK\r\nPONG\r\nPING\r\n"));
     assert!(rt; ends_with(shaking, b"PING\r\n"));
     Ok(())
