@@ -1,3 +1,5 @@
 mod Courses
-mod Heard
+pub mod Heard
+pub mod Hearing
+mod Shakings
 mod Tellings

@@ -110,11 +110,11 @@ behind_out out c = record c { out = out ++ c.out }
 abbrev pub course_view : List ℕ → code.Course → Course
 course_view text c = record { verdict = c.verdict; left = c.left; rest = drop c.taken text; out = c.out.items }
 
--- the verdict of a text with more behind it is that of what a course leaves with more behind it
-abbrev pub GoesOnAlike : Course → List ℕ → Verdict → Type 0
-GoesOnAlike c more v = v ≡ (course c.left (c.rest ++ more)).verdict
+-- a text with more behind it comes to what a course leaves with more behind it, and its answers stand behind those of the course
+abbrev pub GoesOnAlike : Course → List ℕ → Course → Type 0
+GoesOnAlike c more whole = whole ≡ behind_out c.out (course c.left (c.rest ++ more))
 
 -- a text that comes in two pieces, cut anywhere, comes to what the whole text does
 abbrev pub CutAnywhere : Type 0
 CutAnywhere = (left : ℕ) (text more : List ℕ) → (course left text).verdict ≡ verdict.Waits
-    → GoesOnAlike (course left text) more ((course left (text ++ more)).verdict)
+    → GoesOnAlike (course left text) more (course left (text ++ more))

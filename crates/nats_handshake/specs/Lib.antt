@@ -2,3 +2,5 @@ pub mod Greeting
 pub mod Errors
 pub mod Course
 pub mod Credentials
+pub mod Shaking
+pub mod Heard

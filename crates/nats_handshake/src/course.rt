@@ -2,7 +2,7 @@
 ghost use Rattle.std.specs.Prelude.{◌≡◌, ◌≤◌, ◌<◌, ◌+◌, ◌^◌, ◌++◌, length, drop, IfOk};
 ghost use Rattle.nats_wire.specs.declared.op.ClientOp.TheVariants as client;
 ghost use Rattle.nats_wire.specs.Commands.{command_text};
-ghost use Rattle.nats_wire.specs.Operations.{op_view, front};
+ghost use Rattle.nats_wire.specs.Operations.{peeked_view, front};
 ghost use Rattle.nats_names.specs.declared.cause.Cause.TheVariants as cause;
 ghost use Rattle.nats_handshake.specs.declared.course.Greeting.TheVariants as greeting;
 ghost use Rattle.nats_handshake.specs.Course.{greeted_within, greeting_by, greeting_at, refusal_by, step_by, step_at, taken_by, course, behind_out, course_view, io};
@@ -10,7 +10,7 @@ ghost use Rattle.nats_handshake.specs.Course.{greeted_within, greeting_by, greet
 use crate::error::{ConnectErrorKind, Refusal};
 use nats_names::{Cause, NoMemory, OpWord, ServerError};
 use nats_wire::front::{Front, front_of};
-use nats_wire::{ServerInfo, ServerOp};
+use nats_wire::{PeekedOp, ServerInfo};
 use std::alloc::Global;
 
 /// How many operations may come behind the INFO before the PONG is there. The crate waits for one; own limit.
@@ -77,16 +77,16 @@ fn unexpected(word: OpWord) -> Greeting
     Greeting::Refuses(io(Cause::Unexpected(word)))
 }
 
-fn greeting_by(op: ServerOp, len: usize) -> Greeting
-    ensures { result ≡ greeting_by (op_view op) len }
+fn greeting_by(op: PeekedOp, len: usize) -> Greeting
+    ensures { result ≡ greeting_by (peeked_view op) len }
 {
     match op {
-        ServerOp::Info(info) => Greeting::Greets(Box::into_inner(info), len),
-        ServerOp::Ok => unexpected(OpWord::Ok),
-        ServerOp::Ping => unexpected(OpWord::Ping),
-        ServerOp::Pong => unexpected(OpWord::Pong),
-        ServerOp::Error(_) => unexpected(OpWord::Err),
-        ServerOp::Message { .. } => unexpected(OpWord::Msg),
+        PeekedOp::Info(info) => Greeting::Greets(Box::into_inner(info), len),
+        PeekedOp::Ok => unexpected(OpWord::Ok),
+        PeekedOp::Ping => unexpected(OpWord::Ping),
+        PeekedOp::Pong => unexpected(OpWord::Pong),
+        PeekedOp::Error(_) => unexpected(OpWord::Err),
+        PeekedOp::Message { .. } => unexpected(OpWord::Msg),
     }
 }
 
@@ -98,7 +98,7 @@ pub fn read_greeting(alloc: Global, text: &[u8]) -> Result<Greeting, NoMemory>
     match front_of(alloc, text)? {
         Front::Unfinished => Ok(Greeting::Waits),
         Front::Fault(_) => Ok(Greeting::Refuses(io(Cause::ReadFault))),
-        Front::Got(op, len) => Ok(greeting_by(Box::into_inner(op), len)),
+        Front::Got(op, len) => Ok(greeting_by(op, len)),
     }
 }
 
@@ -115,15 +115,15 @@ fn refusal_by(error: ServerError) -> Refusal
     }
 }
 
-fn step_by(op: ServerOp, len: usize) -> Step
-    ensures { result ≡ step_by (op_view op) len }
+fn step_by(op: PeekedOp, len: usize) -> Step
+    ensures { result ≡ step_by (peeked_view op) len }
 {
     match op {
-        ServerOp::Ok | ServerOp::Info(_) => Step::Skips(len),
-        ServerOp::Ping => Step::Answers(len),
-        ServerOp::Pong => Step::Succeeds(len),
-        ServerOp::Error(error) => Step::Refuses(refusal_by(error)),
-        ServerOp::Message { .. } => Step::Refuses(io(Cause::Unexpected(OpWord::Msg))),
+        PeekedOp::Ok | PeekedOp::Info(_) => Step::Skips(len),
+        PeekedOp::Ping => Step::Answers(len),
+        PeekedOp::Pong => Step::Succeeds(len),
+        PeekedOp::Error(error) => Step::Refuses(refusal_by(error)),
+        PeekedOp::Message { .. } => Step::Refuses(io(Cause::Unexpected(OpWord::Msg))),
     }
 }
 
@@ -135,7 +135,7 @@ fn read_step(alloc: Global, text: &[u8]) -> Result<Step, NoMemory>
     match front_of(alloc, text)? {
         Front::Unfinished => Ok(Step::Waits),
         Front::Fault(_) => Ok(Step::Refuses(io(Cause::ReadFault))),
-        Front::Got(op, len) => Ok(step_by(Box::into_inner(op), len)),
+        Front::Got(op, len) => Ok(step_by(op, len)),
     }
 }
 
@@ -151,7 +151,7 @@ fn ended(verdict: Verdict, taken: usize, left: usize, out: Vec<u8>) -> Course
 }
 
 // What the text behind `taken` bytes comes to, of a course that begins there.
-fn begun(taken: usize, more: Course) -> Course
+pub(crate) fn begun(taken: usize, more: Course) -> Course
     requires { taken + more.taken < 2 ^ 64 }
     ensures { result ≡ record more { taken = taken + more.taken } }
 {
@@ -169,7 +169,7 @@ fn with_pong(out: Vec<u8>) -> Result<Vec<u8>, NoMemory>
     Ok(out)
 }
 
-fn behind(text: &[u8], len: usize) -> &[u8]
+pub(crate) fn behind(text: &[u8], len: usize) -> &[u8]
     requires { len ≤ length text.now }
     ensures { result.now ≡ drop len text.now }
 {

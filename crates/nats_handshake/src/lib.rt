@@ -4,15 +4,21 @@
 mod course;
 mod error;
 mod greeting;
+mod handshake;
 pub mod laws;
+#[cfg(test)]
+mod machine_tests;
 mod offer;
+mod stage;
 #[cfg(test)]
 mod tests;
 
 pub use course::{Course, Greeting, HANDSHAKE_OPERATIONS, Verdict, read_course, read_greeting};
 pub use error::{ConnectError, ConnectErrorKind, Refusal};
 pub use greeting::{CLIENT_LANG, CLIENT_VERSION, connect_info};
+pub use handshake::Handshake;
 pub use nats_connect::{ConnectInfo, Protocol, connect_text};
 pub use nats_names::{NoMemory, Text};
 pub use nats_pool::{Auth, ConnectOptions};
 pub use offer::credentials;
+pub use stage::{Shake, Stage};

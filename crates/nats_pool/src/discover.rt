@@ -1,5 +1,6 @@
 //! The servers that a server tells of.
-ghost use Rattle.std.specs.Prelude.{◌≡◌, map, IfOk, OnOk};
+ghost use Rattle.std.specs.Prelude.{◌≡◌, ℕ, List, map, Result, IfOk, OnOk, OnErr};
+ghost use Rattle.nats_names.specs.declared.addr_error.AddrError.{AddrError};
 ghost use Rattle.nats_pool.specs.Discovery.{with_discovered, with_all, Discovers};
 
 use crate::choose::has_server;
@@ -40,6 +41,25 @@ fn with_all(
         add(&mut all, addr)?;
     }
     Ok(all)
+}
+
+/// What takes in the servers that a server tells of. Own trait: a handshake needs no more of a pool.
+pub trait ServerList {
+    /// `Takes before after urls result` says that these texts come to `after`, with this answer.
+    ghost Takes: { Self → Self → List (List ℕ) → Result (Unit {0}) AddrError → Type 0 };
+
+    /// Takes in the servers of these addresses, all of them or none.
+    fn take_in(&mut self, alloc: Global, urls: &[Text]) -> Result<(), AddrError>
+        ensures takes { Takes self.old self.new urls.now result }
+        ensures refused { OnErr result (self.new ≡ self.old) };
+}
+
+impl ServerList for Pool {
+    ghost Takes = { λ before after urls result. Discovers urls before after result };
+
+    fn take_in(&mut self, alloc: Global, urls: &[Text]) -> Result<(), AddrError> {
+        self.discover(alloc, urls)
+    }
 }
 
 impl Pool {

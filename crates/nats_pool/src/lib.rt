@@ -23,6 +23,7 @@ pub use callbacks::{
 };
 pub use connect_options::ConnectOptions;
 pub use delay::reconnect_delay_default;
+pub use discover::ServerList;
 pub use nats_addr::{
     AskWord, FakeResolver, ResolveError, Resolver, ServerAddr, SocketAddrs, ToServerAddrs, Url,
     addrs_of_texts,
