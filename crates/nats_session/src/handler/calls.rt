@@ -160,7 +160,8 @@ impl ConnectionHandler {
     }
 
     /// So long passed that the link is to show that it still works: a `PING` is written, or the link ends where two ticks of
-    /// this link have no answer yet. Its condition is `check` of that turn. The crate's timer of pings does so.
+    /// this link have no answer yet; that end is like any other (see `lost`). Its condition is `check` of that turn. The crate's
+    /// timer of pings does so.
     ///
     /// # Errors
     ///
@@ -174,8 +175,9 @@ impl ConnectionHandler {
         self.ping_or_end(alloc)
     }
 
-    /// The link was lost: it ends, the bytes that waited for it go, and accepted calls wait for the next one. Its condition is
-    /// `check` of that turn. The crate's handler does so after a fault of its stream.
+    /// The link was lost: it ends, the bytes that waited for it go, subscriptions whose drain was handled end, and accepted calls
+    /// wait for the next one; where a drain of the session was handled, the session closes. Its condition is `check` of that
+    /// turn. The crate's handler does so after a fault of its stream; what a drain comes to then is own choice.
     ///
     /// # Errors
     ///
@@ -261,14 +263,15 @@ impl ConnectionHandler {
         }
     }
 
-    /// Takes in a call, or refuses it by the first of these that holds. `InvalidSubject`: a publish whose subject, or a reply
-    /// that is there, is empty, or is not publishable and the settings don't skip that; a subscribe whose subject is not valid.
-    /// `InvalidQueueName`: a group that is not publishable. `MaxPayloadExceeded`: the payload with its header block is larger
-    /// than the server of the newest link takes, 1,048,576 bytes before any. `Closed`: the session closed, or a drain of the whole
-    /// session was accepted. `NoNumber`: a subscribe, and number 2^64 - 1 was
-    /// given. `Full`: as many accepted calls wait as the client capacity. A refused call is dropped and changes nothing, but
-    /// that a `DropSub` lets its subscription go whatever the reply. An accepted call is handled by `advance`, in the order of
-    /// acceptance; an accepted `Unsubscribe` shuts its subscription at once. Its condition is `check` of that turn. The crate's
+    /// Takes in a call, or refuses it by the first of these that holds. `InvalidSubject`: a publish whose subject, or
+    /// a reply that is there, is empty, or is not publishable and the settings don't skip that; a subscribe whose
+    /// subject is not valid. `InvalidQueueName`: a group that is not publishable. `MaxPayloadExceeded`: the payload
+    /// with its header block is larger than the server of the newest link takes, 1,048,576 bytes before any.
+    /// `Closed`: the session closed, or a drain of the whole session was accepted. `NoNumber`: a subscribe, and
+    /// number 2^64 - 1 was given. `Full`: as many accepted calls wait as the client capacity. A refused call is
+    /// dropped and changes nothing, but that a `DropSub` lets its subscription go whatever the reply. An accepted
+    /// call is handled by `advance`, in the order of acceptance; an accepted `Unsubscribe` shuts its subscription at
+    /// once, an accepted `DrainAll` the session to further calls. Its condition is `check` of that turn. The crate's
     /// tests of what is published and subscribed to, and its bounded channel of commands.
     ///
     /// # Errors
@@ -311,7 +314,8 @@ impl ConnectionHandler {
     }
 
     /// Plays the one step that is due, with what follows it at once, and names it; `Nothing` exactly where none is due.
-    /// Reading comes before the calls that wait, as in the crate.
+    /// Reading comes before the calls that wait, as in the crate. A handled `Drain` asks the server for no more and writes a
+    /// `PING`, at whose `PONG` the subscription ends; the `PONG` of a `DrainAll` ends the link and closes the session.
     ///
     /// # Errors
     ///
