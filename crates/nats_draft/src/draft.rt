@@ -190,12 +190,7 @@ fn note_on(row: &mut SubRow, alloc: Global, place: u64, note: Note) -> Result<()
     }
 }
 
-fn put_on(
-    row: &mut SubRow,
-    alloc: Global,
-    place: u64,
-    message: &Message,
-) -> Result<(), NoMemory>
+fn put_on(row: &mut SubRow, alloc: Global, place: u64, message: &Message) -> Result<(), NoMemory>
     ensures { OnOk result (row.new ≡ write_put place message.now row.old) }
 {
     row.puts.push(alloc, (place, message.copy(alloc)?))

@@ -238,11 +238,8 @@ fn note_coming(
             Delivery::Put => draft.note_put(alloc, place, *sid, message),
             Delivery::Dropped | Delivery::Unwanted | Delivery::Ignored => Ok(()),
         },
-        PeekedOp::Ok
-        | PeekedOp::Info(_)
-        | PeekedOp::Ping
-        | PeekedOp::Pong
-        | PeekedOp::Error(_) => Ok(()),
+        PeekedOp::Ok | PeekedOp::Info(_) | PeekedOp::Ping | PeekedOp::Pong | PeekedOp::Error(_) =>
+            Ok(()),
     }
 }
 
