@@ -97,7 +97,8 @@ fn offer_opening(
     info: &ServerInfo,
     options: &ConnectOptions,
 ) -> Result<Vec<u8>, Refusal>
-    ensures { Opens (Offers SignerAnswers AuthAnswers options.now.signer options.now.auth_callback (auth_value options.now.auth))
+    ensures { Opens (Offers SignerAnswers AuthAnswers options.now.signer options.now.auth_callback
+        (auth_value options.now.auth))
         options.now.name options.now.no_echo info.now.nonce result }
 {
     match credentials(alloc, options, info.nonce.as_str().as_bytes()) {
@@ -263,7 +264,8 @@ impl Handshake {
         pool: &mut P,
     ) -> Result<Shake, Refusal>
         ensures { Hears (P.Takes pool.old pool.new) (pool.new ≡ pool.old)
-            (Offers SignerAnswers AuthAnswers options.now.signer options.now.auth_callback (auth_value options.now.auth))
+            (Offers SignerAnswers AuthAnswers options.now.signer options.now.auth_callback
+            (auth_value options.now.auth))
             options.now.tls_required options.now.name options.now.no_echo
             (greeting_at (front self.old.unread)) self.old result self.new }
     {
@@ -288,7 +290,8 @@ impl Handshake {
         pool: &mut P,
     ) -> Result<Shake, Refusal>
         ensures { Heeds (P.Takes pool.old pool.new) (pool.new ≡ pool.old)
-            (Offers SignerAnswers AuthAnswers options.now.signer options.now.auth_callback (auth_value options.now.auth))
+            (Offers SignerAnswers AuthAnswers options.now.signer options.now.auth_callback
+            (auth_value options.now.auth))
             options.now.tls_required options.now.name options.now.no_echo
             self.old.stage self.old result self.new }
     {
@@ -336,7 +339,8 @@ impl Handshake {
         pool: &mut P,
     ) -> Result<Shake, ConnectError>
         ensures { Feeds (P.Takes pool.old pool.new) (pool.new ≡ pool.old)
-            (Offers SignerAnswers AuthAnswers options.now.signer options.now.auth_callback (auth_value options.now.auth))
+            (Offers SignerAnswers AuthAnswers options.now.signer options.now.auth_callback
+            (auth_value options.now.auth))
             options.now.tls_required options.now.name options.now.no_echo
             self.old bytes.now result self.new }
     {
@@ -378,7 +382,8 @@ impl Handshake {
         pool: &mut P,
     ) -> Result<Shake, ConnectError>
         ensures { FedOpen (P.Takes pool.old pool.new) (pool.new ≡ pool.old)
-            (Offers SignerAnswers AuthAnswers options.now.signer options.now.auth_callback (auth_value options.now.auth))
+            (Offers SignerAnswers AuthAnswers options.now.signer options.now.auth_callback
+            (auth_value options.now.auth))
             options.now.tls_required options.now.name options.now.no_echo
             self.old.stage self.old bytes.now result self.new }
     {
@@ -398,7 +403,8 @@ impl Handshake {
         pool: &mut P,
     ) -> Result<Shake, ConnectError>
         ensures { Settles (P.Takes pool.old pool.new) (pool.new ≡ pool.old)
-            (Offers SignerAnswers AuthAnswers options.now.signer options.now.auth_callback (auth_value options.now.auth))
+            (Offers SignerAnswers AuthAnswers options.now.signer options.now.auth_callback
+            (auth_value options.now.auth))
             options.now.tls_required options.now.name options.now.no_echo
             self.old.stage before self.old result self.new }
     {
