@@ -25,7 +25,7 @@ use Rattle.nats_subs.specs.declared.subs.subscription.Delivery.TheVariants.{Put,
 use Rattle.nats_history.specs.Queue.{first}
 use Rattle.nats_tables.specs.Numbers.{at_number, item_of, change}
 use Rattle.nats_history.specs.History.{Step, cut, read, handled, link_end, History, drained_by, second, kept, events}
-use Rattle.nats_history.specs.Parts.{Subs, Parts, parts_of}
+use Rattle.nats_history.specs.Parts.{Parts, parts_of}
 use Rattle.nats_history.specs.Schedule.{is_valid_turn, refusal, call_reply, accepted_step, call_steps, due, chain, ends_link, put_steps}
 use Rattle.nats_history.specs.After.{after, events_of}
 use Rattle.nats_subs.specs.Delivery.{delivery_at, deliver, altered, with_rows, rows_with}

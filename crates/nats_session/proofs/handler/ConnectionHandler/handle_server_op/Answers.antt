@@ -1,5 +1,5 @@
 -- A message that was brought to its subscription and taken away was read.
-use Rattle.std.proofs.Common.{◌∙◌, ap, sym}
+use Rattle.std.proofs.Common.{ap}
 use Rattle.std.proofs.lemmas.Result.{on_ok_weaker}
 use Rattle.nats_wire.specs.Operations.{peeked_view}
 use Rattle.nats_session.proofs.Messages.{consumed_seen}
