@@ -1,0 +1,44 @@
+//! The handshake of a link, to its end.
+ghost use Rattle.std.specs.Prelude.{◌≡◌, ℕ, Bool, List};
+ghost use Rattle.nats_pool.specs.Auths.{auth_value};
+ghost use Rattle.nats_handshake.specs.Credentials.{SignerAnswers, AuthAnswers, Offers};
+ghost use Rattle.nats_handshake.specs.Heard.{IsOpen};
+ghost use Rattle.nats_dial.specs.Lines.{Looked, Line, Shaken};
+
+use crate::link::wanting;
+use crate::turn::turn;
+use nats_handshake::{ConnectError, ConnectOptions, Handshake, Shake};
+use nats_outside::{Clock, LinkRead, LinkWrite};
+use nats_pool::ServerList;
+use std::alloc::Global;
+
+// Reads and answers until the handshake succeeds, or fails.
+pub(crate) fn shake<R: LinkRead, T: LinkWrite, C: Clock, P: ServerList>(
+    alloc: Global,
+    shaking: &mut Handshake,
+    options: &ConnectOptions,
+    pool: &mut P,
+    read: &mut R,
+    write: &mut T,
+    clock: &mut C,
+) -> Result<(), ConnectError>
+    ensures looked { Looked (C.clock_told clock.old) (C.clock_told clock.new) }
+    ensures beside { C.beside_clock clock.new ≡ C.beside_clock clock.old }
+    ensures shaken { (by_scheme : Bool) (start timeout : ℕ) (text wrote : List ℕ) → IsOpen shaking.old.stage
+        → Line (Offers SignerAnswers AuthAnswers options.now.signer options.now.auth_callback (auth_value options.now.auth))
+            options.now.name options.now.no_echo by_scheme start timeout text wrote
+            shaking.old (R.read_told read.old) (T.write_told write.old)
+        → Shaken P.Takes
+            (Offers SignerAnswers AuthAnswers options.now.signer options.now.auth_callback (auth_value options.now.auth))
+            options.now.tls_required options.now.name options.now.no_echo by_scheme start timeout
+            result shaking.new (R.read_told read.new) (T.write_told write.new) (C.clock_told clock.new) }
+{
+    'turns: for _ in 0..u64::MAX {
+        match turn(alloc, shaking, options, pool, read, write, clock) {
+            Ok(Shake::More) => {}
+            Ok(Shake::Done) => return Ok(()),
+            Err(error) => return Err(error),
+        }
+    }
+    Err(wanting())
+}
