@@ -136,7 +136,8 @@ module _ {P : Type 0} (Takes : P → P → List (List ℕ) → Result (Unit {0})
           time = k.timeout ∙ line.time;
           is_tls = k.is_tls ∙ line.is_tls;
           gave = gave_by n r.pieces buf text some line.gave;
-          took = rw said (took_by w.taken wrote more.0 line.took);
+          took = subst (λ (l : List ℕ). IfSome (append_known w.taken l) (λ (b : List ℕ). b ≡ wrote ++ more.0)) (sym said)
+              (took_by w.taken wrote more.0 line.took);
           no_ends = no_end n buf r.ends some line.no_ends;
           no_faults = line.no_faults;
           no_write_faults = line.no_write_faults;

@@ -69,6 +69,11 @@ pub record Line (Offers : List ℕ → Result AuthValue (List ℕ) → Type 0) (
   pub no_faults : r.faults ≡ 0
   pub no_write_faults : w.faults ≡ 0
 
+-- the stage after an answer
+abbrev pub IsAt : Shake → Stage → Type 0
+IsAt shake.More at = IsOpen at
+IsAt shake.Done at = (info : ServerInfo) × (at ≡ stage.Linked info)
+
 -- `Takes p q urls r` says what becomes of a list of servers p at the addresses of an INFO; `Offers nonce r` that r is what the
 -- client authenticates by for a nonce; it wants TLS by an option, or doesn't; it has this name; it wants no echo; the address is of
 -- `tls`, or isn't; the handshake began then and may take so long
@@ -86,11 +91,6 @@ module _ {P : Type 0} (Takes : P → P → List (List ℕ) → Result (Unit {0})
     Broke e r w c = (e ≡ wanting) ⊎ (((e ≡ (kind.TimedOut, None)) × (start + timeout ≤ c.last))
         ⊎ (((e ≡ io cause.Fault) × (1 ≤ r.faults + w.faults))
         ⊎ (((at : Stage) × IsOpen at × (e ≡ io (end_cause at)) × (1 ≤ r.ends)) ⊎ Refused e r)))
-
-    -- the stage after an answer
-    abbrev pub IsAt : Shake → Stage → Type 0
-    IsAt shake.More at = IsOpen at
-    IsAt shake.Done at = (info : ServerInfo) × (at ≡ stage.Linked info)
 
     -- what one read and its answer come to
     abbrev pub Turned : Result Shake Failure → Talk → ReadTold → WriteTold → ClockTold → Type 0

@@ -37,7 +37,11 @@ pub(crate) fn turn<R: LinkRead, T: LinkWrite, C: Clock, P: ServerList>(
 {
     let mut buf = [0u8; READ_SIZE];
     let count = read_in_time(shaking, read, clock, &mut buf)?;
-    let shake = shaking.feed(alloc, &buf[..count], options, pool)?;
-    write_out(alloc, shaking, write)?;
-    Ok(shake)
+    match shaking.feed(alloc, &buf[..count], options, pool) {
+        Ok(shake) => {
+            write_out(alloc, shaking, write)?;
+            Ok(shake)
+        }
+        Err(error) => Err(error),
+    }
 }
