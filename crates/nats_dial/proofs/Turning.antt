@@ -1,29 +1,24 @@
 -- One read of a link in its handshake, and the answer.
-use Rattle.std.proofs.Common.{◌≡◌, refl, ◌∙◌, sym, ap, subst, ◌⊎◌, inl, inr, ℕ, zero, suc, ◌+◌, ◌≤◌, ◌<◌, Bool, List, [], ◌∷◌, ◌++◌, take, drop, length, append-nil, arith, Option, Some, None, Result, Ok, Err, IfSome}
-use Rattle.std.specs.Option.{option_map}
+use Rattle.std.proofs.Common.{◌≡◌, refl, ◌∙◌, sym, ap, subst, ℕ, zero, suc, ◌<◌, Bool, List, [], ◌∷◌, ◌++◌, take, append-nil, arith, Option, Some, None, Result, Ok, Err, IfSome}
 use Rattle.std.specs.List.{concat}
 use Rattle.std.proofs.lemmas.List.Folds.{concat-append}
 use Rattle.nats_names.specs.declared.addr_error.AddrError.{AddrError}
-use Rattle.nats_names.specs.declared.addr_error.AddrError.TheVariants as addr
-use Rattle.nats_names.specs.declared.cause.Cause.{Cause}
 use Rattle.nats_info.specs.declared.info.ServerInfo.{ServerInfo}
 use Rattle.nats_pool.specs.Auths.{AuthValue}
 use Rattle.nats_wire.specs.Operations.{front}
 use Rattle.nats_addr.specs.Resolving.{risen}
 use Rattle.nats_outside.specs.Told.{ReadTold, WriteTold, ClockTold, read_of, piece_more, ends_met}
 use Rattle.std.specs.Io.KnownBytes.{append_known}
-use Rattle.nats_handshake.specs.declared.error.ConnectErrorKind.{ConnectErrorKind}
-use Rattle.nats_handshake.specs.declared.error.ConnectErrorKind.TheVariants as kind
 use Rattle.nats_handshake.specs.declared.stage.Stage.{Stage}
 use Rattle.nats_handshake.specs.declared.stage.Stage.TheVariants as stage
 use Rattle.nats_handshake.specs.declared.stage.Shake.{Shake}
 use Rattle.nats_handshake.specs.declared.stage.Shake.TheVariants as shake
 use Rattle.nats_handshake.specs.declared.course.Greeting.{Greeting}
 use Rattle.nats_handshake.specs.declared.course.Greeting.TheVariants as greeting
-use Rattle.nats_handshake.specs.Course.{Course, course, greeting_at}
+use Rattle.nats_handshake.specs.Course.{Course, greeting_at}
 use Rattle.nats_handshake.specs.Errors.{Failure}
-use Rattle.nats_handshake.specs.Shaking.{Talk, Declines, Goes, Greeted, Heeds, FedOpen, FedAt, Feeds, with_bytes}
-use Rattle.nats_handshake.specs.Heard.{IsOpen, Heard, HeardMore, RefusesIn, RefusesText}
+use Rattle.nats_handshake.specs.Shaking.{Talk, Goes, Greeted, Heeds, FedAt, with_bytes}
+use Rattle.nats_handshake.specs.Heard.{IsOpen}
 use Rattle.nats_handshake.proofs.Hearing.{heard_next, refuses_next}
 use Rattle.nats_dial.specs.Lines.{Line, IsAt, Turned, Refused, wrote_all}
 
@@ -129,19 +124,26 @@ module _ {P : Type 0} (Takes : P → P → List (List ℕ) → Result (Unit {0})
         let k = heeds_kept (Takes p q) (q ≡ p) Offers by_option name no_echo t.stage (with_bytes t bytes) new s going h in
         let more = heard_next (Takes p q) (q ≡ p) Offers by_option name no_echo t.stage (with_bytes t bytes) new s t.unread wrote text bytes going refl refl line.heard h in
         let said : new.out ≡ more.0 = more.1 ∙ ap (λ (l : List ℕ). l ++ more.0) line.out in
-        rw (out, written, read) (at, (text ++ bytes, wrote ++ more.0, record {
-          heard = more.2;
-          out = refl;
-          began = k.start ∙ line.began;
-          time = k.timeout ∙ line.time;
-          is_tls = k.is_tls ∙ line.is_tls;
-          gave = gave_by n r.pieces buf text some line.gave;
-          took = subst (λ (l : List ℕ). IfSome (append_known w.taken l) (λ (b : List ℕ). b ≡ wrote ++ more.0)) (sym said)
-              (took_by w.taken wrote more.0 line.took);
-          no_ends = no_end n buf r.ends some line.no_ends;
-          no_faults = line.no_faults;
-          no_write_faults = line.no_write_faults;
-        }))
+        rw (out, written, read) (
+          at,
+          (
+            text ++ bytes,
+            wrote ++ more.0,
+            record {
+              heard = more.2;
+              out = refl;
+              began = k.start ∙ line.began;
+              time = k.timeout ∙ line.time;
+              is_tls = k.is_tls ∙ line.is_tls;
+              gave = gave_by n r.pieces buf text some line.gave;
+              took = subst (λ (l : List ℕ). IfSome (append_known w.taken l) (λ (b : List ℕ). b ≡ wrote ++ more.0)) (sym said)
+                  (took_by w.taken wrote more.0 line.took);
+              no_ends = no_end n buf r.ends some line.no_ends;
+              no_faults = line.no_faults;
+              no_write_faults = line.no_write_faults;
+            },
+          ),
+        )
 
     -- the bytes of a read were refused
     pub line_refused : (p q : P) (e : Failure) (t new : Talk) (r next : ReadTold) (w : WriteTold) (n : ℕ) (buf text wrote : List ℕ)

@@ -1,5 +1,5 @@
 -- A link in its handshake: what its halves told, and why the handshake failed.
-use Rattle.std.specs.Prelude.{◌≡◌, ◌⊎◌, ℕ, ◌+◌, ◌≤◌, ◌<◌, Bool, false, List, [], ◌++◌, length, Option, Some, None, Result, Ok, Err, IfSome}
+use Rattle.std.specs.Prelude.{◌≡◌, ◌⊎◌, ℕ, ◌+◌, ◌≤◌, ◌<◌, Bool, List, [], length, Option, None, Result, Ok, Err, IfSome}
 use Rattle.std.specs.List.{concat}
 use Rattle.std.specs.Io.KnownBytes.{append_known}
 use Rattle.nats_names.specs.declared.addr_error.AddrError.{AddrError}
@@ -15,7 +15,7 @@ use Rattle.nats_handshake.specs.declared.stage.Shake.TheVariants as shake
 use Rattle.nats_handshake.specs.Course.{io}
 use Rattle.nats_handshake.specs.Errors.{Failure}
 use Rattle.nats_handshake.specs.Shaking.{Talk, wanting, end_cause}
-use Rattle.nats_handshake.specs.Heard.{IsOpen, Heard, Wrote, Succeeds, RefusesText}
+use Rattle.nats_handshake.specs.Heard.{IsOpen, Heard, RefusesText}
 
 -- a clock was looked at, some times
 abbrev pub Looked : ClockTold → ClockTold → Type 0

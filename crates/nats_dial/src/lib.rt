@@ -1,12 +1,14 @@
-//! Connecting: dialing an address of a server and shaking hands, over an outside that is handed in.
+//! The handshake of a link over its two halves and a clock, which are handed in.
 #![tactic(auto)]
 
 mod link;
-mod linked;
 mod shake;
+#[cfg(test)]
+mod tests;
 mod turn;
 
-pub use linked::Linked;
-pub use nats_handshake::{ConnectError, ConnectErrorKind, ConnectOptions, NoMemory};
-pub use nats_outside::Reach;
-pub use nats_pool::{Pool, ServerInfo, ServerList};
+pub use nats_handshake::{ConnectError, ConnectErrorKind, ConnectOptions, Handshake, NoMemory};
+pub use nats_outside::{Clock, LinkRead, LinkWrite};
+pub use nats_pool::ServerList;
+pub use shake::shake_hands;
+pub use turn::READ_SIZE;

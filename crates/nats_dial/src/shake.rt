@@ -12,8 +12,17 @@ use nats_outside::{Clock, LinkRead, LinkWrite};
 use nats_pool::ServerList;
 use std::alloc::Global;
 
-// Reads and answers until the handshake succeeds, or fails.
-pub(crate) fn shake<R: LinkRead, T: LinkWrite, C: Clock, P: ServerList>(
+/// Shakes hands over the two halves of a link, with a look at the clock before each read and after it: reads, feeds the handshake,
+/// and writes all that it has to say, until it succeeds. What the link gave is then one text, cut anywhere, that the handshake takes
+/// as `Handshake::feed` says, and what it took is CONNECT, PING and the answers. `pool` takes in the servers that the INFO tells
+/// of. It is for a handshake that was just made, or one that is still open. Own call: the crate does this on its socket.
+///
+/// # Errors
+///
+/// `TimedOut` only where the clock gave the start plus the time of the handshake, or later. `Io` with the cause `Fault` only where a
+/// half failed, with `NoInfo` or `BrokenPipe` only where the link ended. Any other only where the handshake refuses the whole text
+/// that the link gave, with that kind and cause. Want of memory.
+pub fn shake_hands<R: LinkRead, T: LinkWrite, C: Clock, P: ServerList>(
     alloc: Global,
     shaking: &mut Handshake,
     options: &ConnectOptions,
@@ -26,12 +35,12 @@ pub(crate) fn shake<R: LinkRead, T: LinkWrite, C: Clock, P: ServerList>(
     ensures beside { C.beside_clock clock.new ≡ C.beside_clock clock.old }
     ensures shaken { (by_scheme : Bool) (start timeout : ℕ) (text wrote : List ℕ) → IsOpen shaking.old.stage
         → Line (Offers SignerAnswers AuthAnswers options.now.signer options.now.auth_callback (auth_value options.now.auth))
-            options.now.name options.now.no_echo by_scheme start timeout text wrote
-            shaking.old (R.read_told read.old) (T.write_told write.old)
+        options.now.name options.now.no_echo by_scheme start timeout text wrote
+        shaking.old (R.read_told read.old) (T.write_told write.old)
         → Shaken P.Takes
-            (Offers SignerAnswers AuthAnswers options.now.signer options.now.auth_callback (auth_value options.now.auth))
-            options.now.tls_required options.now.name options.now.no_echo by_scheme start timeout
-            result shaking.new (R.read_told read.new) (T.write_told write.new) (C.clock_told clock.new) }
+        (Offers SignerAnswers AuthAnswers options.now.signer options.now.auth_callback (auth_value options.now.auth))
+        options.now.tls_required options.now.name options.now.no_echo by_scheme start timeout
+        result shaking.new (R.read_told read.new) (T.write_told write.new) (C.clock_told clock.new) }
 {
     'turns: for _ in 0..u64::MAX {
         match turn(alloc, shaking, options, pool, read, write, clock) {

@@ -28,12 +28,12 @@ pub(crate) fn turn<R: LinkRead, T: LinkWrite, C: Clock, P: ServerList>(
     ensures beside { C.beside_clock clock.new ≡ C.beside_clock clock.old }
     ensures turned { (by_scheme : Bool) (start timeout : ℕ) (text wrote : List ℕ) → IsOpen shaking.old.stage
         → Line (Offers SignerAnswers AuthAnswers options.now.signer options.now.auth_callback (auth_value options.now.auth))
-            options.now.name options.now.no_echo by_scheme start timeout text wrote
-            shaking.old (R.read_told read.old) (T.write_told write.old)
+        options.now.name options.now.no_echo by_scheme start timeout text wrote
+        shaking.old (R.read_told read.old) (T.write_told write.old)
         → Turned P.Takes
-            (Offers SignerAnswers AuthAnswers options.now.signer options.now.auth_callback (auth_value options.now.auth))
-            options.now.tls_required options.now.name options.now.no_echo by_scheme start timeout
-            result shaking.new (R.read_told read.new) (T.write_told write.new) (C.clock_told clock.new) }
+        (Offers SignerAnswers AuthAnswers options.now.signer options.now.auth_callback (auth_value options.now.auth))
+        options.now.tls_required options.now.name options.now.no_echo by_scheme start timeout
+        result shaking.new (R.read_told read.new) (T.write_told write.new) (C.clock_told clock.new) }
 {
     let mut buf = [0u8; READ_SIZE];
     let count = read_in_time(shaking, read, clock, &mut buf)?;

@@ -1,5 +1,5 @@
 -- One read: what it gave was refused, or the answers were written.
-use Rattle.std.proofs.Common.{◌≡◌, refl, subst, inr, take, Ok, Err}
+use Rattle.std.proofs.Common.{◌≡◌, subst, inr, take, Ok, Err}
 use Rattle.nats_pool.specs.Auths.{auth_value}
 use Rattle.nats_handshake.specs.Credentials.{SignerAnswers, AuthAnswers, Offers}
 use Rattle.nats_handshake.specs.Shaking.{Talk, Feeds}

@@ -1,8 +1,8 @@
 -- Each read goes on from what the link gave and took before.
-use Rattle.std.proofs.Common.{◌≡◌, ◌∙◌, ap}
+use Rattle.std.proofs.Common.{◌∙◌, ap}
 use Rattle.nats_outside.specs.Told.{ClockTold}
 use Rattle.nats_dial.specs.Lines.{Looked}
-use Rattle.nats_dial.proofs.shake.shake.Goals as goal
+use Rattle.nats_dial.proofs.shake.shake_hands.Goals as goal
 
 looked_on : (a b d : ClockTold) → Looked a b → Looked b d → Looked a d
 looked_on a b d first second = second ∙ ap (λ (x : ClockTold). record x { last = d.last }) first
