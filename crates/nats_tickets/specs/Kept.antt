@@ -1,0 +1,56 @@
+-- What is kept of tickets, and what becomes of it.
+use Rattle.std.specs.Prelude.{ℕ, suc, ◌+◌, ◌-◌, List, [], ◌∷◌, ◌++◌, map}
+use Rattle.nats_history.specs.declared.call.CallReply.{CallReply}
+use Rattle.nats_history.specs.declared.call.CallReply.TheVariants.{Flushed, FlushFailed}
+use Rattle.nats_tables.specs.Numbers.{count_from}
+use Rattle.nats_history.specs.History.{next_number, Awaits, Tickets, flushed_by, left_by, flush_handled, flush_settled, ticket_of, replied}
+use Rattle.nats_tickets.specs.declared.flushes.Mark.{Mark}
+
+-- the tickets, and the settled ones that were not handed out, each with its reply, in the order in which they were settled
+pub record Kept : Type 0 where
+  pub tickets : Tickets
+  pub ready : List (ℕ × CallReply)
+
+abbrev pub nothing_kept : Kept
+nothing_kept = record { tickets = record { given = 0; handled = 0; flushing = [] }; ready = [] }
+
+-- what a mark awaits, where the link took so many bytes as marks count them
+abbrev pub awaits : ℕ → Mark → Awaits
+awaits taken mark = record { ticket = mark.ticket; ahead = mark.end - taken }
+
+abbrev pub mark_ticket : Mark → ℕ
+mark_ticket mark = mark.ticket
+
+abbrev pub tickets_of : List Mark → List ℕ
+tickets_of marks = map mark_ticket marks
+
+abbrev pub given_one : Kept → Kept
+given_one k = record k { tickets = record k.tickets { given = suc k.tickets.given } }
+
+-- the next flush is handled while so many bytes wait
+abbrev pub handled_one : ℕ → Kept → Kept
+handled_one waiting k = record {
+  tickets = flush_handled (next_number k.tickets.given k.tickets.handled) waiting k.tickets;
+  ready = k.ready ++ replied Flushed (flush_settled (next_number k.tickets.given k.tickets.handled) waiting);
+}
+
+-- the link took n bytes
+abbrev pub passed : ℕ → Kept → Kept
+passed n k = record {
+  tickets = record k.tickets { flushing = left_by n k.tickets.flushing };
+  ready = k.ready ++ replied Flushed (flushed_by n k.tickets.flushing);
+}
+
+-- the link ended
+abbrev pub failed : Kept → Kept
+failed k = record {
+  tickets = record k.tickets { flushing = [] };
+  ready = k.ready ++ replied FlushFailed (map ticket_of k.tickets.flushing);
+}
+
+-- the session closed while no flush awaits bytes: those whose call waits fail
+abbrev pub dropped : Kept → Kept
+dropped k = record {
+  tickets = record k.tickets { handled = k.tickets.given };
+  ready = k.ready ++ replied FlushFailed (count_from (suc k.tickets.handled) (k.tickets.given - k.tickets.handled));
+}
