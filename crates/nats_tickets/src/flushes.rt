@@ -19,6 +19,14 @@ pub(crate) struct Mark {
     end: u64,
 }
 
+impl Mark {
+    fn end(&self) -> u64
+        ensures { result ≡ self.now.end }
+    {
+        self.end
+    }
+}
+
 /// The tickets of flushes, from 1, in memory that is in the order of those that are unsettled or were not handed out. Each
 /// unsettled one has its room among those that are to be handed out. Our own; the crate has a channel for each.
 #[derive(Drop)]
@@ -63,7 +71,8 @@ fn settle_reached(
         → deque_len ready.new + (deque_len marks.new + others) ≤ deque_capacity ready.new }
 {
     'marks: while let Some(mark) = marks.front() {
-        let Mark { ticket, end } = *mark;
+        let ticket = mark.ticket;
+        let end = mark.end();
         if end.saturating_sub(taken) > n {
             return taken + n;
         }
@@ -92,7 +101,8 @@ fn drop_queued(ready: &mut VecDeque<(u64, CallReply)>, handled: u64, given: u64)
     requires room { deque_len ready.old + (given - handled) ≤ deque_capacity ready.old }
     ensures ready { ready.new.items
         ≡ ready.old.items ++ replied replies.FlushFailed (count_from (suc handled) (given - handled)) }
-    ensures room { deque_len ready.new ≤ deque_capacity ready.new }
+    ensures room { (others : _) → deque_len ready.old + (others + (given - handled)) ≤ deque_capacity ready.old
+        → deque_len ready.new + others ≤ deque_capacity ready.new }
 {
     'tickets: for ticket in handled..given {
         ready.push_back_reserved((ticket + 1, CallReply::FlushFailed));
