@@ -1,13 +1,12 @@
 -- Flushes await bytes in the order in which they were handled, so a write settles all that it reaches.
 use Rattle.std.specs.List.{filter}
-use Rattle.std.proofs.Common.{◌≡◌, ℕ, zero, suc, ◌-◌, ◌≤◌, ◌<◌, Bool, true, false, cond, nat_le, List, [], ◌∷◌, ◌++◌, length, drop, map, Option, Some, None, refl, sym, ◌∙◌, ap, subst, arith}
+use Rattle.std.proofs.Common.{◌≡◌, ℕ, zero, suc, ◌-◌, ◌≤◌, ◌<◌, Bool, true, false, cond, List, [], ◌∷◌, ◌++◌, length, drop, map, Option, Some, None, refl, sym, ◌∙◌, ap, subst, arith}
 use Rattle.std.proofs.lemmas.List.{append-nil, length-append, length-drop}
 use Rattle.std.proofs.lemmas.Bool.{leb-true, leb-false}
 use Rattle.nats_wire.specs.declared.op.ClientOp.{ClientOp}
 use Rattle.nats_wire.specs.Commands.{command_text}
 use Rattle.nats_history.specs.declared.config.Config.{Config}
-use Rattle.nats_history.specs.declared.call.Call.{Call}
-use Rattle.nats_history.specs.History.{Step, opened, taken, accepted, handled, link_end, closed, History, is_up, is_flush, next_number, at_of, rows_of, commands, link_text, taken_count, waiting_bytes, Awaits, Tickets, reaches, flushed_by, nearer, left_by, awaiting, flush_handled, ticket_of, tickets}
+use Rattle.nats_history.specs.History.{Step, opened, taken, handled, link_end, closed, History, is_up, is_flush, next_number, at_of, rows_of, commands, link_text, taken_count, waiting_bytes, Awaits, Tickets, reaches, flushed_by, nearer, left_by, awaiting, flush_handled, ticket_of, tickets}
 use Rattle.nats_history.specs.After.{write_all, written}
 use Rattle.nats_history.specs.Laws.{FlushesReached}
 use Rattle.nats_history.proofs.Refines.{bytes_next}

@@ -1,10 +1,10 @@
 -- Marks that a write reaches, from the front on.
-use Rattle.std.proofs.Common.{◌≡◌, ℕ, suc, ◌+◌, ◌-◌, ◌<◌, Bool, true, false, cond, nat_le, List, [], ◌∷◌, ◌++◌, length, drop, get_or, map, refl, sym, ◌∙◌, ap, arith}
+use Rattle.std.proofs.Common.{◌≡◌, ℕ, suc, ◌+◌, ◌-◌, ◌<◌, true, false, cond, nat_le, List, [], ◌∷◌, ◌++◌, length, drop, get_or, map, refl, sym, ◌∙◌, ap, arith}
 use Rattle.std.proofs.lemmas.List.{append-nil, append_assoc}
 use Rattle.nats_history.specs.declared.call.CallReply.{CallReply}
 use Rattle.nats_history.specs.declared.call.CallReply.TheVariants.{FlushFailed}
 use Rattle.nats_tables.specs.Numbers.{count_from}
-use Rattle.nats_history.specs.History.{Awaits, reaches, flushed_by, nearer, left_by, ticket_of, replied}
+use Rattle.nats_history.specs.History.{Awaits, flushed_by, nearer, left_by, ticket_of, replied}
 use Rattle.nats_tickets.specs.declared.flushes.Mark.{Mark}
 use Rattle.nats_tickets.specs.Kept.{Kept, awaits, tickets_of, failed}
 

@@ -157,8 +157,7 @@ impl Flushes {
         }
         let ticket = self.handled + 1;
         if waiting == 0 {
-            self.ready
-                .push_back_reserved((ticket, CallReply::Flushed));
+            self.ready.push_back_reserved((ticket, CallReply::Flushed));
         } else {
             let Some(end) = self.taken.checked_add(waiting) else {
                 return Err(NoMemory);

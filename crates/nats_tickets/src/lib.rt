@@ -3,5 +3,7 @@
 #![tactic(auto)]
 
 mod flushes;
+#[cfg(test)]
+mod tests;
 
 pub use flushes::Flushes;

@@ -1,5 +1,5 @@
 -- One ticket after another.
-use Rattle.std.proofs.Common.{◌++◌, ◌∙◌, ap, arith}
+use Rattle.std.proofs.Common.{arith}
 use Rattle.nats_tickets.proofs.Marks.{next_dropped}
 use Rattle.nats_history.specs.declared.call.CallReply.TheVariants as replies
 use Rattle.nats_tickets.proofs.flushes.drop_queued.Goals as goal

@@ -1,8 +1,6 @@
 -- No flush awaits bytes any more, and each has its reply.
-use Rattle.std.proofs.Common.{◌∙◌, ◌++◌, ap, map, arith}
-use Rattle.nats_history.specs.declared.call.CallReply.TheVariants as replies
-use Rattle.nats_history.specs.History.{replied}
-use Rattle.nats_tickets.specs.Kept.{Kept, failed, awaits}
+use Rattle.std.proofs.Common.{◌∙◌, ap}
+use Rattle.nats_tickets.specs.Kept.{failed}
 use Rattle.nats_tickets.proofs.Marks.{failed_kept}
 use Rattle.nats_tickets.proofs.flushes.Flushes.fail.Goals as goal
 
