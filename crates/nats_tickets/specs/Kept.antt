@@ -1,5 +1,6 @@
 -- What is kept of tickets, and what becomes of it.
-use Rattle.std.specs.Prelude.{ℕ, suc, ◌-◌, List, [], ◌++◌, map}
+use Rattle.std.specs.Prelude.{◌∷◌, ◌≡◌, ◌<◌, ◌==◌, Option, Some, None, if◌then◌else◌, length, ℕ, suc, ◌-◌, List, [], ◌++◌, map, slice_index_or}
+use Rattle.std.specs.List.{remove}
 use Rattle.nats_history.specs.declared.call.CallReply.{CallReply}
 use Rattle.nats_history.specs.declared.call.CallReply.TheVariants.{Flushed, FlushFailed}
 use Rattle.nats_tables.specs.Numbers.{count_from}
@@ -54,3 +55,19 @@ dropped k = record {
   tickets = record k.tickets { handled = k.tickets.given };
   ready = k.ready ++ replied FlushFailed (count_from (suc k.tickets.handled) (k.tickets.given - k.tickets.handled));
 }
+
+-- the reply of a ticket that settled and was not handed out
+abbrev pub reply_in : ℕ → List (ℕ × CallReply) → Option CallReply
+reply_in ticket [] = None
+reply_in ticket (settled ∷ more) = if ticket == settled.0 then Some settled.1 else reply_in ticket more
+
+-- the others
+abbrev pub without : ℕ → List (ℕ × CallReply) → List (ℕ × CallReply)
+without ticket [] = []
+without ticket (settled ∷ more) = if ticket == settled.0 then more else settled ∷ without ticket more
+
+-- where a ticket stands among the settled ones, if it does
+abbrev pub IsPlaceIn : ℕ → List (ℕ × CallReply) → Option ℕ → Type 0
+IsPlaceIn ticket settled None = (reply_in ticket settled ≡ None) × (without ticket settled ≡ settled)
+IsPlaceIn ticket settled (Some place) = (place < length settled)
+    × (((x : ℕ × CallReply) → x ≡ slice_index_or settled place x → reply_in ticket settled ≡ Some x.1) × (without ticket settled ≡ remove settled place))

@@ -1,11 +1,11 @@
 //! How tickets are kept: this file alone knows.
-ghost use Rattle.std.specs.Prelude.{◌≡◌, ◌≤◌, ◌+◌, ◌-◌, suc, [], ◌∷◌, ◌++◌, drop, map, OnOk, OnErr};
+ghost use Rattle.std.specs.Prelude.{◌≡◌, ◌≤◌, ◌+◌, ◌-◌, ◌==◌, suc, [], ◌∷◌, ◌++◌, drop, map, OnOk, OnErr};
 ghost use Rattle.std.specs.VecDeque.{deque_len, deque_capacity};
 ghost use Rattle.nats_tables.specs.Numbers.{count_from};
 ghost use Rattle.nats_history.specs.declared.call.CallReply.TheVariants as replies;
 ghost use Rattle.nats_history.specs.History.{flushed_by, left_by, replied};
 ghost use Rattle.nats_history.specs.Queue.{first};
-ghost use Rattle.nats_tickets.specs.Kept.{nothing_kept, awaits, tickets_of, given_one, handled_one, passed, failed, dropped};
+ghost use Rattle.nats_tickets.specs.Kept.{nothing_kept, awaits, tickets_of, given_one, handled_one, passed, failed, dropped, reply_in, without, IsPlaceIn};
 
 use nats_history::{CallReply, NoMemory};
 use std::alloc::Global;
@@ -109,6 +109,24 @@ fn drop_queued(ready: &mut VecDeque<(u64, CallReply)>, handled: u64, given: u64)
     }
 }
 
+fn is_of(settled: &(u64, CallReply), ticket: u64) -> bool
+    ensures { result ≡ (ticket == settled.now.0) }
+{
+    ticket == settled.0
+}
+
+/// Where a ticket stands among the settled ones.
+fn place_in(ready: &VecDeque<(u64, CallReply)>, ticket: u64) -> Option<usize>
+    ensures { IsPlaceIn ticket ready.now.items result }
+{
+    'ready: for place in 0..ready.len() {
+        if is_of(&ready[place], ticket) {
+            return Some(place);
+        }
+    }
+    None
+}
+
 impl Flushes {
     /// No ticket. It takes no memory.
     pub fn new(alloc: Global) -> Flushes
@@ -189,6 +207,17 @@ impl Flushes {
     {
         drop_queued(&mut self.ready, self.handled, self.given);
         self.handled = self.given;
+    }
+
+    /// Hands out the reply of a ticket, once; `None` exactly where it did not settle yet, was not given or was handed out. It
+    /// takes no memory, and looks through the settled tickets that were not handed out.
+    pub fn reply_of(&mut self, ticket: u64) -> Option<CallReply>
+        ensures reply { result ≡ reply_in ticket self.old.ready }
+        ensures rest { self.new ≡ record self.old { ready = without ticket self.old.ready } }
+    {
+        let place = place_in(&self.ready, ticket)?;
+        let (_, reply) = self.ready.remove(place)?;
+        Some(reply)
     }
 
     /// Hands out the ticket that settled first, with its reply. It takes no memory.
