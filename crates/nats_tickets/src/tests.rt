@@ -32,9 +32,11 @@ fn flushes_settle_in_order(rt: HostRuntime) -> Result<(), Fail> {
     flushes.give()?;
     flushes.fail();
     flushes.drop_waiting();
+    assert!(rt; matches!(flushes.reply_of(4), Some(CallReply::FlushFailed)));
+    assert!(rt; flushes.reply_of(4).is_none());
     assert_eq!(rt;
         told(alloc, &mut flushes)?.as_slice(),
-        [3, 0, 4, 0, 5, 0].as_slice()
+        [3, 0, 5, 0].as_slice()
     );
     assert_eq!(rt; flushes.given(), 5);
     Ok(())
