@@ -1,0 +1,4 @@
+pub mod Blocks
+pub mod Code
+pub mod Grammar
+pub mod Pieces
