@@ -129,8 +129,8 @@ pub data Sight : Type 0 where
 
 -- a body is the block, where the line counts one, and the payload
 abbrev pub text_of : List ℕ → Option (List ℕ) → Option ℕ → List ℕ → OpText
-text_of subject respond None body = published subject respond None body
-text_of subject respond (Some block_len) body = published subject respond (Some (take block_len body)) (drop block_len body)
+text_of subject respond None bytes = published subject respond None bytes
+text_of subject respond (Some block_len) bytes = published subject respond (Some (take block_len bytes)) (drop block_len bytes)
 
 abbrev pub sight_of_body : Publishes → ℕ → Body → Sight
 sight_of_body p end short = less

@@ -1,5 +1,6 @@
 //! Reads the header block of a publish.
-ghost use Rattle.std.specs.Prelude.{◌≡◌, option_map};
+ghost use Rattle.std.specs.Prelude.{◌≡◌, option_map, codes};
+ghost use Rattle.std.specs.Str.{bytes_eq};
 ghost use Rattle.nats_block.specs.Fields.{tested, with_field};
 ghost use Rattle.nats_block.specs.Lines.{cut_at};
 ghost use Rattle.nats_block.specs.Answers.{Gives, Puts};
@@ -75,12 +76,21 @@ fn read_fields(alloc: Global, text: &[u8]) -> Result<HeaderMap, BlockError>
     Err(BlockError::Malformed)
 }
 
+fn is_version(line: &[u8]) -> bool
+    ensures { result ≡ bytes_eq line.now (codes "NATS/1.0") }
+{
+    line == b"NATS/1.0".as_slice()
+}
+
 /// Reads a block, `Malformed` exactly where it is none, `NoMemory` for want of memory.
 pub fn read_block(alloc: Global, block: &[u8]) -> Result<HeaderMap, BlockError>
     ensures { Gives (block_of block.now) result }
 {
-    match next_line(block) {
-        Some(first) if first.line == b"NATS/1.0".as_slice() => read_fields(alloc, first.rest),
-        _ => Err(BlockError::Malformed),
+    let Some(first) = next_line(block) else {
+        return Err(BlockError::Malformed);
+    };
+    if !is_version(first.line) {
+        return Err(BlockError::Malformed);
     }
+    read_fields(alloc, first.rest)
 }

@@ -1,6 +1,6 @@
 //! Copies of what was read, which outlive the text.
 ghost use Rattle.std.specs.Prelude.{◌≡◌, IfOk, IsTrue, OnErr, Some, option_map};
-ghost use Rattle.nats_wire.specs.declared.op.ClientOp.TheVariants as op;
+ghost use Rattle.nats_wire.specs.declared.op.ClientOp.TheVariants as client;
 ghost use Rattle.nats_client_text.specs.Blocks.{block_of};
 ghost use Rattle.nats_client_text.specs.Grammar.{op_of, has_parts};
 ghost use Rattle.nats_client_text.specs.Code.{now_of, op_text_view};
@@ -28,7 +28,7 @@ fn subscribe(
     subject: &str,
     queue_group: Option<&str>,
 ) -> Result<ClientOp, NoMemory>
-    ensures { IfOk result (λ op. op ≡ op.Subscribe sid subject.now (now_of queue_group.entry)) }
+    ensures { IfOk result (λ made. made ≡ client.Subscribe sid subject.now (now_of queue_group.entry)) }
 {
     Ok(ClientOp::Subscribe {
         sid,
@@ -44,7 +44,7 @@ fn publish(
     headers: Option<HeaderMap>,
     payload: &[u8],
 ) -> Result<ClientOp, NoMemory>
-    ensures { IfOk result (λ op. op ≡ op.Publish subject.now payload.now (now_of respond.entry) headers) }
+    ensures { IfOk result (λ made. made ≡ client.Publish subject.now payload.now (now_of respond.entry) headers) }
 {
     Ok(ClientOp::Publish {
         subject: Subject::from_text(alloc, subject)?,
@@ -62,17 +62,11 @@ fn publish_headed(
     block: &[u8],
     payload: &[u8],
 ) -> Result<Option<ClientOp>, NoMemory>
-    ensures { IfOk result (λ op. op ≡ option_map
-        (λ headers. op.Publish subject.now payload.now (now_of respond.entry) (Some headers)) (block_of block.now)) }
+    ensures { IfOk result (λ made. made ≡ option_map
+        (λ headers. client.Publish subject.now payload.now (now_of respond.entry) (Some headers)) (block_of block.now)) }
 {
     match read_block(alloc, block) {
-        Ok(headers) => Ok(Some(publish(
-            alloc,
-            subject,
-            respond,
-            Some(headers),
-            payload,
-        )?)),
+        Ok(headers) => Ok(Some(publish(alloc, subject, respond, Some(headers), payload)?)),
         Err(BlockError::Malformed) => Ok(None),
         Err(BlockError::NoMemory) => Err(NoMemory),
     }
@@ -80,7 +74,7 @@ fn publish_headed(
 
 /// The command of a text, `None` where its block is none.
 pub fn command(alloc: Global, text: &OpText<'_>) -> Result<Option<ClientOp>, NoMemory>
-    ensures op { IfOk result (λ op. op ≡ op_of (op_text_view text.now)) }
+    ensures op { IfOk result (λ made. made ≡ op_of (op_text_view text.now)) }
     ensures memory { OnErr result (IsTrue (has_parts (op_text_view text.now))) }
 {
     match text {

@@ -75,11 +75,7 @@ fn unsubscription(left: Option<&str>) -> Option<Line<'_>>
     Some(Line::Alone(OpText::Unsubscribe { sid, max }))
 }
 
-fn subscribed<'a>(
-    subject: &'a str,
-    queue_group: Option<&'a str>,
-    sid: &str,
-) -> Option<Line<'a>>
+fn subscribed<'a>(subject: &'a str, queue_group: Option<&'a str>, sid: &str) -> Option<Line<'a>>
     ensures { option_map line_view result ≡ subscribed subject.now (now_of queue_group.entry) (number_of sid.now) }
 {
     Some(Line::Alone(OpText::Subscribe {
@@ -103,11 +99,7 @@ fn subscription(left: Option<&str>) -> Option<Line<'_>>
     subscribed(subject.text, Some(second.text), third.text)
 }
 
-fn with_payload<'a>(
-    subject: &'a str,
-    respond: Option<&'a str>,
-    count: &str,
-) -> Option<Line<'a>>
+fn with_payload<'a>(subject: &'a str, respond: Option<&'a str>, count: &str) -> Option<Line<'a>>
     ensures line { option_map line_view result ≡ with_payload subject.now (now_of respond.entry) (number_of count.now) }
     ensures within { IfSome result BlockWithin }
 {

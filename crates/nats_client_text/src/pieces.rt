@@ -46,17 +46,28 @@ pub fn word_of(text: &str) -> Word
     }
 }
 
+fn first_piece(line: &str) -> Piece<'_>
+    ensures { pieces_from (Some result) ≡ pieces_of line.now }
+{
+    match line.split_once(' ') {
+        Some((text, left)) => Piece {
+            text,
+            left: Some(left),
+        },
+        None => Piece {
+            text: line,
+            left: None,
+        },
+    }
+}
+
 /// The first piece of what is left of a line, which may be empty; `None` where nothing is left.
 pub fn next_piece(left: Option<&str>) -> Option<Piece<'_>>
     ensures { pieces_from result ≡ pieces_left left.entry }
 {
-    let text = left?;
-    match text.split_once(' ') {
-        Some((text, left)) => Some(Piece {
-            text,
-            left: Some(left),
-        }),
-        None => Some(Piece { text, left: None }),
+    match left {
+        Some(line) => Some(first_piece(line)),
+        None => None,
     }
 }
 

@@ -1,5 +1,5 @@
 //! Reads the commands of a text.
-ghost use Rattle.std.specs.Prelude.{◌≡◌, length, IfOk, IsTrue, OnErr};
+ghost use Rattle.std.specs.Prelude.{◌≡◌, ◌≤◌, length, drop, IfOk, IsTrue, OnErr};
 ghost use Rattle.nats_client_text.specs.Grammar.{front, takes_memory, begins_whole, read_of};
 ghost use Rattle.nats_client_text.specs.Code.{Takes};
 
@@ -66,6 +66,13 @@ pub fn read_client_op(alloc: Global, text: &[u8]) -> Result<ClientFront, NoMemor
     }
 }
 
+fn behind(text: &[u8], len: usize) -> &[u8]
+    requires { len ≤ length text.now }
+    ensures { result.now ≡ drop len text.now }
+{
+    &text[len..]
+}
+
 /// The commands of a text from its front on, in time that grows with its length: `read_client_op` again and again, each time
 /// behind the last. Own call.
 ///
@@ -82,7 +89,7 @@ pub fn read_client_text(alloc: Global, text: &[u8]) -> Result<ClientRead, NoMemo
         match read_client_op(alloc, left)? {
             ClientFront::Got(op, len) => {
                 ops.push(alloc, op)?;
-                left = &left[len..];
+                left = behind(left, len);
             }
             ClientFront::Unfinished => {
                 let end = ClientEnd::Unfinished;

@@ -5,7 +5,8 @@ use std::str;
 use std::test::Fail;
 
 // Texts, and behind `~` what is read in them and how they end; rows end at `|`.
-const READ: &str = "PUB a 2\r\nhi\r\nPING\r\n~pub a - - hi;ping;whole|PUB a 2\r\nhi~unfinished|PUB a 02\r\n~bad|PUB  a 2\r\n~bad|PUBX\r\n~bad\
+const READ: &str =
+    "PUB a 2\r\nhi\r\nPING\r\n~pub a - - hi;ping;whole|PUB a 2\r\nhi~unfinished|PUB a 02\r\n~bad|PUB  a 2\r\n~bad|PUBX\r\n~bad\
 |PUB a 2\r\nhiXX~bad|SUB a g 7\r\nUNSUB 7 2\r\n~sub 7 a g;unsub 7 2;whole\
 |HPUB a 19 21\r\nNATS/1.0\r\nK: vw\r\n\r\nhi\r\n~pub a - vw hi;whole|~whole\
 |PONG\r\nSUB a.b 0\r\nUNSUB 18446744073709551615\r\nPI~pong;sub 0 a.b -;unsub 18446744073709551615 0;unfinished\

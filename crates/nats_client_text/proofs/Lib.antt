@@ -1,0 +1,6 @@
+mod Blocks
+mod Cuts
+mod Fronts
+mod Lines
+mod Numbers
+mod Reading
