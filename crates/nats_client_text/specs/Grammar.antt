@@ -1,5 +1,5 @@
--- What the bytes of a client say: the grammar of client commands, read from the front of one whole text. A command is a line, and
--- behind the line of a publish a body whose bytes the line counts.
+-- What the bytes of a client say: the grammar of client commands, read from the front of one whole text. A command is a
+-- line, and behind the line of a publish a body whose bytes the line counts.
 use Rattle.std.specs.Prelude.{ℕ, zero, suc, ◌+◌, Bool, true, false, ◌&&◌, nat_lt, nat_eq, List, [], ◌∷◌, length, take, drop, Option, Some, None, option_map, if◌then◌else◌}
 use Rattle.std.specs.List.{starts_with, list_all}
 use Rattle.std.specs.Str.{is_utf8}
@@ -17,8 +17,8 @@ use Rattle.nats_client_text.specs.declared.read.ClientFront.TheVariants.{Got, Un
 use Rattle.nats_client_text.specs.declared.read.ClientEnd.TheVariants as end
 use Rattle.nats_client_text.specs.declared.read.ClientRead.{ClientRead}
 
--- the text of a command that is there whole: a command, or a publish by its subject, reply, block and payload, whose block is
--- still to be read
+-- the text of a command that is there whole: a command, or a publish by its subject, reply, block and payload, whose
+-- block is still to be read
 pub data OpText : Type 0 where
   plain : ClientOp → OpText
   published : List ℕ → Option (List ℕ) → Option (List ℕ) → List ℕ → OpText
@@ -66,7 +66,7 @@ subscription pieces = None
 
 abbrev pub with_payload : List ℕ → Option (List ℕ) → Option ℕ → Option Line
 with_payload subject respond count =
-    option_map (λ count. counted (record { subject = subject; respond = respond; block_len = None; count = count })) count
+    option_map (λ n. counted (record { subject = subject; respond = respond; block_len = None; count = n })) count
 
 -- a subject, perhaps a reply, and the length of the payload
 abbrev pub publication : List (List ℕ) → Option Line
@@ -120,8 +120,8 @@ body_of count rest =
     if nat_lt (length rest) (count + 2) then short else
     (if starts_with nat_eq (drop count rest) crlf then body (take count rest) else torn)
 
--- what stands at the front of a text before a block is read: less than a command, the text of one in the first n bytes, or what
--- is none
+-- what stands at the front of a text before a block is read: less than a command, the text of one in the first n bytes,
+-- or what is none
 pub data Sight : Type 0 where
   less : Sight
   whole : OpText → ℕ → Sight
@@ -130,7 +130,8 @@ pub data Sight : Type 0 where
 -- a body is the block, where the line counts one, and the payload
 abbrev pub text_of : List ℕ → Option (List ℕ) → Option ℕ → List ℕ → OpText
 text_of subject respond None bytes = published subject respond None bytes
-text_of subject respond (Some block_len) bytes = published subject respond (Some (take block_len bytes)) (drop block_len bytes)
+text_of subject respond (Some block_len) bytes =
+    published subject respond (Some (take block_len bytes)) (drop block_len bytes)
 
 abbrev pub sight_of_body : Publishes → ℕ → Body → Sight
 sight_of_body p end short = less
@@ -214,7 +215,7 @@ read_within zero (byte ∷ bytes) = record { ops = []; «end» = end.Unfinished 
 read_within (suc most) (byte ∷ bytes) =
     onto_read (front (byte ∷ bytes)) (read_within most (past (front (byte ∷ bytes)) (byte ∷ bytes)))
 
--- the commands of a text from its front on, and how it ends: behind the last of them, in one that isn't there whole, or in what
--- is none
+-- the commands of a text from its front on, and how it ends: behind the last of them, in one that isn't there whole, or
+-- in what is none
 abbrev pub read_of : List ℕ → ClientRead
 read_of text = read_within (length text) text

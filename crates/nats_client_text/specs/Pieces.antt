@@ -18,7 +18,8 @@ begins_number (digit ∷ digits) = nat_le 49 digit && nat_le digit 57 || digit =
 -- a number: decimal digits without leading zeros, below 2^64
 abbrev pub number_of : List ℕ → Option ℕ
 number_of text =
-    if begins_number text && all_ascii_digits text && nat_lt (digits_value 10 text) (2 ^ 64) then Some (digits_value 10 text) else None
+    if begins_number text && all_ascii_digits text && nat_lt (digits_value 10 text) (2 ^ 64)
+    then Some (digits_value 10 text) else None
 
 -- the word that a command begins with; case counts
 abbrev pub word_of : List ℕ → Word

@@ -9,7 +9,8 @@ use nats_names::{NoMemory, Seq};
 use nats_wire::ClientOp;
 use std::alloc::Global;
 
-/// What stands at the front of a text: a command and the number of its bytes, the beginning of one, or what is none. Own type.
+/// What stands at the front of a text: a command and the number of its bytes, the beginning of one, or what is none.
+/// Own type.
 #[derive(Debug, Drop, PartialEq, Eq)]
 pub enum ClientFront {
     /// A command, and how many bytes it takes, its last CR LF with it.
@@ -40,13 +41,13 @@ pub struct ClientRead {
     pub end: ClientEnd,
 }
 
-/// The command at the front of `text`, for whoever reads what a client wrote: a test server, or an audit of a link. By the NATS
-/// client protocol as this library writes it: one of `PING`, `PONG`, `UNSUB`, `SUB`, `PUB`, `HPUB` in capitals, single spaces, numbers
-/// below 2^64 without leading zeros, CR LF behind the line and behind a body. A publish without a block has no headers; a block
-/// without lines is an empty map.
+/// The command at the front of `text`, for whoever reads what a client wrote: a test server, or an audit of a link. By
+/// the NATS client protocol as this library writes it: one of `PING`, `PONG`, `UNSUB`, `SUB`, `PUB`, `HPUB` in capitals,
+/// single spaces, numbers below 2^64 without leading zeros, CR LF behind the line and behind a body. A publish without
+/// a block has no headers; a block without lines is an empty map.
 ///
-/// `Unfinished` where no CR LF or less of a body stands there than its line counts with CR LF, `Bad` for any other text that begins with
-/// no command. Own call.
+/// `Unfinished` where no CR LF stands there, or less than a body and its CR LF behind a line that counts it; `Bad` for
+/// any other text that begins with no command. Own call.
 ///
 /// # Errors
 ///
@@ -73,8 +74,8 @@ fn behind(text: &[u8], len: usize) -> &[u8]
     &text[len..]
 }
 
-/// The commands of a text from its front on, in time that grows with its length: `read_client_op` again and again, each time
-/// behind the last. Own call.
+/// The commands of a text from its front on, in time that grows with its length: `read_client_op` again and again, each
+/// time behind the last. Own call.
 ///
 /// # Errors
 ///

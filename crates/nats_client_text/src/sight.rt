@@ -14,7 +14,8 @@ pub enum Body<'a> {
     Whole(&'a [u8]),
 }
 
-/// What stands at the front of a text: less than a command, the text of one and the number of its bytes, or what is none.
+/// What stands at the front of a text: less than a command, the text of one and how many bytes it takes, or what is
+/// none.
 #[derive(Clone, Copy)]
 pub enum Sight<'a> {
     Unfinished,
