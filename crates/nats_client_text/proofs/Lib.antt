@@ -4,3 +4,5 @@ mod Fronts
 mod Lines
 mod Numbers
 mod Reading
+mod Spaced
+mod Written

@@ -4,6 +4,7 @@
 mod block;
 mod copies;
 mod cut;
+pub mod laws;
 mod line;
 mod pieces;
 mod read;
