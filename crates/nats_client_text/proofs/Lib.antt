@@ -6,3 +6,4 @@ mod Numbers
 mod Reading
 mod Spaced
 mod Written
+mod Fields

@@ -2,8 +2,9 @@
 use Rattle.std.specs.Prelude.{◌≡◌, ℕ, ◌+◌, ◌^◌, ◌<◌, true, List, [], ◌∷◌, length, map, Option, Some, None}
 use Rattle.std.specs.Str.{is_utf8}
 use Rattle.nats_names.specs.Names.{is_publishable}
-use Rattle.nats_header.specs.Headers.{Headers}
-use Rattle.nats_wire.specs.Commands.{command_texts}
+use Rattle.nats_header.specs.Names.{is_header_name, is_header_value}
+use Rattle.nats_header.specs.Headers.{Headers, AreDistinct}
+use Rattle.nats_wire.specs.Commands.{command_texts, sent_block}
 use Rattle.nats_wire.specs.declared.op.ClientOp.{ClientOp}
 use Rattle.nats_wire.specs.declared.op.ClientOp.TheVariants.{Subscribe, Unsubscribe, Publish, Ping, Pong, Connect}
 use Rattle.nats_client_text.specs.Grammar.{read_of}
@@ -32,19 +33,39 @@ sent_headers None = None
 sent_headers (Some []) = None
 sent_headers (Some (field ∷ fields)) = Some (field ∷ fields)
 
--- a command whose names may be published to, whose numbers fit, and whose headers are none; `CONNECT` is none of these
-abbrev pub IsPlain : ClientOp → Type 0
-IsPlain (Subscribe sid subject queue_group) = (sid < 2 ^ 64) × IsName subject × IsNameOrNone queue_group
-IsPlain (Unsubscribe sid max) = (sid < 2 ^ 64) × IsBelow max
-IsPlain (Publish subject payload respond headers) =
-    IsName subject × IsNameOrNone respond × (length payload < 2 ^ 64) × (sent_headers headers ≡ None)
-IsPlain Ping = Unit {0}
-IsPlain Pong = Unit {0}
-IsPlain (Connect info) = ⊥
+-- values of a header: UTF-8 without CR and LF
+abbrev pub AreValues : List (List ℕ) → Type 0
+AreValues [] = Unit {0}
+AreValues (value ∷ values) = ((is_utf8 value ≡ true) × (is_header_value value ≡ true)) × AreValues values
 
-abbrev pub ArePlain : List ClientOp → Type 0
-ArePlain [] = Unit {0}
-ArePlain (op ∷ ops) = IsPlain op × ArePlain ops
+-- fields, each a name with one or more values
+abbrev pub AreFields : Headers → Type 0
+AreFields [] = Unit {0}
+AreFields (field ∷ fields) =
+    ((is_header_name field.0 ≡ true) × (0 < length field.1) × AreValues field.1) × AreFields fields
+
+-- headers: fields whose names are distinct
+abbrev pub AreHeaders : Headers → Type 0
+AreHeaders headers = AreDistinct headers × AreFields headers
+
+abbrev pub AreHeadersOrNone : Option Headers → Type 0
+AreHeadersOrNone None = Unit {0}
+AreHeadersOrNone (Some headers) = AreHeaders headers
+
+-- a command whose names may be published to, whose headers are names and values, and whose numbers fit; `CONNECT`, which
+-- is written in the handshake, is none of these
+abbrev pub IsSendable : ClientOp → Type 0
+IsSendable (Subscribe sid subject queue_group) = (sid < 2 ^ 64) × IsName subject × IsNameOrNone queue_group
+IsSendable (Unsubscribe sid max) = (sid < 2 ^ 64) × IsBelow max
+IsSendable (Publish subject payload respond headers) =
+    IsName subject × IsNameOrNone respond × AreHeadersOrNone headers × IsCounted (sent_block headers) payload
+IsSendable Ping = Unit {0}
+IsSendable Pong = Unit {0}
+IsSendable (Connect info) = ⊥
+
+abbrev pub AreSendable : List ClientOp → Type 0
+AreSendable [] = Unit {0}
+AreSendable (op ∷ ops) = IsSendable op × AreSendable ops
 
 -- a command as it is read
 abbrev pub as_read : ClientOp → ClientOp
@@ -56,6 +77,6 @@ as_read Pong = Pong
 as_read (Connect info) = Connect info
 
 -- the texts of such commands are read to their end as exactly these commands
-abbrev pub PlainReadBack : Type 0
-PlainReadBack = (ops : List ClientOp) → ArePlain ops
+abbrev pub ReadBack : Type 0
+ReadBack = (ops : List ClientOp) → AreSendable ops
     → read_of (command_texts ops) ≡ record { ops = map as_read ops; «end» = end.Whole }
