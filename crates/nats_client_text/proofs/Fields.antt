@@ -10,12 +10,12 @@ use Rattle.std.proofs.lemmas.Bool.{lt-ltb}
 use Rattle.std.proofs.lemmas.Str.{IsUtf8-from_is_utf8, IsUtf8-append}
 use Rattle.std.specs.Cmp.Lexicographic.{nat_list_eq_equiv}
 use Rattle.nats_header.specs.Names.{is_name_byte, is_header_name, ends_line, is_header_value}
-use Rattle.nats_header.specs.Headers.{Field, Headers, values_of, with_values, appended}
+use Rattle.nats_header.specs.Headers.{Field, Headers, values_of, with_values, appended, is_field, are_fields}
 use Rattle.nats_header.specs.Block as written
 use Rattle.nats_block.specs.Lines.{cut_at}
 use Rattle.nats_block.specs.Fields.{Pair, tested, with_field, all_appended, onto_fields}
 use Rattle.nats_client_text.specs.Blocks.{lines_of, field_cut, field_of, ended_by, fields_of, headers_of, block_of}
-use Rattle.nats_client_text.specs.Law.{AreValues, AreFields, AreHeaders}
+use Rattle.nats_client_text.specs.Law.{AreTexts, HaveTexts, AreHeaders}
 use Rattle.nats_client_text.proofs.Blocks.{lines_by_cut, block_read}
 use Rattle.nats_client_text.proofs.Lines.{field_of_utf8}
 use Rattle.nats_client_text.proofs.Spaced.{NoReturn, no_return_append, cut_clean, AreSmall, small_utf8}
@@ -34,7 +34,41 @@ same_name name = nat_list_eq_equiv.refl name
 other_name : (a b : List ℕ) → bytes_eq a b ≡ false → bytes_eq b a ≡ false
 other_name a b is = sym (nat_list_eq_equiv.symm a b) ∙ is
 
+both : (a b : Bool) → (a && b) ≡ true → (a ≡ true) × (b ≡ true)
+both true true is = (refl, refl)
+both true false is = cc
+both false b is = cc
+
 -- ---- headers, value by value
+
+-- values of a header
+abbrev AreValues : List (List ℕ) → Type 0
+AreValues [] = Unit {0}
+AreValues (value ∷ values) = ((is_utf8 value ≡ true) × (is_header_value value ≡ true)) × AreValues values
+
+-- fields, each a name with one or more values
+abbrev AreFields : Headers → Type 0
+AreFields [] = Unit {0}
+AreFields (field ∷ fields) =
+    ((is_header_name field.0 ≡ true) × (0 < length field.1) × AreValues field.1) × AreFields fields
+
+values_are : (values : List (List ℕ)) → list_all is_header_value values ≡ true → AreTexts values → AreValues values
+values_are [] is are = tt
+values_are (value ∷ values) is are =
+    let parts = both (is_header_value value) (list_all is_header_value values) is in
+    ((are.0, parts.0), values_are values parts.1 are.1)
+
+has_value : (values : List (List ℕ)) → not (length values == 0) ≡ true → 0 < length values
+has_value [] is = cc
+has_value (value ∷ values) is = omega arith
+
+fields_are : (headers : Headers) → are_fields headers ≡ true → HaveTexts headers → AreFields headers
+fields_are [] is are = tt
+fields_are (field ∷ fields) is are =
+    let parts = both (is_field field) (are_fields fields) is in
+    let of_field = both (is_header_name field.0 && not (length field.1 == 0)) (list_all is_header_value field.1) parts.0 in
+    let named = both (is_header_name field.0) (not (length field.1 == 0)) of_field.0 in
+    ((named.0, has_value field.1 named.1, values_are field.1 of_field.1 are.0), fields_are fields parts.1 are.1)
 
 abbrev pairs_of : Headers → List Pair
 pairs_of [] = []
@@ -142,11 +176,6 @@ are_pairs : (headers : Headers) → AreFields headers → ArePairs (pairs_of hea
 are_pairs [] are = tt
 are_pairs (field ∷ fields) are =
     are_append (map (λ value. (field.0, value)) field.1) (pairs_of fields) (are_named field.0 field.1 are.0.0 are.0.2) (are_pairs fields are.1)
-
-both : (a b : Bool) → (a && b) ≡ true → (a ≡ true) × (b ≡ true)
-both true true is = (refl, refl)
-both true false is = cc
-both false b is = cc
 
 name_byte : (b : ℕ) → is_name_byte b ≡ true → ((b == 13) ≡ false) × ((b == 58) ≡ false) × (b < 128)
 name_byte b is = (grind (arith, tests), grind (arith, tests), grind (arith, tests))
@@ -265,6 +294,7 @@ version_parts version end lines = simp append_assoc
 -- the block of some headers is read as these headers
 pub block_back : (headers : Headers) → AreHeaders headers → block_of (written.block_text headers) ≡ Some headers
 block_back headers are =
+    let fields = fields_are headers are.1 are.2 in
     let rest = written.lines_of headers ++ 13 ∷ 10 ∷ [] in
     let version : List ℕ = codes "NATS/1.0" in
     let text : written.block_text headers ≡ version ++ 13 ∷ 10 ∷ rest = version_parts version (13 ∷ 10 ∷ []) (written.lines_of headers) in
@@ -272,5 +302,5 @@ block_back headers are =
     ap block_of text
     ∙ block_read (version ++ 13 ∷ 10 ∷ rest) version rest (sym first) refl
     ∙ ap (λ text. headers_of (lines_of (text ++ 13 ∷ 10 ∷ []))) (lines_text headers)
-    ∙ ap (option_map (all_appended [])) (pairs_read (pairs_of headers) (are_pairs headers are.1))
-    ∙ ap Some (headers_all [] headers are.1 (none_apart headers) are.0)
+    ∙ ap (option_map (all_appended [])) (pairs_read (pairs_of headers) (are_pairs headers fields))
+    ∙ ap Some (headers_all [] headers fields (none_apart headers) are.0)

@@ -2,8 +2,7 @@
 use Rattle.std.specs.Prelude.{◌≡◌, ℕ, ◌+◌, ◌^◌, ◌<◌, true, List, [], ◌∷◌, length, map, Option, Some, None}
 use Rattle.std.specs.Str.{is_utf8}
 use Rattle.nats_names.specs.Names.{is_publishable}
-use Rattle.nats_header.specs.Names.{is_header_name, is_header_value}
-use Rattle.nats_header.specs.Headers.{Headers, AreDistinct}
+use Rattle.nats_header.specs.Headers.{Headers, are_fields, AreDistinct}
 use Rattle.nats_wire.specs.Commands.{command_texts, sent_block}
 use Rattle.nats_wire.specs.declared.op.ClientOp.{ClientOp}
 use Rattle.nats_wire.specs.declared.op.ClientOp.TheVariants.{Subscribe, Unsubscribe, Publish, Ping, Pong, Connect}
@@ -33,20 +32,18 @@ sent_headers None = None
 sent_headers (Some []) = None
 sent_headers (Some (field ∷ fields)) = Some (field ∷ fields)
 
--- values of a header: UTF-8 without CR and LF
-abbrev pub AreValues : List (List ℕ) → Type 0
-AreValues [] = Unit {0}
-AreValues (value ∷ values) = ((is_utf8 value ≡ true) × (is_header_value value ≡ true)) × AreValues values
+-- texts that are UTF-8
+abbrev pub AreTexts : List (List ℕ) → Type 0
+AreTexts [] = Unit {0}
+AreTexts (text ∷ texts) = (is_utf8 text ≡ true) × AreTexts texts
 
--- fields, each a name with one or more values
-abbrev pub AreFields : Headers → Type 0
-AreFields [] = Unit {0}
-AreFields (field ∷ fields) =
-    ((is_header_name field.0 ≡ true) × (0 < length field.1) × AreValues field.1) × AreFields fields
+abbrev pub HaveTexts : Headers → Type 0
+HaveTexts [] = Unit {0}
+HaveTexts (field ∷ fields) = AreTexts field.1 × HaveTexts fields
 
--- headers: fields whose names are distinct
+-- headers as a map has them: distinct names of the protocol, each with one or more values, which are UTF-8
 abbrev pub AreHeaders : Headers → Type 0
-AreHeaders headers = AreDistinct headers × AreFields headers
+AreHeaders headers = AreDistinct headers × (are_fields headers ≡ true) × HaveTexts headers
 
 abbrev pub AreHeadersOrNone : Option Headers → Type 0
 AreHeadersOrNone None = Unit {0}
