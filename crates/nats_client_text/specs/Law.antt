@@ -49,8 +49,8 @@ abbrev pub AreHeadersOrNone : Option Headers → Type 0
 AreHeadersOrNone None = Unit {0}
 AreHeadersOrNone (Some headers) = AreHeaders headers
 
--- a command whose names may be published to, whose headers are names and values, and whose numbers fit; `CONNECT`, which
--- is written in the handshake, is none of these
+-- a command whose names may be published to, whose headers are names and values, and whose numbers fit; `CONNECT`,
+-- which is written in the handshake, is none of these
 abbrev pub IsSendable : ClientOp → Type 0
 IsSendable (Subscribe sid subject queue_group) = (sid < 2 ^ 64) × IsName subject × IsNameOrNone queue_group
 IsSendable (Unsubscribe sid max) = (sid < 2 ^ 64) × IsBelow max

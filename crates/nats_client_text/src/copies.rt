@@ -63,7 +63,8 @@ fn publish_headed(
     payload: &[u8],
 ) -> Result<Option<ClientOp>, NoMemory>
     ensures { IfOk result (λ made. made ≡ option_map
-        (λ headers. client.Publish subject.now payload.now (now_of respond.entry) (Some headers)) (block_of block.now)) }
+        (λ headers. client.Publish subject.now payload.now (now_of respond.entry) (Some headers))
+        (block_of block.now)) }
 {
     match read_block(alloc, block) {
         Ok(headers) => Ok(Some(publish(alloc, subject, respond, Some(headers), payload)?)),

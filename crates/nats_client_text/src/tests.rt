@@ -4,16 +4,16 @@ use std::alloc::Global;
 use std::str;
 use std::test::Fail;
 
-// Texts, and behind `~` what is read in them and how they end; a publish is its subject, reply, header `K` and payload. Rows
-// end at `|`.
-const READ: &str =
-    "PUB a 2\r\nhi\r\nPING\r\n~pub a - - hi;ping;whole|PUB a 2\r\nhi~unfinished|PUB a 02\r\n~bad|PUB  a 2\r\n~bad|PUBX\r\n~bad\
+// Texts, and behind `~` what is read in them and how they end; a publish is its subject, reply, header `K` and payload.
+// Rows end at `|`.
+const READ: &str = "PUB a 2\r\nhi\r\nPING\r\n~pub a - - hi;ping;whole|PUB a 2\r\nhi~unfinished\
+|PUB a 02\r\n~bad|PUB  a 2\r\n~bad|PUBX\r\n~bad\
 |PUB a 2\r\nhiXX~bad|SUB a g 7\r\nUNSUB 7 2\r\n~sub 7 a g;unsub 7 2;whole\
 |HPUB a 19 21\r\nNATS/1.0\r\nK: vw\r\n\r\nhi\r\n~pub a - vw hi;whole|~whole";
 
 // The same of the edges of each rule.
-const EDGES: &str =
-    "PONG\r\nSUB a.b 0\r\nUNSUB 18446744073709551615\r\nPI~pong;sub 0 a.b -;unsub 18446744073709551615 0;unfinished\
+const EDGES: &str = "PONG\r\nSUB a.b 0\r\nUNSUB 18446744073709551615\r\nPI\
+~pong;sub 0 a.b -;unsub 18446744073709551615 0;unfinished\
 |PING\r\nPING \r\nPING\r\n~ping;bad|ping\r\n~bad|PING\nPING\r\n~bad|PING\rPING\r\n~bad|\r\n~bad|PING\r~unfinished\
 |CONNECT {}\r\n~bad|UNSUB\r\n~bad|UNSUB 1 2 3\r\n~bad|UNSUB +1\r\n~bad|UNSUB 18446744073709551616\r\n~bad\
 |SUB a\t1\r\n~bad|SUB a g h 1\r\n~bad|SUB \u{3000} 1\r\n~sub 1 \u{3000} -;whole\
@@ -23,9 +23,11 @@ const EDGES: &str =
 // The same of blocks.
 const BLOCKS: &str =
     "HPUB a r 12 12\r\nNATS/1.0\r\n\r\n\r\n~pub a r + ;whole|HPUB a 12 11\r\nNATS/1.0\r\n\r\n\r\n~bad\
-|HPUB a 24 24\r\nNATS/1.0\r\nK: 1\r\nK: 2\r\n\r\n\r\n~pub a - 1 ;whole|HPUB a 18 18\r\nNATS/1.0\r\nK:  v\r\n\r\n~unfinished\
+|HPUB a 24 24\r\nNATS/1.0\r\nK: 1\r\nK: 2\r\n\r\n\r\n~pub a - 1 ;whole\
+|HPUB a 18 18\r\nNATS/1.0\r\nK:  v\r\n\r\n~unfinished\
 |HPUB a 19 19\r\nNATS/1.0\r\nK:  v\r\n\r\n\r\n~pub a -  v ;whole|HPUB a 17 17\r\nNATS/1.0\r\nK:v\r\n\r\n\r\n~bad\
-|HPUB a 19 19\r\nNATS/1.0\r\nK : v\r\n\r\n\r\n~bad|HPUB a 14 14\r\nNATS/1.0\r\n\r\nhi\r\n~bad|HPUB a 10 10\r\nNATS/1.0\r\n\r\n~bad\
+|HPUB a 19 19\r\nNATS/1.0\r\nK : v\r\n\r\n\r\n~bad\
+|HPUB a 14 14\r\nNATS/1.0\r\n\r\nhi\r\n~bad|HPUB a 10 10\r\nNATS/1.0\r\n\r\n~bad\
 |HPUB a 12 12\r\nNATS/1.1\r\n\r\n\r\n~bad|HPUB a 19 19\r\nNATS/1.0\r\nK: \r\n\r\n\r\n\r\n~bad|HPUB a 0 0\r\n\r\n~bad";
 
 fn told_publish(
