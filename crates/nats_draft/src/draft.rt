@@ -140,14 +140,20 @@ impl Draft {
         }
     }
 
+    fn add_call(&mut self, place: u64, reply: CallReply) -> Result<(), NoMemory>
+        ensures { OnOk result (self.new ≡ record self.old { calls = self.old.calls ++ (place, reply) ∷ [] }) }
+    {
+        self.calls.push((place, reply))?;
+        Ok(())
+    }
+
     /// A call that asks for no ticket was answered; where the reply has a number, a subscription was given it.
     pub fn note_call(&mut self, alloc: Global, place: u64, reply: CallReply) -> Result<(), NoMemory>
         ensures { OnOk result (self.new
             ≡ record self.old { subs = added reply self.old.subs; calls = self.old.calls ++ (place, reply) ∷ [] }) }
     {
         self.add_numbered(alloc, &reply)?;
-        self.calls.push((place, reply))?;
-        Ok(())
+        self.add_call(place, reply)
     }
 
     fn add_ticket(&mut self, reply: &CallReply) -> Result<(), NoMemory>
@@ -178,8 +184,7 @@ impl Draft {
         }) }
     {
         self.add_ticket(&reply)?;
-        self.calls.push((place, reply))?;
-        Ok(())
+        self.add_call(place, reply)
     }
 
     /// A ticket settled; it stays as it settled first. It takes no memory.
