@@ -20,7 +20,7 @@ use Rattle.nats_tables.specs.Numbers.{nobody, change}
 use Rattle.nats_history.specs.History.{read, handled, link_end, drained_by, cut, Sub, texts, end_events}
 use Rattle.nats_history.specs.Parts.{Parts}
 use Rattle.nats_history.specs.Schedule.{closes, closing, ending, ends_link, pong_end, read_end, chain, due, due_chain}
-use Rattle.nats_history.specs.After.{sub_after, after_all, write_all, written}
+use Rattle.nats_history.specs.After.{sub_after, write_all, written}
 use Rattle.nats_history.proofs.Words.{written_all}
 use Rattle.nats_subs.specs.Delivery.{with_rows}
 use Rattle.nats_session.specs.Handler.{Seen, push_all, seen_after, seen_all, close_events, Advances, command_end, seen_handled, handled_first, name_of, ended_or, end_in, counted, read_past, pong_read}
@@ -56,8 +56,7 @@ handled_one old new some stays is = by_first (first old.parts.calls) some stays 
 
 -- what is seen after it, by the events and the parts
 abbrev left_seen : Seen → LinkWord → Bool → Seen
-left_seen old end b = record {
-  parts = after_all old.parts (link_end word.Hangup ∷ closing b);
+left_seen old end b = record (seen_all old (link_end word.Hangup ∷ closing b)) {
   events = push_all (close_events b) (push_all (end_events end) old.events);
 }
 
@@ -67,18 +66,18 @@ left old end false = refl
 
 -- the same by what the fields of the handler became
 pub left_by : (seen old new : Seen) (end : LinkWord) (b : Bool) (events : List Event) → seen ≡ old → b ≡ closes old.parts.drain.is_handled end
-    → events ≡ push_all (close_events b) (push_all (end_events end) seen.events) → new ≡ record { parts = after_all seen.parts (link_end word.Hangup ∷ closing b); events = events }
+    → events ≡ push_all (close_events b) (push_all (end_events end) seen.events) → new ≡ record (seen_all seen (link_end word.Hangup ∷ closing b)) { events = events }
     → new ≡ seen_all old (chain old.parts (link_end end))
 left_by seen old new end b events same closing_is es is =
     is
-    ∙ (ap (λ e. record { parts = after_all seen.parts (link_end word.Hangup ∷ closing b); events = e }) es
+    ∙ (ap (λ e. record (seen_all seen (link_end word.Hangup ∷ closing b)) { events = e }) es
     ∙ (left seen end b
     ∙ (ap (λ (s : Seen). seen_all s (link_end end ∷ closing b)) same ∙ ap (λ x. seen_all old (link_end end ∷ closing x)) closing_is)))
 
 -- a call by which it ends
 pub last_by : (seen old new : Seen) (end : LinkWord) (b : Bool) (calls : List Call) (events : List Event) → seen ≡ old → command_end (first old.parts.calls) ≡ Some end
     → b ≡ closes old.parts.drain.is_handled end → calls ≡ drop 1 seen.parts.calls → events ≡ push_all (close_events b) (push_all (end_events end) seen.events)
-    → new ≡ record { parts = after_all (record seen.parts { calls = calls }) (link_end word.Hangup ∷ closing b); events = events }
+    → new ≡ record (seen_all (record seen { parts = record seen.parts { calls = calls } }) (link_end word.Hangup ∷ closing b)) { events = events }
     → Advances (handled_first old.parts) old due_names.Ended new
 last_by seen old new end b calls events same ends closing_is a es is = by_first (first old.parts.calls) ends
   where

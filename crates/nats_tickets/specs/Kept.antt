@@ -33,6 +33,10 @@ tickets_of marks = map mark_ticket marks
 abbrev pub given_one : Kept → Kept
 given_one k = record k { tickets = record k.tickets { given = suc k.tickets.given } }
 
+-- a new link came up
+abbrev pub renewed : Kept → Kept
+renewed k = record k { tickets = record k.tickets { flushing = [] } }
+
 -- the next flush is handled while so many bytes wait
 abbrev pub handled_one : ℕ → Kept → Kept
 handled_one waiting k = record {

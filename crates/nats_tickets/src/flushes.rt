@@ -5,7 +5,7 @@ ghost use Rattle.nats_tables.specs.Numbers.{count_from};
 ghost use Rattle.nats_history.specs.declared.call.CallReply.TheVariants as replies;
 ghost use Rattle.nats_history.specs.History.{flushed_by, left_by, replied};
 ghost use Rattle.nats_history.specs.Queue.{first};
-ghost use Rattle.nats_tickets.specs.Kept.{nothing_kept, awaits, tickets_of, given_one, handled_one, passed, failed, dropped, reply_in, without, IsPlaceIn};
+ghost use Rattle.nats_tickets.specs.Kept.{nothing_kept, awaits, tickets_of, given_one, renewed, handled_one, passed, failed, dropped, reply_in, without, IsPlaceIn};
 
 use nats_history::{CallReply, NoMemory};
 use std::alloc::Global;
@@ -184,6 +184,14 @@ impl Flushes {
         }
         self.handled = ticket;
         Ok(())
+    }
+
+    /// A new link came up, and no flush awaits bytes of it. It takes no memory.
+    pub fn renew(&mut self)
+        ensures { self.new ≡ renewed self.old }
+    {
+        self.marks.clear();
+        self.taken = 0;
     }
 
     /// The link took `n` bytes. It takes no memory.
