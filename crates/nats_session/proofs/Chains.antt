@@ -1,20 +1,22 @@
 -- Several steps at once: what they write, and behind it their events.
-use Rattle.std.proofs.Common.{◌≡◌, ℕ, Bool, true, false, cond, List, [], ◌∷◌, ◌++◌, Option, Some, None, refl, sym, ◌∙◌, ap}
+use Rattle.std.proofs.Common.{◌≡◌, ℕ, Bool, true, false, cond, not, min, List, [], ◌∷◌, ◌++◌, length, take, Option, Some, None, is_some, refl, sym, ◌∙◌, ap}
 use Rattle.std.proofs.lemmas.List.{append-nil, append_assoc}
 use Rattle.std.proofs.lemmas.Bool.{false≢true}
 use Rattle.nats_names.specs.declared.event.Event.{Event}
 use Rattle.nats_history.specs.declared.transcript.LinkWord.{LinkWord}
 use Rattle.nats_history.specs.declared.transcript.LinkWord.TheVariants as word
 use Rattle.nats_history.specs.declared.call.CallReply.{CallReply}
-use Rattle.nats_history.specs.History.{Step, accepted, ticked, link_end, closed, at_place, grown_tickets, settle_once, settle_rows}
+use Rattle.nats_history.specs.declared.turn.Turn.TheVariants.{Write}
+use Rattle.nats_history.specs.History.{Step, accepted, taken, ticked, link_end, closed, at_place, grown_tickets, settle_once, settle_rows}
 use Rattle.nats_tables.specs.Numbers.{at_number}
 use Rattle.nats_history.specs.Parts.{Parts}
-use Rattle.nats_history.specs.Schedule.{chain, closes, closing, ending}
+use Rattle.nats_history.specs.Schedule.{due, chain, closes, closing, ending}
 use Rattle.nats_history.specs.After.{after, after_all, events_of, settled_of}
-use Rattle.nats_session.specs.Handler.{Seen, push_all, seen_after, seen_all, all_events, all_settled, end_in}
+use Rattle.nats_session.specs.Handler.{Seen, push_all, seen_after, seen_all, all_events, all_settled, end_in, can_play}
 use Rattle.nats_session.specs.Sheet.{Sheet, row_with, write_step, write_events, write_tickets}
 use Rattle.nats_session.specs.Machine.{quiet, sheet_noted, sheet_recorded, sheet_written, write_end}
 use Rattle.nats_tickets.proofs.Marks.{pushed}
+use Rattle.nats_session.proofs.Handlers.{both_true}
 
 at_place_append : {A : Type 0} (place : ℕ) (xs ys : List A) → at_place place (xs ++ ys) ≡ at_place place xs ++ at_place place ys
 at_place_append place [] ys = refl
@@ -164,3 +166,19 @@ played place steps old new last s0 s1 s2 gives_none none settled plays written n
           ∙ (ap (λ (s : Seen). write_tickets place s.ready (write_events place s.events s1)) seen
           ∙ (ap (λ s. write_tickets place (all_settled old.parts steps) (write_events place (all_events old.parts steps) s)) written ∙ sym (recorded place steps old.parts s0 gives_none))),
     )
+
+-- a write, after the bytes that the link takes were written
+pub write_noted : (place n k : ℕ) (old new : Seen) (s0 s1 s2 : Sheet) (waiting : List ℕ) → can_play old.parts (Write n) ≡ true → old.events ≡ [] → old.ready ≡ []
+    → k ≡ min n (length waiting) → waiting ≡ old.parts.link.wire.waiting → s1 ≡ record s0 { taken = s0.taken ++ take k waiting }
+    → new ≡ seen_after old (taken (min n (length old.parts.link.wire.waiting))) → s2 ≡ write_tickets place new.ready (write_events place new.events s1)
+    → s2 ≡ sheet_noted place (taken (min n (length old.parts.link.wire.waiting))) old.parts s0
+write_noted place n k old new s0 s1 s2 waiting may none settled count same took plays news =
+    let bytes = old.parts.link.wire.waiting in
+    let step = taken (min n (length bytes)) in
+    let up : old.parts.link.is_up ≡ true = both_true old.parts.link.is_up (not (is_some (due old.parts))) may in
+    let written : s1 ≡ sheet_written place (step ∷ []) old.parts s0 =
+    took
+    ∙ (ap (λ text. record s0 { taken = s0.taken ++ text }) (ap (λ j. take j waiting) count ∙ ap (λ bs. take (min n (length bs)) bs) same)
+    ∙ sym (ap (λ b. record s0 { taken = cond b (s0.taken ++ take (min n (length bytes)) bytes) [] }) up))
+    in
+    (played place (step ∷ []) old new (record new { events = []; ready = [] }) s0 s1 s2 (refl, tt) none settled plays written news refl).1

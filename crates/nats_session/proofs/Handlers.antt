@@ -153,7 +153,7 @@ leads_one r old new step e = on_ok_weaker r (λ is. leads old (step ∷ []) new 
 pub leads_all : {T E : Type 0} (r : Result T E) (old new : Seen) (steps : List Step) → OnOk r (new ≡ seen_all old steps) → OnOk r (LeadTo old steps new)
 leads_all r old new steps e = on_ok_weaker r (λ is. leads old steps new is) e
 
-both_true : (a b : Bool) → (a && b) ≡ true → a ≡ true
+pub both_true : (a b : Bool) → (a && b) ≡ true → a ≡ true
 both_true true b e = refl
 both_true false b e = absurd (false≢true e)
 

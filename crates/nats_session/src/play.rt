@@ -230,11 +230,7 @@ fn note_settled(handler: &mut ConnectionHandler, draft: &mut Draft, place: u64)
 }
 
 /// Takes over all that waits in the handler to be handed out.
-fn note_news(
-    handler: &mut ConnectionHandler,
-    draft: &mut Draft,
-    place: u64,
-) -> Result<(), NoMemory>
+fn note_news(handler: &mut ConnectionHandler, draft: &mut Draft, place: u64) -> Result<(), NoMemory>
     ensures written { OnOk result
         (draft.new ≡ write_tickets place handler.old.ready (write_events place handler.old.events draft.old)) }
     ensures handed_out { OnOk result (handler.new ≡ record handler.old { events = []; ready = [] }) }

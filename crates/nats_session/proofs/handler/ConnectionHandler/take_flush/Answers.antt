@@ -5,4 +5,4 @@ use Rattle.nats_session.proofs.handler.ConnectionHandler.take_flush.Goals as goa
 pub returns-in-Ok : goal.returns-in-Ok
 returns-in-Ok c =
     flush_by _ c.args.self.now c.args.call c.push.new.self c.give.new.self c.given.result c.self.view_is c.requires.free c.requires.flush
-    c.in_default-push.ensures.ok c.in-Ok.ensures.ok c.given.ensures
+    c.in_default.ensures.ok c.in-Ok.ensures.ok c.given.ensures
