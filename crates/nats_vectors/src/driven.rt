@@ -300,11 +300,11 @@ fn drive(
     play_all(alloc, &mut handler, out, turns)
 }
 
-/// What a session answers to copies of the turns of a script, a line for each: the answer to the turn's own call, the due steps that
-/// `advance` then plays, the events, and the replies of the first tickets; `out of turn` where `check` refuses the turn, which is then not played. A last line
-/// says what the session tells of itself: its link, the payload's limit that a server said last, how much was read and how much
-/// waits, the youngest message of subscription 1, the waiting bytes.
-/// Where a line cannot be read, its number alone.
+/// What a session answers to copies of the turns of a script, a line for each: the answer to the turn's own call, the due steps
+/// that `advance` then plays, the events, and the replies of the first tickets; `out of turn` where `check` refuses the turn, which
+/// is then not played. A last line says what the session tells of itself: its link, the payload's limit that a server said last, how
+/// much was read and how much waits, the youngest message of subscription 1, the waiting bytes. Where a line cannot be read, its
+/// number alone.
 pub fn answers(alloc: Global, script: &str) -> Result<Vec<u8>, NoMemory> {
     let mut out = Vec::new(alloc);
     match read_script(alloc, script.as_bytes())? {
