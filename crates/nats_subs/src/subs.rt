@@ -5,6 +5,7 @@ ghost use Rattle.nats_subs.specs.declared.subs.subscription.Alteration.TheVarian
 ghost use Rattle.nats_tables.specs.Numbers.{at_number, item_of};
 ghost use Rattle.nats_history.specs.History.{next_number, is_open_at, kept, all_again, unsubscribed, commands_from};
 ghost use Rattle.nats_history.specs.Schedule.{take_reply_of, is_there};
+ghost use Rattle.nats_subs.specs.Forgetting.{LeavesResting};
 ghost use Rattle.nats_subs.specs.Delivery.{deliver, take_from, delivery_at, youngest, given_one, subscribed_one, with_rows, rows_with, rows_named, rows_each, commands_by, commands_at};
 
 mod subscription;
@@ -33,7 +34,9 @@ impl Model for Subscriptions {
     ghost view = { λ t. record { given = length t.table; subscribed = t.subscribed; rows = t.table } };
 }
 
+/// Something happens to each subscription that leaves alone what rests.
 fn alter_rows(table: &mut Table<Subscription>, alteration: Alteration)
+    requires { LeavesResting alteration }
     ensures { table.new ≡ rows_each alteration table.old }
 {
     let mut last = 0;
@@ -151,11 +154,25 @@ impl Subscriptions {
         }
     }
 
-    /// Something happens to each subscription.
-    pub fn alter_each(&mut self, alteration: Alteration)
-        ensures { self.new ≡ with_rows (rows_each alteration self.old.rows) self.old }
+    /// A new link came up: each subscription that is open and shut ends.
+    pub fn renew(&mut self)
+        ensures { self.new ≡ with_rows (rows_each alterations.Renew self.old.rows) self.old }
     {
-        alter_rows(&mut self.table, alteration);
+        alter_rows(&mut self.table, Alteration::Renew);
+    }
+
+    /// The link ended: each subscription that is open and drained ends.
+    pub fn end_link(&mut self)
+        ensures { self.new ≡ with_rows (rows_each alterations.EndLink self.old.rows) self.old }
+    {
+        alter_rows(&mut self.table, Alteration::EndLink);
+    }
+
+    /// The session closes: each subscription ends.
+    pub fn close(&mut self)
+        ensures { self.new ≡ with_rows (rows_each alterations.Close self.old.rows) self.old }
+    {
+        alter_rows(&mut self.table, Alteration::Close);
     }
 
     /// What becomes of a message that comes for a subscription.

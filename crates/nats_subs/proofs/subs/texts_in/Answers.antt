@@ -1,13 +1,14 @@
--- One row after another, and those that are passed over have no commands.
+-- One row after another, and those that are passed over rest, so that they have no commands.
 use Rattle.std.proofs.Common.{refl, sym}
-use Rattle.nats_history.specs.History.{is_over, commands_from}
+use Rattle.nats_history.specs.History.{commands_from}
+use Rattle.nats_subs.specs.Forgetting.{rests}
 use Rattle.nats_subs.specs.Delivery.{commands_by}
 use Rattle.nats_tables.proofs.Walks.{fewer_left}
 use Rattle.nats_subs.proofs.Counted.{one_command, commands_done}
 use Rattle.nats_subs.proofs.subs.texts_in.Goals as goal
 
 pub rows-smaller : goal.rows-smaller
-rows-smaller c = fewer_left is_over c.rows.last c.in-Some.sid c.args.table.now c.args.table.now refl (sym c.in-Some.ensures.next)
+rows-smaller c = fewer_left rests c.rows.last c.in-Some.sid c.args.table.now c.args.table.now refl (sym c.in-Some.ensures.next)
 
 pub rows-preserved : goal.rows-preserved
 rows-preserved c = record {
