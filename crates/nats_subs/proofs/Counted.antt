@@ -56,7 +56,7 @@ end_link_leaves sub rest = ap (λ stage. record sub { stage = stage }) (stage_st
 pub close_leaves : LeavesResting alterations.Close
 close_leaves sub rest = ap (λ stage. record sub { stage = stage }) (stage_stays true true sub.stage rest)
 
-kept_tidy : (sub : Sub) → (is_over sub ≡ true → sub ≡ forgotten) → kept sub ≡ sub
+pub kept_tidy : (sub : Sub) → (is_over sub ≡ true → sub ≡ forgotten) → kept sub ≡ sub
 kept_tidy sub tidy = by (is_over sub) refl
   where
     by : (b : Bool) → is_over sub ≡ b → cond b forgotten sub ≡ sub

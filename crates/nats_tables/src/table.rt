@@ -183,14 +183,20 @@ impl<T: Row> Table<T> {
     /// The first number above this one whose row does not rest, so that those can be gone through in order; `None` where each
     /// row above it rests. It takes no memory. Our own; the crate goes through its `HashMap`, in no order.
     pub fn next_after(&self, number: u64) -> Option<u64>
-        ensures next { result ≡ first_awake T.rests (suc number) (drop number self.now) }
-        ensures tidy { Tidy T.over T.forgotten self.now }
+        ensures { result ≡ first_awake T.rests (suc number) (drop number self.now) }
     {
         let above = (Bound::Excluded(number), Bound::Unbounded);
         match self.awake.range(above).next() {
             Some((next, _)) => Some(*next),
             None => None,
         }
+    }
+
+    /// Each row that is over is seen as forgotten. It does nothing.
+    pub fn tidy(&self)
+        ensures { Tidy T.over T.forgotten self.now }
+    {
+        let _given = self.given;
     }
 
     /// Changes the row of a number, if it was given, and forgets it where it is over then. It takes no memory.

@@ -6,6 +6,7 @@ ghost use Rattle.nats_history.specs.History.{is_open, is_over, has_room, forgott
 ghost use Rattle.nats_wire.specs.declared.op.ClientOp.TheVariants as client;
 ghost use Rattle.nats_history.specs.Schedule.{sub_take};
 ghost use Rattle.nats_subs.specs.Delivery.{asked_sub, altered, deliver, take_from, delivery, youngest_of, commands_by};
+ghost use Rattle.nats_subs.specs.Draining.{is_drained};
 ghost use Rattle.nats_subs.specs.Forgetting.{rests, over_rests, still, still_rests, rests_on};
 
 use crate::queue::Queue;
@@ -372,6 +373,13 @@ impl Subscription {
         ensures { result ≡ is_open self.now.stage }
     {
         matches!(self.stage, Stage::Open)
+    }
+
+    /// Whether it ends with its link.
+    pub fn is_drained(&self) -> bool
+        ensures { result ≡ is_drained self.now }
+    {
+        self.is_draining && self.is_open()
     }
 
     pub fn is_gone(&self) -> bool

@@ -11,17 +11,17 @@ use Rattle.nats_subs.proofs.subs.alter_rows.Goals as goal
 pub rows-smaller : goal.rows-smaller
 rows-smaller c =
     let f = λ (sub : Sub). kept (altered c.args.alteration sub) in
-    fewer_left rests c.rows.last c.in-Some.sid c.rows.table c.alter.new.self (ap length c.alter.ensures.changed ∙ length-at_number c.in-Some.sid f c.rows.table) (sym c.in-Some.ensures.next)
+    fewer_left rests c.rows.last c.in-Some.sid c.rows.table c.alter.new.self (ap length c.alter.ensures.changed ∙ length-at_number c.in-Some.sid f c.rows.table) (sym c.in-Some.ensures)
 
 pub rows-preserved : goal.rows-preserved
 rows-preserved c =
     let f = λ (sub : Sub). kept (altered c.args.alteration sub) in
     record {
-      rows = ap (rest_changed c.in-Some.sid f) c.alter.ensures.changed ∙ (sym (next_changed is_over rests forgotten f (rests_still c.args.alteration c.requires) c.rows.last c.in-Some.sid c.rows.table c.next_after.ensures.tidy (sym c.in-Some.ensures.next)) ∙ c.rows.invariant.rows);
+      rows = ap (rest_changed c.in-Some.sid f) c.alter.ensures.changed ∙ (sym (next_changed is_over rests forgotten f (rests_still c.args.alteration c.requires) c.rows.last c.in-Some.sid c.rows.table c.tidy.ensures (sym c.in-Some.ensures)) ∙ c.rows.invariant.rows);
       same = refl;
     }
 
 pub returns : goal.returns
 returns c =
     let f = λ (sub : Sub). kept (altered c.args.alteration sub) in
-    sym (none_changed is_over rests forgotten f (rests_still c.args.alteration c.requires) (suc c.rows.last) c.rows.last c.rows.table c.next_after.ensures.tidy (sym c.in_default.ensures.next)) ∙ c.rows.invariant.rows
+    sym (none_changed is_over rests forgotten f (rests_still c.args.alteration c.requires) (suc c.rows.last) c.rows.last c.rows.table c.tidy.ensures (sym c.in_default.ensures)) ∙ c.rows.invariant.rows
