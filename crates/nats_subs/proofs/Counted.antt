@@ -50,9 +50,6 @@ rows_altered subscribed f rows new is =
 pub renew_leaves : LeavesResting alterations.Renew
 renew_leaves sub rest = ap (λ stage. record sub { stage = stage }) (stage_stays sub.is_shut false sub.stage rest)
 
-pub end_link_leaves : LeavesResting alterations.EndLink
-end_link_leaves sub rest = ap (λ stage. record sub { stage = stage }) (stage_stays sub.is_draining false sub.stage rest)
-
 pub close_leaves : LeavesResting alterations.Close
 close_leaves sub rest = ap (λ stage. record sub { stage = stage }) (stage_stays true true sub.stage rest)
 

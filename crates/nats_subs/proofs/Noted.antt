@@ -1,7 +1,8 @@
 -- Subscriptions that end with their link, and those that are noted as such.
-use Rattle.std.proofs.Common.{◌≡◌, ℕ, zero, suc, Bool, true, false, ◌&&◌, cond, List, [], ◌∷◌, ◌++◌, map, ◌==◌, Option, Some, None, refl, sym, ◌∙◌, ap, subst}
-use Rattle.std.specs.Prelude.{⊥, slice_get}
+use Rattle.std.proofs.Common.{◌≡◌, ℕ, zero, suc, Bool, true, false, ◌&&◌, cond, List, [], ◌∷◌, ◌++◌, map, ◌==◌, refl, sym, ◌∙◌, ap, subst}
+use Rattle.std.specs.Prelude.{slice_get, OnOk, OnErr, Result}
 use Rattle.std.proofs.lemmas.Bool.{false≢true, eqb-true, eqb-false}
+use Rattle.std.specs.declared.result.Result.TheVariants.{Ok, Err}
 use Rattle.nats_wire.specs.declared.message.Message.{Message}
 use Rattle.nats_tables.specs.Numbers.{at_index, at_number, item_of}
 use Rattle.nats_tables.specs.Rows.{Tidy}
@@ -132,7 +133,7 @@ item_ended (suc i) xs = by_place i xs
 
 module _ (d : Drained) (f : Sub → Sub) (drainless : Drainless f) where
   pub covers_at : (k : ℕ) (rows : List Sub) → Covers d rows → Covers d (at_number k f rows)
-  covers_at zero rows covers = covers
+  covers_at zero rows covers s is = covers s is
   covers_at (suc i) rows covers zero is = absurd (false≢true is)
   covers_at (suc i) rows covers (suc j) is = covers (suc j) (by_place i j rows is)
     where
@@ -165,6 +166,11 @@ covers_more d rows sub quiet covers (suc j) is = covers (suc j) (by_place j rows
     by_place (suc j) [] is = is
     by_place zero (x ∷ xs) is = is
     by_place (suc j) (x ∷ xs) is = by_place j xs is
+
+-- the same where memory may be wanting
+pub covers_tried : {E : Type 0} {T : Type 0} (d : Drained) (r : Result T E) (rows changed new : List Sub) → OnOk r (new ≡ changed) → OnErr r (new ≡ rows) → Covers d changed → Covers d rows → Covers d new
+covers_tried d (Ok x) rows changed new ok err after before = subst (Covers d) (sym ok) after
+covers_tried d (Err e) rows changed new ok err after before = subst (Covers d) (sym err) before
 
 pub covers_ended : (d : Drained) (rows : List Sub) → Covers d (map link_ended rows)
 covers_ended d rows zero is = absurd (false≢true is)
@@ -204,8 +210,8 @@ ended_same (suc i) xs = by_place i xs
     by_place (suc i) (x ∷ xs) = ap (λ ys. link_ended x ∷ ys) (by_place i xs)
 
 not_true : (b : Bool) → (b ≡ true → ⊥) → b ≡ false
-not_true true no = absurd (no refl)
-not_true false no = refl
+not_true true never = absurd (never refl)
+not_true false never = refl
 
 quiet_rows : (xs : List Sub) → Tidy is_over forgotten xs → ((i : ℕ) → drained_at (slice_get xs i) ≡ false) → map link_ended xs ≡ xs
 quiet_rows [] tidy quiet = refl

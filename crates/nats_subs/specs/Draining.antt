@@ -1,5 +1,5 @@
 -- Which subscriptions end with their link, and which of them are noted.
-use Rattle.std.specs.Prelude.{◌≡◌, ⊤, ⊥, ℕ, Bool, true, false, ◌&&◌, ◌||◌, List, Option, Some, None, is_some}
+use Rattle.std.specs.Prelude.{◌≡◌, ℕ, Bool, true, false, ◌&&◌, ◌||◌, List, Option, Some, None, is_some}
 use Rattle.nats_tables.specs.Numbers.{item_of}
 use Rattle.nats_tables.specs.Rows.{look}
 use Rattle.nats_history.specs.History.{Sub, is_open}

@@ -24,4 +24,4 @@ rows-preserved c =
 pub returns : goal.returns
 returns c =
     let f = λ (sub : Sub). kept (altered c.args.alteration sub) in
-    sym (none_changed is_over rests forgotten f (rests_still c.args.alteration c.requires) (suc c.rows.last) c.rows.last c.rows.table c.tidy.ensures (sym c.in_default.ensures)) ∙ c.rows.invariant.rows
+    sym (none_changed is_over rests forgotten f (rests_still c.args.alteration c.requires) (suc c.rows.last) c.rows.last c.rows.table c.tidy-2.ensures (sym c.in_default.ensures)) ∙ c.rows.invariant.rows
