@@ -182,7 +182,11 @@ impl Subscriptions {
         self.drained.settle(sid, is_drained);
     }
 
-    /// Takes the memory for the drain of a subscription, so that the end of the link finds it without going through others.
+    /// Takes the memory for the drain of a subscription before it is drained, so that a link's end need not go through others.
+    ///
+    /// # Errors
+    ///
+    /// `NoMemory` where memory is wanting.
     pub fn note_drain(&mut self, sid: u64) -> Result<(), NoMemory>
         ensures { self.new ≡ self.old }
     {
