@@ -52,7 +52,7 @@ impl ConnectionHandler {
         self.info = Some(info);
         self.pings.clear();
         self.connection = connection;
-        self.subs.alter_each(Alteration::Renew);
+        self.subs.renew();
     }
 
     fn open_link(&mut self, alloc: Global, info: ServerInfo) -> Result<(), NoMemory>

@@ -8,7 +8,7 @@ ghost use Rattle.nats_session.specs.Handler.{push_all, seen_after, seen_all, clo
 
 use super::ConnectionHandler;
 use nats_history::{Event, LinkWord, NoMemory};
-use nats_subs::{Alteration, Queue};
+use nats_subs::Queue;
 use nats_wire::Connection;
 use std::alloc::Global;
 
@@ -78,7 +78,7 @@ impl ConnectionHandler {
         self.is_up = false;
         self.pings.clear();
         self.connection = Connection::new(alloc);
-        self.subs.alter_each(Alteration::EndLink);
+        self.subs.end_link();
     }
 
     /// Drops the calls that wait, and ends each subscription.
@@ -87,7 +87,7 @@ impl ConnectionHandler {
     {
         self.is_closed = true;
         self.calls.clear();
-        self.subs.alter_each(Alteration::Close);
+        self.subs.close();
     }
 
     /// Drops the link, and closes the session where it is to close.
