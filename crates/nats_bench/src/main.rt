@@ -9,14 +9,14 @@ ghost use Rattle.std.specs.Prelude.{◌≤◌, IfSome};
 mod carry;
 mod churn;
 mod counts;
-mod flushed;
+mod flushes;
 mod mix;
 mod report;
 
 use crate::carry::{Carried, carry};
 use crate::churn::{Left, churn};
 use crate::counts::{Counts, counts_of};
-use crate::flushed::{Flushed, flush};
+use crate::flushes::{Flushed, flush};
 use crate::mix::mixed_turns;
 use crate::report::{Report, Times};
 use anyhow::{Result, anyhow};

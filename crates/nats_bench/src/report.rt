@@ -5,7 +5,7 @@ ghost use Rattle.std.specs.Duration.{as_nanos};
 use crate::carry::Carried;
 use crate::churn::Left;
 use crate::counts::Counts;
-use crate::flushed::Flushed;
+use crate::flushes::Flushed;
 use std::fmt;
 use std::time::Duration;
 

@@ -1,5 +1,5 @@
 -- A ticket settles once, so its reply is handed out once.
-use Rattle.std.proofs.Common.{◌≡◌, ℕ, zero, suc, ◌+◌, ◌-◌, ◌≤◌, ◌<◌, Bool, true, false, cond, not, nat_lt, ◌&&◌, ◌||◌, ◌==◌, List, [], ◌∷◌, ◌++◌, length, map, Option, Some, None, is_some, refl, sym, ◌∙◌, ap, arith}
+use Rattle.std.proofs.Common.{◌≡◌, ℕ, zero, suc, ◌+◌, ◌-◌, ◌≤◌, ◌<◌, Bool, true, false, cond, not, nat_lt, ◌&&◌, ◌||◌, ◌==◌, List, [], ◌∷◌, ◌++◌, length, map, Option, Some, None, is_some, refl, sym, ◌∙◌, ap, arith, zero-add}
 use Rattle.std.proofs.lemmas.List.{append-nil, map-append}
 use Rattle.std.proofs.lemmas.Bool.{false≢true, eqb-true, eqb-false, ltb-true, ltb-false}
 use Rattle.nats_history.specs.declared.config.Config.{Config}
@@ -21,7 +21,7 @@ count k [] = 0
 count k (x ∷ xs) = cond (k == x) (suc (count k xs)) (count k xs)
 
 count_append : (k : ℕ) (xs ys : List ℕ) → count k (xs ++ ys) ≡ count k xs + count k ys
-count_append k [] ys = refl
+count_append k [] ys = sym (zero-add (count k ys))
 count_append k (x ∷ xs) ys = by (k == x) (count_append k xs ys)
   where
     by : (b : Bool) → count k (xs ++ ys) ≡ count k xs + count k ys → cond b (suc (count k (xs ++ ys))) (count k (xs ++ ys)) ≡ cond b (suc (count k xs)) (count k xs) + count k ys
@@ -67,7 +67,7 @@ count_without k ticket (x ∷ xs) e = by (ticket == x.0) refl e (count_without k
         omega (arith, one_more k x.0 (numbers_of (without ticket xs)), one_more k x.0 (numbers_of xs), later e)
 
 count_left : (k : ℕ) (out : List ℕ) (xs : Settled) → StoodThere out xs → count k out + count k (numbers_of (without_all out xs)) ≡ count k (numbers_of xs)
-count_left k [] xs there = refl
+count_left k [] xs there = zero-add (count k (numbers_of xs))
 count_left k (ticket ∷ out) xs there =
     omega (arith, one_more k ticket out, count_without k ticket (without_all out xs) there.0, count_left k out xs there.1)
 
@@ -104,12 +104,12 @@ count_taken k n (f ∷ fs) = by (reaches n f) (count_taken k n fs)
     by : (b : Bool) → count k (flushed_by n fs) + count k (map ticket_of (left_by n fs)) ≡ count k (map ticket_of fs)
         → count k (cond b (f.ticket ∷ flushed_by n fs) []) + count k (map ticket_of (cond b (left_by n fs) (map (nearer n) (f ∷ fs)))) ≡ count k (f.ticket ∷ map ticket_of fs)
     by true e = omega (arith, one_more k f.ticket (flushed_by n fs), one_more k f.ticket (map ticket_of fs), e)
-    by false e = ap (λ ts. count k (f.ticket ∷ ts)) (same_nearer n fs)
+    by false e = zero-add (count k (map ticket_of (map (nearer n) (f ∷ fs)))) ∙ ap (λ ts. count k (f.ticket ∷ ts)) (same_nearer n fs)
 
 -- a flush that is handled settles at once or awaits bytes
 count_handled : (k ticket waiting : ℕ) → count k (flushed_at_once ticket waiting) + count k (map ticket_of (awaiting ticket waiting)) ≡ count k (ticket ∷ [])
 count_handled k ticket zero = omega arith
-count_handled k ticket (suc n) = refl
+count_handled k ticket (suc n) = zero-add (count k (ticket ∷ []))
 
 -- ---- each number settled or awaits bytes once at most, and none that was not handled
 

@@ -219,8 +219,8 @@ impl Flushes {
         self.handled = self.given;
     }
 
-    /// Hands out the reply of a ticket, once; `None` exactly where it did not settle yet, was not given or was handed out. It
-    /// takes no memory, and looks through the settled tickets that were not handed out.
+    /// Hands out the reply of a ticket: that which it settled by first, of those that were not handed out. `None` exactly where
+    /// there is none. It takes no memory, and looks through the settled tickets that were not handed out.
     pub fn reply_of(&mut self, ticket: u64) -> Option<CallReply>
         ensures reply { result ≡ reply_in ticket self.old.ready }
         ensures rest { self.new ≡ record self.old { ready = without ticket self.old.ready } }

@@ -240,9 +240,9 @@ impl ConnectionHandler {
         self.flushes.reply_of(t)
     }
 
-    /// Hands out the reply by which ticket `t` settled, once; `None` exactly where it is unsettled, was not given, or was handed
-    /// out. It takes no memory, and looks through the settled tickets that were not handed out. Own call: the crate has a
-    /// channel for each.
+    /// Hands out the reply by which ticket `t` settled. `None` exactly where it did not settle or its reply was handed out, as
+    /// `laws::reply_once` says. It takes no memory, and looks through the settled tickets that were not handed out. Own call:
+    /// the crate has a channel for each.
     pub fn reply_of(&mut self, t: u64) -> Option<CallReply>
         ensures reply { result ≡ reply_in t self.old.ready }
         ensures rest { self.new ≡ record self.old { ready = without t self.old.ready } }
