@@ -39,7 +39,7 @@ pub fn bring_up(alloc: Global, session: &mut ConnectionHandler) -> Result<(), No
 }
 
 /// Makes a call where it may come; the number that it gave, if it gave one.
-fn submit(
+pub fn submit(
     alloc: Global,
     session: &mut ConnectionHandler,
     call: &Call,
@@ -62,7 +62,9 @@ fn number_of(reply: &CallReply) -> Option<u64> {
         | CallReply::MaxPayloadExceeded { .. }
         | CallReply::Closed
         | CallReply::NoNumber
-        | CallReply::Full => None,
+        | CallReply::Full
+        | CallReply::Flushed
+        | CallReply::FlushFailed => None,
     }
 }
 

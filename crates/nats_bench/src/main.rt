@@ -1,6 +1,7 @@
 //! Measures the session: a mixed list of turns is made in memory and played, and as many subscriptions are made and dropped
 //! again, one after another. `count N` prints what N turns showed and what N subscriptions left, `time N` how long they took.
-//! `links N` carries N subscriptions over N links and prints how long that took; `count N` does so with 20 at most.
+//! `links N` carries N subscriptions over N links and prints how long that took; `count N` does so with 20 at most. `flushes N`
+//! has N flushes wait behind one command and prints how long it took to settle and to hand out all; `count N` does so too.
 #![tactic(auto)]
 
 ghost use Rattle.std.specs.Prelude.{◌≤◌, IfSome};
@@ -8,12 +9,14 @@ ghost use Rattle.std.specs.Prelude.{◌≤◌, IfSome};
 mod carry;
 mod churn;
 mod counts;
+mod flushes;
 mod mix;
 mod report;
 
 use crate::carry::{Carried, carry};
 use crate::churn::{Left, churn};
 use crate::counts::{Counts, counts_of};
+use crate::flushes::{Flushed, flush};
 use crate::mix::mixed_turns;
 use crate::report::{Report, Times};
 use anyhow::{Result, anyhow};
@@ -44,6 +47,8 @@ enum Command {
     Time(usize),
     /// How long it took to carry so many over as many links.
     Links(usize),
+    /// How long it took to settle so many flushes.
+    Flushes(usize),
 }
 
 fn number_of(word: &str) -> Option<usize>
@@ -62,6 +67,7 @@ fn command_of(words: &[String]) -> Option<Command> {
         "count" => Some(Command::Count(count)),
         "time" => Some(Command::Time(count)),
         "links" => Some(Command::Links(count)),
+        "flushes" => Some(Command::Flushes(count)),
         _ => None,
     }
 }
@@ -114,16 +120,30 @@ fn play_links<R: Clock + AllocGlobal>(rt: &R, count: usize) -> Result<(Carried, 
     Ok((carried, start.elapsed(rt)?))
 }
 
+/// Settles `count` flushes: what they came to, and how long it took.
+fn play_flushes<R: Clock + AllocGlobal>(rt: &R, count: usize) -> Result<(Flushed, Duration)> {
+    let config = settings(rt.alloc())?;
+    let start = Instant::now(rt)?;
+    let flushed = flush(rt.alloc(), config, count)?;
+    Ok((flushed, start.elapsed(rt)?))
+}
+
 fn counted<R: Clock + AllocGlobal>(rt: &R, count: usize) -> Result<Report> {
     let (counts, _) = play(rt, count)?;
     let (left, _) = play_churn(rt, count)?;
     let (carried, _) = play_links(rt, count.min(CARRIED))?;
-    Ok(Report::Counted(counts, left, carried))
+    let (flushed, _) = play_flushes(rt, count)?;
+    Ok(Report::Counted(counts, left, carried, flushed))
 }
 
 fn linked<R: Clock + AllocGlobal>(rt: &R, count: usize) -> Result<Report> {
     let (carried, elapsed) = play_links(rt, count)?;
     Ok(Report::Linked(carried, elapsed))
+}
+
+fn flushed<R: Clock + AllocGlobal>(rt: &R, count: usize) -> Result<Report> {
+    let (flushed, elapsed) = play_flushes(rt, count)?;
+    Ok(Report::Flushed(flushed, elapsed))
 }
 
 fn timed<R: Clock + AllocGlobal>(rt: &R, count: usize) -> Result<Report> {
@@ -155,6 +175,7 @@ fn measure<R: Clock + Env + AllocGlobal>(rt: &R) -> Result<Option<Report>> {
         Some(Command::Count(count)) => Ok(Some(counted(rt, count)?)),
         Some(Command::Time(count)) => Ok(Some(timed(rt, count)?)),
         Some(Command::Links(count)) => Ok(Some(linked(rt, count)?)),
+        Some(Command::Flushes(count)) => Ok(Some(flushed(rt, count)?)),
         None => Ok(None),
     }
 }
@@ -171,7 +192,7 @@ fn main(rt: HostRuntime) -> ExitCode {
         Ok(Some(report)) => print(&rt, &report),
         Ok(None) => {
             let _ = eprintln!(rt;
-                "usage: nats_bench count N, time N or links N; N is at most {TURN_LIMIT}"
+                "usage: nats_bench count N, time N, links N or flushes N; N is at most {TURN_LIMIT}"
             );
             UNKNOWN
         }

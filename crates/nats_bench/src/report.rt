@@ -5,6 +5,7 @@ ghost use Rattle.std.specs.Duration.{as_nanos};
 use crate::carry::Carried;
 use crate::churn::Left;
 use crate::counts::Counts;
+use crate::flushes::Flushed;
 use std::fmt;
 use std::time::Duration;
 
@@ -24,13 +25,15 @@ pub struct Times {
 /// What a command found.
 #[derive(Clone, Copy)]
 pub enum Report {
-    /// What a list of turns showed, what subscriptions left that were made and dropped, and what others came to that were
-    /// carried over links.
-    Counted(Counts, Left, Carried),
+    /// What a list of turns showed, what subscriptions left that were made and dropped, what others came to that were carried
+    /// over links, and what flushes came to.
+    Counted(Counts, Left, Carried, Flushed),
     /// How long the first two took.
     Timed(Times),
     /// What subscriptions came to that were carried over links, and how long that took.
     Linked(Carried, Duration),
+    /// What flushes came to, and how long that took.
+    Flushed(Flushed, Duration),
 }
 
 /// How many of `count` are a second's share; a time of nothing is taken as one nanosecond.
@@ -64,11 +67,17 @@ impl fmt::Display for Times {
 impl fmt::Display for Report {
     fn fmt<W: fmt::Write>(&self, f: &mut fmt::Formatter<W>) -> fmt::Result {
         match self {
-            Report::Counted(counts, left, carried) => write!(f, "{counts}{left}{carried}"),
+            Report::Counted(counts, left, carried, flushed) => {
+                write!(f, "{counts}{left}{carried}{flushed}")
+            }
             Report::Timed(times) => write!(f, "{times}"),
             Report::Linked(carried, elapsed) => {
                 let millis = elapsed.as_millis();
                 write!(f, "{carried}in {millis} ms\n")
+            }
+            Report::Flushed(flushed, elapsed) => {
+                let millis = elapsed.as_millis();
+                write!(f, "{flushed}in {millis} ms\n")
             }
         }
     }

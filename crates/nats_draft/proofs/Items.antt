@@ -17,3 +17,12 @@ pub number_missing : {A : Type 0} (f : A → A) (xs : List A) (k : ℕ) → (k �
 number_missing f xs k (inl z) = ap (λ n. at_number n f xs) z
 number_missing f xs zero (inr past) = refl
 number_missing f xs (suc i) (inr past) = at_index_past i f xs (omega arith)
+
+-- the same where the item is known by its place alone
+set_there : {A : Type 0} (f : A → A) (xs : List A) (i : ℕ) (d y : A) → i < length xs → y ≡ f (get_or xs i d) → set xs i y ≡ at_index i f xs
+set_there f [] i d y less e = absurd (omega arith)
+set_there f (z ∷ zs) zero d y less e = ap (λ w. w ∷ zs) e
+set_there f (z ∷ zs) (suc i) d y less e = ap (λ ws. z ∷ ws) (set_there f zs i d y (omega arith) e)
+
+pub set_with : {A : Type 0} (f : A → A) (xs : List A) (k i : ℕ) (d y : A) → k ≡ suc i → i < length xs → y ≡ f (get_or xs i d) → set xs i y ≡ at_number k f xs
+set_with f xs k i d y e less is = set_there f xs i d y less is ∙ ap (λ n. at_number n f xs) (sym e)

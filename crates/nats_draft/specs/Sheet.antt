@@ -12,6 +12,7 @@ use Rattle.nats_history.specs.declared.transcript.Transcript.{Transcript}
 use Rattle.nats_history.specs.declared.turn.Due.{Due}
 use Rattle.nats_history.specs.declared.turn.Due.TheVariants as due_names
 use Rattle.nats_tables.specs.Numbers.{at_number}
+use Rattle.nats_history.specs.History.{settle_once}
 use Rattle.nats_draft.specs.declared.draft.Note.{Note}
 use Rattle.nats_draft.specs.declared.draft.Note.TheVariants as notes
 
@@ -24,9 +25,10 @@ pub record Sheet : Type 0 where
   pub subs : List SubRow
   pub events : List (ℕ × Event)
   pub calls : List (ℕ × CallReply)
+  pub tickets : List (Option (ℕ × CallReply))
 
 abbrev pub empty_sheet : Sheet
-empty_sheet = record { links = []; taken = []; subs = []; events = []; calls = [] }
+empty_sheet = record { links = []; taken = []; subs = []; events = []; calls = []; tickets = [] }
 
 -- ---- rows
 
@@ -40,6 +42,14 @@ new_row = record { puts = []; drops = []; takes = [] }
 abbrev pub added : CallReply → List SubRow → List SubRow
 added (Numbered n) rows = rows ++ new_row ∷ []
 added reply rows = rows
+
+-- one more ticket, which did not settle yet
+abbrev pub added_ticket : CallReply → List (Option (ℕ × CallReply)) → List (Option (ℕ × CallReply))
+added_ticket (Numbered n) rows = rows ++ None ∷ []
+added_ticket reply rows = rows
+
+abbrev pub write_settled : ℕ → ℕ → CallReply → Sheet → Sheet
+write_settled place ticket reply sheet = record sheet { tickets = at_number ticket (settle_once (place, reply)) sheet.tickets }
 
 abbrev pub write_put : ℕ → Message → SubRow → SubRow
 write_put place m row = record row { puts = row.puts ++ (place, m) ∷ [] }
@@ -64,7 +74,7 @@ write_due place name sheet = sheet
 
 -- the transcript of all that is written; a link that is up has no row in it
 abbrev pub shown_of : Sheet → Transcript
-shown_of sheet = record { links = sheet.links; subs = sheet.subs; events = sheet.events; calls = sheet.calls }
+shown_of sheet = record { links = sheet.links; subs = sheet.subs; events = sheet.events; calls = sheet.calls; tickets = sheet.tickets }
 
 -- ---- a row by its number
 

@@ -1,7 +1,8 @@
 //! A transcript as it is written.
 ghost use Rattle.std.specs.Prelude.{◌≡◌, ◌+◌, [], ◌∷◌, ◌++◌, OnOk, IfOk, length, List, ℕ, if◌then◌else◌};
 ghost use Rattle.nats_tables.specs.Numbers.{at_number};
-ghost use Rattle.nats_draft.specs.Sheet.{Sheet, empty_sheet, new_row, added, write_put, write_note, write_due, row_with, shown_of};
+ghost use Rattle.nats_history.specs.History.{settle_once};
+ghost use Rattle.nats_draft.specs.Sheet.{Sheet, empty_sheet, new_row, added, added_ticket, write_settled, write_put, write_note, write_due, row_with, shown_of};
 
 use crate::places::place_of;
 use nats_history::{
@@ -19,6 +20,7 @@ pub struct Draft {
     subs: Vec<SubRow>,
     events: Vec<(u64, Event)>,
     calls: Vec<(u64, CallReply)>,
+    tickets: Vec<Option<(u64, CallReply)>>,
 }
 
 impl Model for Draft {
@@ -32,6 +34,7 @@ impl Model for Draft {
       subs = d.subs.items;
       events = d.events.items;
       calls = d.calls.items;
+      tickets = d.tickets.items;
     } };
 }
 
@@ -46,6 +49,7 @@ impl Draft {
             subs: Vec::new(alloc),
             events: Vec::new(alloc),
             calls: Vec::new(alloc),
+            tickets: Vec::new(alloc),
         }
     }
 
@@ -130,18 +134,64 @@ impl Draft {
             | CallReply::MaxPayloadExceeded { .. }
             | CallReply::Closed
             | CallReply::NoNumber
-            | CallReply::Full => Ok(()),
+            | CallReply::Full
+            | CallReply::Flushed
+            | CallReply::FlushFailed => Ok(()),
         }
     }
 
-    /// A call was answered; where the reply has a number, a subscription was given it.
+    fn add_call(&mut self, place: u64, reply: CallReply) -> Result<(), NoMemory>
+        ensures { OnOk result (self.new ≡ record self.old { calls = self.old.calls ++ (place, reply) ∷ [] }) }
+    {
+        self.calls.push((place, reply))?;
+        Ok(())
+    }
+
+    /// A call that asks for no ticket was answered; where the reply has a number, a subscription was given it.
     pub fn note_call(&mut self, alloc: Global, place: u64, reply: CallReply) -> Result<(), NoMemory>
         ensures { OnOk result (self.new
             ≡ record self.old { subs = added reply self.old.subs; calls = self.old.calls ++ (place, reply) ∷ [] }) }
     {
         self.add_numbered(alloc, &reply)?;
-        self.calls.push((place, reply))?;
-        Ok(())
+        self.add_call(place, reply)
+    }
+
+    fn add_ticket(&mut self, reply: &CallReply) -> Result<(), NoMemory>
+        ensures { OnOk result (self.new ≡ record self.old { tickets = added_ticket reply.now self.old.tickets }) }
+    {
+        match reply {
+            CallReply::Numbered(_) => {
+                self.tickets.push(None)?;
+                Ok(())
+            }
+            CallReply::Accepted
+            | CallReply::InvalidSubject
+            | CallReply::InvalidQueueName
+            | CallReply::MaxPayloadExceeded { .. }
+            | CallReply::Closed
+            | CallReply::NoNumber
+            | CallReply::Full
+            | CallReply::Flushed
+            | CallReply::FlushFailed => Ok(()),
+        }
+    }
+
+    /// A flush was answered; where the reply has a number, it is that of its ticket.
+    pub fn note_flush(&mut self, place: u64, reply: CallReply) -> Result<(), NoMemory>
+        ensures { OnOk result (self.new ≡ record self.old {
+          tickets = added_ticket reply self.old.tickets;
+          calls = self.old.calls ++ (place, reply) ∷ [];
+        }) }
+    {
+        self.add_ticket(&reply)?;
+        self.add_call(place, reply)
+    }
+
+    /// A ticket settled; it stays as it settled first. It takes no memory.
+    pub fn note_settled(&mut self, place: u64, ticket: u64, reply: CallReply)
+        ensures { self.new ≡ write_settled place ticket reply self.old }
+    {
+        settle_in(&mut self.tickets, place, ticket, reply);
     }
 
     /// An event was handed out.
@@ -162,12 +212,14 @@ impl Draft {
             subs,
             events,
             calls,
+            tickets,
         } = self;
         Transcript {
             links: Seq::from_vec(links),
             subs: Seq::from_vec(subs),
             events: Seq::from_vec(events),
             calls: Seq::from_vec(calls),
+            tickets: Seq::from_vec(tickets),
         }
     }
 }
@@ -223,5 +275,22 @@ fn note_in(
     match place_of(sid, rows.len()) {
         Some(index) => note_on(&mut rows[index], alloc, place, note),
         None => Ok(()),
+    }
+}
+
+fn settle_one(row: &mut Option<(u64, CallReply)>, place: u64, reply: CallReply)
+    ensures { row.new ≡ settle_once (place, reply) row.old }
+{
+    if row.is_none() {
+        *row = Some((place, reply));
+    }
+}
+
+fn settle_in(rows: &mut [Option<(u64, CallReply)>], place: u64, ticket: u64, reply: CallReply)
+    ensures { rows.new ≡ at_number ticket (settle_once (place, reply)) rows.old }
+{
+    match place_of(ticket, rows.len()) {
+        Some(index) => settle_one(&mut rows[index], place, reply),
+        None => {}
     }
 }

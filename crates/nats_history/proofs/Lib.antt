@@ -1,5 +1,6 @@
 pub mod Drains
 pub mod Dues
+pub mod Flushes
 pub mod Limits
 pub mod Plays
 pub mod Refines

@@ -47,7 +47,7 @@ written_bytes false [] all waiting e = refl
 written_bytes true (command ∷ more) all waiting e = e ∙ written_all (command ∷ more) waiting
 written_bytes false (command ∷ more) all waiting e = refl
 
-bytes_next : (c : Config) (h : History) (place : ℕ) (step : Step) → waiting_bytes c ((place, step) ∷ h) ≡ bytes_after (is_up h) (commands c (at_of h) (rows_of c h) step) step (waiting_bytes c h)
+pub bytes_next : (c : Config) (h : History) (place : ℕ) (step : Step) → waiting_bytes c ((place, step) ∷ h) ≡ bytes_after (is_up h) (commands c (at_of h) (rows_of c h) step) step (waiting_bytes c h)
 bytes_next c h place (opened info) = written_all (commands c (at_of h) (rows_of c h) (opened info)) []
 bytes_next c h place (link_end word) = refl
 bytes_next c h place (taken n) = taken_bytes (is_up h) (taken_count c h) n (link_text c h)

@@ -1,5 +1,5 @@
 -- What one step makes of the parts. The laws say that it is what the words on the longer history give.
-use Rattle.std.specs.Prelude.{ℕ, zero, suc, Bool, false, List, [], ◌∷◌, ◌++◌, drop, Option, Some, None, if◌then◌else◌}
+use Rattle.std.specs.Prelude.{ℕ, zero, suc, Bool, false, List, [], ◌∷◌, ◌++◌, length, drop, Option, Some, None, if◌then◌else◌}
 use Rattle.nats_names.specs.declared.event.Event.{Event}
 use Rattle.nats_wire.specs.declared.message.Message.{Message}
 use Rattle.nats_wire.specs.declared.op.ClientOp.{ClientOp}
@@ -8,7 +8,8 @@ use Rattle.nats_wire.specs.Commands.{command_text}
 use Rattle.nats_wire.specs.Wire.{Wire}
 use Rattle.nats_history.specs.declared.config.Config.{Config}
 use Rattle.nats_history.specs.declared.call.Call.{Call}
-use Rattle.nats_history.specs.History.{Step, opened, fed, read, taken, accepted, handled, took, gone, link_end, closed, links_after, up_after, closed_after, drain_after, max_payload_after, info_after, all_reads_after, pings_after, cut, subscribes, At, given_after, subscribed_after, about, Sub, puts, interest_after, stage_after, shut_after, gone_after, draining_after, limit_after, kept, commands, new_events}
+use Rattle.nats_history.specs.declared.call.CallReply.{CallReply}
+use Rattle.nats_history.specs.History.{Step, opened, fed, read, taken, accepted, handled, took, gone, link_end, closed, links_after, up_after, closed_after, drain_after, max_payload_after, info_after, all_reads_after, pings_after, cut, subscribes, At, given_after, subscribed_after, about, Sub, puts, interest_after, stage_after, shut_after, gone_after, draining_after, limit_after, kept, commands, tickets_after, settles, new_events}
 use Rattle.nats_history.specs.declared.stage.Stage.TheVariants.{Asked}
 use Rattle.nats_history.specs.declared.ping.Ping.{Ping}
 use Rattle.nats_tables.specs.Numbers.{change}
@@ -121,6 +122,10 @@ commands_of p step = commands p.config (at_in p) p.subs.rows step
 abbrev pub events_of : Parts → Step → List Event
 events_of p step = new_events p.config p.subs.rows step
 
+-- the tickets that a step settles, where these are the parts before it
+abbrev pub settled_of : Parts → Step → List (ℕ × CallReply)
+settled_of p step = settles (length p.link.wire.waiting) step p.tickets
+
 abbrev pub after : Parts → Step → Parts
 after p step = record {
   config = p.config;
@@ -129,6 +134,7 @@ after p step = record {
   link = link_after (commands_of p step) step p.link;
   calls = calls_after step p.calls;
   subs = subs_after p.config p.link.pings step p.subs;
+  tickets = tickets_after (length p.link.wire.waiting) step p.tickets;
 }
 
 abbrev pub after_all : Parts → List Step → Parts

@@ -10,7 +10,9 @@ use Rattle.nats_wire.specs.Operations.{Operation, message, info_op, error_op, pi
 use Rattle.nats_wire.specs.Commands.{command_text}
 use Rattle.nats_history.specs.declared.config.Config.{Config}
 use Rattle.nats_history.specs.declared.call.Call.{Call}
-use Rattle.nats_history.specs.declared.call.Call.TheVariants.{Publish, Subscribe, Unsubscribe, Limit, Drain, DrainAll, DropSub}
+use Rattle.nats_history.specs.declared.call.Call.TheVariants.{Publish, Subscribe, Unsubscribe, Limit, Drain, DrainAll, Flush, DropSub}
+use Rattle.nats_history.specs.declared.call.CallReply.{CallReply}
+use Rattle.nats_history.specs.declared.call.CallReply.TheVariants.{Flushed, FlushFailed}
 use Rattle.nats_history.specs.declared.call.Interest.{Interest}
 use Rattle.nats_history.specs.declared.ping.Ping.{Ping}
 use Rattle.nats_history.specs.declared.ping.Ping.TheVariants as pinged
@@ -19,7 +21,7 @@ use Rattle.nats_history.specs.declared.stage.Stage.TheVariants.{Asked, Open, End
 use Rattle.nats_history.specs.declared.transcript.LinkWord.{LinkWord}
 use Rattle.nats_history.specs.declared.transcript.LinkWord.TheVariants as word
 use Rattle.nats_history.specs.Queue.{first}
-use Rattle.nats_tables.specs.Numbers.{About, nobody, everyone, only, is_about, named, item_of, count_from}
+use Rattle.nats_tables.specs.Numbers.{About, nobody, everyone, only, is_about, named, at_number, item_of, count_from}
 use Rattle.nats_tables.specs.Rows.{tidied}
 
 -- what can happen
@@ -224,6 +226,11 @@ drains call = false
 abbrev pub drains_all : Call → Bool
 drains_all DrainAll = true
 drains_all call = false
+
+-- a call that is given a ticket when it is accepted, and whose handling settles it or has it await bytes
+abbrev pub is_flush : Call → Bool
+is_flush Flush = true
+is_flush call = false
 
 -- the subscription that the user of a call lets go, whatever the reply
 abbrev pub lets_go : Call → Option ℕ
@@ -612,6 +619,106 @@ taken_count c (e ∷ h) = taken_count c h
 -- the bytes that wait: the text of the link that is up without those that were taken
 abbrev pub waiting_bytes : Config → History → List ℕ
 waiting_bytes c h = if is_up h then drop (taken_count c h) (link_text c h) else []
+
+-- ---- tickets
+
+-- a flush that was handled and that no write reached yet: its ticket, and how many waiting bytes are ahead of it
+pub record Awaits : Type 0 where
+  pub ticket : ℕ
+  pub ahead : ℕ
+
+pub record Tickets : Type 0 where
+  -- how many were given
+  pub given : ℕ
+  -- of how many of the first the flush was handled, or dropped at the close
+  pub handled : ℕ
+  -- the handled flushes that await bytes, oldest first
+  pub flushing : List Awaits
+
+-- n more bytes reach what a flush awaits
+abbrev pub reaches : ℕ → Awaits → Bool
+reaches n flush = nat_le flush.ahead n
+
+-- the tickets that n more bytes settle, from the oldest on: no flush awaits fewer bytes than an older one
+abbrev pub flushed_by : ℕ → List Awaits → List ℕ
+flushed_by n [] = []
+flushed_by n (flush ∷ more) = if reaches n flush then flush.ticket ∷ flushed_by n more else []
+
+abbrev pub nearer : ℕ → Awaits → Awaits
+nearer n flush = record { ticket = flush.ticket; ahead = flush.ahead - n }
+
+-- the flushes that still await bytes after n more
+abbrev pub left_by : ℕ → List Awaits → List Awaits
+left_by n [] = []
+left_by n (flush ∷ more) = if reaches n flush then left_by n more else map (nearer n) (flush ∷ more)
+
+-- a flush that is handled while so many bytes wait awaits them
+abbrev pub awaiting : ℕ → ℕ → List Awaits
+awaiting ticket zero = []
+awaiting ticket (suc n) = record { ticket = ticket; ahead = suc n } ∷ []
+
+-- and where none waits it is flushed at once
+abbrev pub flushed_at_once : ℕ → ℕ → List ℕ
+flushed_at_once ticket zero = ticket ∷ []
+flushed_at_once ticket (suc n) = []
+
+abbrev pub flush_handled : Option ℕ → ℕ → Tickets → Tickets
+flush_handled None waiting t = t
+flush_handled (Some ticket) waiting t = record t { handled = ticket; flushing = t.flushing ++ awaiting ticket waiting }
+
+abbrev pub flush_settled : Option ℕ → ℕ → List ℕ
+flush_settled None waiting = []
+flush_settled (Some ticket) waiting = flushed_at_once ticket waiting
+
+-- the k-th accepted flush has ticket k; what waits before a step says what a flush that it handles awaits
+abbrev pub tickets_after : ℕ → Step → Tickets → Tickets
+tickets_after waiting (accepted call) t = record t { given = if is_flush call then suc t.given else t.given }
+tickets_after waiting (handled call) t = if is_flush call then flush_handled (next_number t.given t.handled) waiting t else t
+tickets_after waiting (taken n) t = record t { flushing = left_by n t.flushing }
+tickets_after waiting (opened info) t = record t { flushing = [] }
+tickets_after waiting (link_end end) t = record t { flushing = [] }
+tickets_after waiting closed t = record t { handled = t.given; flushing = [] }
+tickets_after waiting step t = t
+
+abbrev pub ticket_of : Awaits → ℕ
+ticket_of flush = flush.ticket
+
+abbrev pub replied : CallReply → List ℕ → List (ℕ × CallReply)
+replied reply tickets = map (λ ticket. (ticket, reply)) tickets
+
+-- the tickets that a step settles, where these are the waiting bytes and the tickets before it: a flush is flushed where it is
+-- handled and no byte waits, or else by the bytes that are taken; it fails as its link ends, and at the close
+abbrev pub settles : ℕ → Step → Tickets → List (ℕ × CallReply)
+settles waiting (handled call) t = if is_flush call then replied Flushed (flush_settled (next_number t.given t.handled) waiting) else []
+settles waiting (taken n) t = replied Flushed (flushed_by n t.flushing)
+settles waiting (link_end end) t = replied FlushFailed (map ticket_of t.flushing)
+settles waiting closed t = replied FlushFailed (map ticket_of t.flushing ++ count_from (suc t.handled) (t.given - t.handled))
+settles waiting step t = []
+
+-- the tickets as they stand
+abbrev pub tickets : Config → History → Tickets
+tickets c [] = record { given = 0; handled = 0; flushing = [] }
+tickets c ((place, step) ∷ h) = tickets_after (length (waiting_bytes c h)) step (tickets c h)
+
+-- one more ticket where one is given
+abbrev pub grown_tickets : {A : Type 0} → Step → List (Option A) → List (Option A)
+grown_tickets (accepted call) rows = if is_flush call then rows ++ None ∷ [] else rows
+grown_tickets step rows = rows
+
+-- a ticket settles once, at the first place that fits
+abbrev pub settle_once : {A : Type 0} → A → Option A → Option A
+settle_once reply None = Some reply
+settle_once reply (Some earlier) = Some earlier
+
+abbrev pub settle_rows : ℕ → List (ℕ × CallReply) → List (Option (ℕ × CallReply)) → List (Option (ℕ × CallReply))
+settle_rows place [] rows = rows
+settle_rows place ((ticket, reply) ∷ more) rows = settle_rows place more (at_number ticket (settle_once (place, reply)) rows)
+
+-- the tickets by their numbers, each with the place at which it settled and its reply, if it did
+abbrev pub ticket_rows : Config → History → List (Option (ℕ × CallReply))
+ticket_rows c [] = []
+ticket_rows c ((place, step) ∷ h) =
+    settle_rows place (settles (length (waiting_bytes c h)) step (tickets c h)) (grown_tickets step (ticket_rows c h))
 
 -- ---- events
 

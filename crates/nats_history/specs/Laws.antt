@@ -1,5 +1,6 @@
 -- Sentences about the words on histories and what steps make of parts.
-use Rattle.std.specs.Prelude.{◌≡◌, ℕ, ◌≤◌, ◌<◌, ◌^◌, true, false, [], ◌∷◌, ◌++◌, length, max, Some, None}
+use Rattle.std.specs.Prelude.{◌≡◌, ℕ, ◌≤◌, ◌<◌, ◌^◌, true, false, [], ◌∷◌, ◌++◌, length, map, max, Some, None}
+use Rattle.std.specs.List.{filter}
 use Rattle.nats_wire.specs.declared.message.Message.{Message}
 use Rattle.nats_wire.specs.Operations.{message, pong_op}
 use Rattle.nats_history.specs.declared.config.Config.{Config}
@@ -7,7 +8,7 @@ use Rattle.nats_history.specs.declared.turn.Turn.{Turn}
 use Rattle.nats_history.specs.declared.call.Call.TheVariants.{Limit, Drain}
 use Rattle.nats_history.specs.declared.ping.Ping.TheVariants as pinged
 use Rattle.nats_history.specs.Queue.{first}
-use Rattle.nats_history.specs.History.{Step, came, opened, read, handled, link_end, closed, History, concerns, at_of, pings, sub_of, is_open, has_room, call_ends, ends, told}
+use Rattle.nats_history.specs.History.{Step, came, opened, read, handled, link_end, closed, History, concerns, at_of, pings, sub_of, is_open, has_room, call_ends, ends, told, reaches, flushed_by, ticket_of, tickets}
 use Rattle.nats_history.specs.Parts.{Parts, parts_of}
 use Rattle.nats_history.specs.Schedule.{due, put_steps, settled, after_turn}
 use Rattle.nats_history.specs.After.{after, after_all, due_steps}
@@ -65,3 +66,7 @@ DrainPuts =
     (c : Config) (h : History) (s place : ℕ) (m : Message) (later : History) → is_open (told c s h).stage ≡ true → AllGoOn c s h later
     → (told c s (later ++ h)).is_shut ≡ false → has_room c (sub_of (told c s (later ++ h))) ≡ true
     → (told c s ((place, came s m) ∷ later ++ h)).puts ≡ (told c s (later ++ h)).puts ++ (place, m) ∷ []
+
+-- the flushes that n more bytes settle are all those that await no more: they stand in order
+abbrev pub FlushesReached : Type 0
+FlushesReached = (c : Config) (h : History) (n : ℕ) → flushed_by n (tickets c h).flushing ≡ map ticket_of (filter (reaches n) (tickets c h).flushing)

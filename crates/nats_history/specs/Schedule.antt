@@ -19,7 +19,7 @@ use Rattle.nats_history.specs.declared.transcript.LinkWord.{LinkWord}
 use Rattle.nats_history.specs.declared.transcript.LinkWord.TheVariants as word
 use Rattle.nats_history.specs.Queue.{first}
 use Rattle.nats_tables.specs.Numbers.{item_of}
-use Rattle.nats_history.specs.History.{Step, opened, fed, read, ticked, taken, accepted, handled, took, gone, link_end, closed, History, ticks, subscribes, names, lets_go, Sub, is_ended}
+use Rattle.nats_history.specs.History.{Step, opened, fed, read, ticked, taken, accepted, handled, took, gone, link_end, closed, History, ticks, subscribes, is_flush, names, lets_go, Sub, is_ended}
 use Rattle.nats_history.specs.Parts.{Parts, parts_of}
 
 -- ---- replies
@@ -53,9 +53,9 @@ abbrev pub size_of : Call → ℕ
 size_of (Publish m) = length_or_0 (sent_block m.headers) + length m.payload
 size_of call = 0
 
--- it would be given a number and none is left
+-- it would be given a number or a ticket and none is left
 abbrev pub has_no_number : Parts → Call → Bool
-has_no_number p call = subscribes call && nat_le (2 ^ 64 - 1) p.subs.given
+has_no_number p call = (subscribes call && nat_le (2 ^ 64 - 1) p.subs.given) || (is_flush call && nat_le (2 ^ 64 - 1) p.tickets.given)
 
 -- no further call is accepted: the session closed, or a drain of the whole session was accepted
 abbrev pub takes_no_call : Parts → Bool
@@ -73,7 +73,8 @@ refusal p call =
 
 -- the reply of a call that is accepted
 abbrev pub accepted_reply : Parts → Call → CallReply
-accepted_reply p call = if subscribes call then Numbered (suc p.subs.given) else Accepted
+accepted_reply p call =
+    if subscribes call then Numbered (suc p.subs.given) else (if is_flush call then Numbered (suc p.tickets.given) else Accepted)
 
 abbrev pub reply_by : Option CallReply → CallReply → CallReply
 reply_by None reply = reply

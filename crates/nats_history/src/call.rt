@@ -25,6 +25,8 @@ pub enum Call {
     Drain(u64),
     /// All subscriptions are drained, then the link ends and the session closes. Later calls are refused.
     DrainAll,
+    /// A ticket that is settled once the link took all bytes that wait when the call is handled.
+    Flush,
     /// The user lets the subscription of this number go, whatever the reply: its waiting messages go, and no later call may
     /// name it.
     DropSub(u64),
@@ -46,8 +48,10 @@ pub struct Interest {
 pub enum CallReply {
     /// The call was accepted.
     Accepted,
-    /// The call was accepted, and this is the number that it gave, from 1.
+    /// The call was accepted, and this is the number or the ticket that it gave, from 1.
     Numbered(u64),
+    /// A flush is done: the link took all bytes that waited when it was handled.
+    Flushed,
     /// A subject or a reply may not be published to, or a subject may not be subscribed to.
     InvalidSubject,
     /// A queue group has no letter, or a space, a tab, a CR or an LF.
@@ -56,10 +60,12 @@ pub enum CallReply {
     MaxPayloadExceeded { limit: u64, size: u64 },
     /// The session closed, or is to close: a drain of the whole session was accepted.
     Closed,
-    /// The number 2^64 - 1 was given, and none follows it.
+    /// The number or the ticket 2^64 - 1 was given, and none follows it.
     NoNumber,
     /// As many accepted calls wait as the client capacity.
     Full,
+    /// A flush was not done before its link ended or the session closed.
+    FlushFailed,
 }
 
 /// The answer to a take.
@@ -91,6 +97,7 @@ impl Call {
             Call::Limit(s, n) => Ok(Call::Limit(*s, *n)),
             Call::Drain(s) => Ok(Call::Drain(*s)),
             Call::DrainAll => Ok(Call::DrainAll),
+            Call::Flush => Ok(Call::Flush),
             Call::DropSub(s) => Ok(Call::DropSub(*s)),
             Call::Reconnect => Ok(Call::Reconnect),
         }
@@ -117,6 +124,8 @@ impl CallReply {
         match self {
             CallReply::Accepted => Ok(CallReply::Accepted),
             CallReply::Numbered(number) => Ok(CallReply::Numbered(*number)),
+            CallReply::Flushed => Ok(CallReply::Flushed),
+            CallReply::FlushFailed => Ok(CallReply::FlushFailed),
             CallReply::InvalidSubject => Ok(CallReply::InvalidSubject),
             CallReply::InvalidQueueName => Ok(CallReply::InvalidQueueName),
             CallReply::MaxPayloadExceeded { limit, size } => Ok(CallReply::MaxPayloadExceeded {

@@ -1,6 +1,6 @@
 //! What holds of the words on histories, whatever the history. Each function does nothing: its contract is the law, so the
 //! law is proved where the function is.
-ghost use Rattle.nats_history.specs.Laws.{PartsAfter, SameSettled, NoneLeft, NoneAfterTurn, LimitHolds, DrainPuts};
+ghost use Rattle.nats_history.specs.Laws.{PartsAfter, SameSettled, NoneLeft, NoneAfterTurn, LimitHolds, DrainPuts, FlushesReached};
 
 /// What the words on a longer history give is what its newest step makes of the parts before it: so a handler needs no
 /// history.
@@ -34,4 +34,10 @@ pub fn limit_holds()
 /// and before the PONG of its drain, where its queue has room, it is not shut and it has no earlier end.
 pub fn drain_puts()
     ensures { DrainPuts }
+{}
+
+/// The flushes that some bytes settle are all those that await no more of them: flushes await bytes in the order in which they
+/// were handled.
+pub fn flushes_reached()
+    ensures { FlushesReached }
 {}

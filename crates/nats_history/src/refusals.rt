@@ -2,7 +2,7 @@
 ghost use Rattle.std.specs.Prelude.{◌≡◌, ◌<◌, ◌^◌, ◌||◌, IfOk};
 ghost use Rattle.nats_wire.specs.Commands.{sent_block};
 ghost use Rattle.nats_wire.specs.Operations.{length_or_0};
-ghost use Rattle.nats_history.specs.History.{asks, subscribes, shuts, drains_all, lets_go};
+ghost use Rattle.nats_history.specs.History.{asks, subscribes, shuts, drains_all, is_flush, lets_go};
 ghost use Rattle.nats_history.specs.Schedule.{ends_link, may_publish_to, passes, has_subjects, has_group, size_of};
 
 use crate::call::{Call, Interest};
@@ -22,6 +22,7 @@ pub fn subscribes(call: &Call) -> bool
         | Call::Limit(..)
         | Call::Drain(_)
         | Call::DrainAll
+        | Call::Flush
         | Call::DropSub(_)
         | Call::Reconnect => false,
     }
@@ -44,6 +45,7 @@ pub fn interest_of(alloc: Global, call: &Call) -> Result<Option<Interest>, NoMem
         | Call::Limit(..)
         | Call::Drain(_)
         | Call::DrainAll
+        | Call::Flush
         | Call::DropSub(_)
         | Call::Reconnect => Ok(None),
     }
@@ -61,6 +63,7 @@ pub fn ends_link(call: &Call) -> Option<LinkWord>
         | Call::Limit(..)
         | Call::Drain(_)
         | Call::DrainAll
+        | Call::Flush
         | Call::DropSub(_) => None,
     }
 }
@@ -76,8 +79,26 @@ pub fn shuts(call: &Call) -> Option<u64>
         | Call::Limit(..)
         | Call::Drain(_)
         | Call::DrainAll
+        | Call::Flush
         | Call::DropSub(_)
         | Call::Reconnect => None,
+    }
+}
+
+/// Whether a call is given a ticket.
+pub fn is_flush(call: &Call) -> bool
+    ensures { result ≡ is_flush call.now }
+{
+    match call {
+        Call::Flush => true,
+        Call::Publish(_)
+        | Call::Subscribe { .. }
+        | Call::Unsubscribe(_)
+        | Call::Limit(..)
+        | Call::Drain(_)
+        | Call::DrainAll
+        | Call::DropSub(_)
+        | Call::Reconnect => false,
     }
 }
 
@@ -92,6 +113,7 @@ pub fn drains_all(call: &Call) -> bool
         | Call::Unsubscribe(_)
         | Call::Limit(..)
         | Call::Drain(_)
+        | Call::Flush
         | Call::DropSub(_)
         | Call::Reconnect => false,
     }
@@ -115,6 +137,7 @@ pub fn lets_go(call: &Call) -> Option<u64>
         | Call::Limit(..)
         | Call::Drain(_)
         | Call::DrainAll
+        | Call::Flush
         | Call::Unsubscribe(_)
         | Call::Reconnect => None,
     }
@@ -148,6 +171,7 @@ pub fn has_subjects(config: &Config, call: &Call) -> bool
         | Call::Limit(..)
         | Call::Drain(_)
         | Call::DrainAll
+        | Call::Flush
         | Call::DropSub(_)
         | Call::Reconnect => true,
     }
@@ -171,6 +195,7 @@ pub fn has_group(call: &Call) -> bool
         | Call::Limit(..)
         | Call::Drain(_)
         | Call::DrainAll
+        | Call::Flush
         | Call::DropSub(_)
         | Call::Reconnect => true,
     }
@@ -201,6 +226,7 @@ pub fn size_of(call: &Call) -> u64
         | Call::Limit(..)
         | Call::Drain(_)
         | Call::DrainAll
+        | Call::Flush
         | Call::DropSub(_)
         | Call::Reconnect => 0,
     }

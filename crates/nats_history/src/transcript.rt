@@ -59,6 +59,8 @@ pub struct Transcript {
     pub events: Seq<(u64, Event)>,
     /// The reply of each call, in order.
     pub calls: Seq<(u64, CallReply)>,
+    /// The tickets by their numbers, each with the place at which it settled and its reply; `None` where it did not.
+    pub tickets: Seq<Option<(u64, CallReply)>>,
 }
 
 /// Why a list of turns was not played to its end.

@@ -9,7 +9,7 @@ use Rattle.nats_replay.specs.declared.top.Output.{Output}
 use Rattle.nats_replay.specs.Outside.{Rose, Tally}
 use Rattle.nats_replay.specs.declared.top.Ending.{Ending}
 use Rattle.nats_replay.specs.declared.top.Ending.TheVariants.{Transcript, Unreadable, OutOfTurn}
-use Rattle.nats_replay.specs.Words.{run_words, Prints, IsPlayable}
+use Rattle.nats_replay.specs.Words.{run_words, bulk_count, Prints, IsPlayable}
 use Rattle.nats_replay.specs.Played.{Comes, Whole, Played, status_of_ending}
 use Rattle.nats_replay.specs.declared.whole.TheConstants.{SCRIPT_LIMIT}
 
@@ -61,3 +61,15 @@ not_both b e h = cc
 pub run_is : (texts : List (List ℕ)) (text : List ℕ) (b : Bool) → texts ≡ text ∷ [] → b ≡ bytes_eq text (codes "run") → MatchBool b (texts ≡ run_words) (texts ≢ run_words)
 run_is texts text true one is = one ∙ ap (λ (t : List ℕ). t ∷ []) ((bytes_eq-Decides text (codes "run")).0 (sym is))
 run_is texts text false one is = λ e. not_both (bytes_eq text (codes "run")) (sym is) ((bytes_eq-Decides text (codes "run")).1 (first_is text (codes "run") (sym one ∙ e)))
+
+-- fewer words than two, and more, ask for no list
+pub fewer_count_none : {A : Type 0} (text : A → List ℕ) (words : List A) → length words < 2 → None ≡ bulk_count (map text words)
+fewer_count_none text [] few = refl
+fewer_count_none text (w ∷ []) few = refl
+fewer_count_none text (w ∷ n ∷ words) few = absurd (omega arith)
+
+pub more_count_none : {A : Type 0} (text : A → List ℕ) (words : List A) → 3 ≤ length words → None ≡ bulk_count (map text words)
+more_count_none text [] many = absurd (omega arith)
+more_count_none text (w ∷ []) many = absurd (omega arith)
+more_count_none text (w ∷ n ∷ []) many = absurd (omega arith)
+more_count_none text (w ∷ n ∷ v ∷ words) many = refl

@@ -1,5 +1,5 @@
 -- The words of the command line, and what each status says of the bytes that were read.
-use Rattle.std.specs.Prelude.{◌≡◌, ℕ, Bool, ◌==◌, ◌∷◌, ◌++◌, [], List, Some, None, length, ◌≤◌, codes}
+use Rattle.std.specs.Prelude.{◌≡◌, ◌≢◌, ℕ, ◌+◌, Bool, ◌==◌, ◌&&◌, nat_le, ◌∷◌, ◌++◌, [], List, Option, Some, None, option_and_then, if◌then◌else◌, length, ◌≤◌, codes, bytes_eq}
 use Rattle.std.specs.Fmt.{decimal}
 use Rattle.std.specs.List.{list_any}
 use Rattle.nats_history.specs.declared.config.Config.{Config}
@@ -11,11 +11,30 @@ use Rattle.nats_replay.specs.declared.top.Ending.{Ending}
 use Rattle.nats_replay.specs.declared.top.Ending.TheVariants.{Transcript, Unreadable, OutOfTurn}
 use Rattle.nats_script.specs.Printed.{lf, printed}
 use Rattle.nats_script.specs.Script.{script}
+use Rattle.nats_script.specs.Spelling.{field_number}
+use Rattle.nats_bulk.specs.Generated.{bulk_config, generated}
+use Rattle.nats_bulk.specs.Summary.{summary}
 use Rattle.nats_replay.specs.declared.whole.TheConstants.{SCRIPT_LIMIT}
 
 -- the words that play a script: the one word `run`
 abbrev pub run_words : List (List ℕ)
 run_words = codes "run" ∷ []
+
+-- the most turns of a list that is made by a rule
+abbrev pub bulk_limit : ℕ
+bulk_limit = 1000000
+
+abbrev pub in_bulk : ℕ → Option ℕ
+in_bulk n = if nat_le 1 n && nat_le n bulk_limit then Some n else None
+
+-- how many turns the words ask for that are made by a rule: those of `bulk N`, N from 1 to a million
+abbrev pub bulk_count : List (List ℕ) → Option ℕ
+bulk_count (word ∷ number ∷ []) = if bytes_eq word (codes "bulk") then option_and_then in_bulk (field_number number) else None
+bulk_count words = None
+
+-- the words are no command
+abbrev pub IsUnknown : List (List ℕ) → Type 0
+IsUnknown words = (words ≢ run_words) × (bulk_count words ≡ None)
 
 -- what is printed of words that are no command
 abbrev pub unknown_command : List ℕ
@@ -24,6 +43,16 @@ unknown_command = codes "unknown command\n"
 -- the statuses
 abbrev pub is_status : ℕ → Bool
 is_status n = list_any (λ status. status == n) (0 ∷ 2 ∷ 3 ∷ 4 ∷ 5 ∷ 6 ∷ 7 ∷ 8 ∷ [])
+
+-- those that come to scripts alone, those that come to lists that are made by a rule, and those to words but `run`
+abbrev pub is_status_of_run : ℕ → Bool
+is_status_of_run n = list_any (λ status. status == n) (3 ∷ 5 ∷ 8 ∷ [])
+
+abbrev pub is_status_of_bulk : ℕ → Bool
+is_status_of_bulk n = list_any (λ status. status == n) (0 ∷ 4 ∷ 6 ∷ 7 ∷ [])
+
+abbrev pub is_status_of_others : ℕ → Bool
+is_status_of_others n = list_any (λ status. status == n) (0 ∷ 2 ∷ 4 ∷ 6 ∷ 7 ∷ [])
 
 -- what is printed of a script whose first line that cannot be read is line k
 abbrev pub unreadable_text : ℕ → List ℕ
@@ -46,6 +75,21 @@ IsUnreadable bytes text = (line : ℕ) × (script bytes ≡ Bad line) × (text �
 abbrev pub IsOutOfTurn : List ℕ → List ℕ → Type 0
 IsOutOfTurn bytes text = (config : Config) × (turns : List Turn) × (place : ℕ)
     × (script bytes ≡ Good config turns) × (out_of_turn config turns ≡ Some place) × (text ≡ out_of_turn_text place)
+
+-- the text sums up the transcript of so many turns that are made by a rule behind their opening
+abbrev pub IsSummary : ℕ → List ℕ → Type 0
+IsSummary n text = (out_of_turn bulk_config (generated n) ≡ None)
+    × (text ≡ summary (n + 3) (transcript bulk_config (generated n)))
+
+-- the text names the first of these turns that may not come where it stands
+abbrev pub IsBulkOutOfTurn : ℕ → List ℕ → Type 0
+IsBulkOutOfTurn n text = (place : ℕ) × (out_of_turn bulk_config (generated n) ≡ Some place) × (text ≡ out_of_turn_text place)
+
+-- the text is what so many of these turns with this ending print
+abbrev pub PrintsBulk : Ending → ℕ → List ℕ → Type 0
+PrintsBulk Transcript n text = IsSummary n text
+PrintsBulk Unreadable n text = ⊥
+PrintsBulk OutOfTurn n text = IsBulkOutOfTurn n text
 
 -- the text is what a script with this ending prints
 abbrev pub Prints : Ending → List ℕ → List ℕ → Type 0

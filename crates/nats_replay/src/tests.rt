@@ -265,6 +265,21 @@ fn a_script_that_is_too_long_is_refused(rt: HostRuntime) -> Result<(), Fail> {
 }
 
 #[test]
+fn a_list_made_by_a_rule_is_summed_up(rt: HostRuntime) -> Result<(), Fail> {
+    let mut words = word(rt.alloc(), "bulk")?;
+    words.push(String::from_str(rt.alloc(), "8")?)?;
+    let mut none = source(rt.alloc(), "", 1)?;
+    let mut sink = MemorySink::new(rt.alloc(), 65_536);
+    assert_eq!(rt;
+        replay(rt.alloc(), words.as_slice(), &mut none, &mut sink),
+        0
+    );
+    let lines = "turns 11\ncalls 4\nputs 2\ntakes 2\ndrops 0\nsettled 1\nout 45\nleft 0\n";
+    assert_eq!(rt; sink.bytes(), lines.as_bytes());
+    Ok(())
+}
+
+#[test]
 fn other_words_are_called_unknown(rt: HostRuntime) -> Result<(), Fail> {
     for text in ["walk", "", "Run", "run "] {
         let words = word(rt.alloc(), text)?;

@@ -1,5 +1,5 @@
 //! The top call: what the program does.
-ghost use Rattle.std.specs.Prelude.{◌≡◌, ◌≢◌, ◌≤◌, ◌<◌, ◌⊎◌, suc, map, length, None, IsTrue, List, IfOk, IfSome, MatchBool};
+ghost use Rattle.std.specs.Prelude.{◌≡◌, ◌≢◌, ◌≤◌, ◌<◌, ◌⊎◌, suc, map, length, None, IsTrue, List, IfOk, IfSome, MatchBool, Some, option_and_then};
 ghost use Rattle.std.specs.String.{string_bytes};
 ghost use Rattle.std.specs.Io.KnownBytes.{Appends};
 ghost use Rattle.nats_history.specs.declared.config.Config.{Config};
@@ -8,18 +8,24 @@ ghost use Rattle.nats_history.specs.Schedule.{out_of_turn};
 ghost use Rattle.nats_history.specs.Transcripts.{transcript};
 ghost use Rattle.nats_script.specs.declared.script.Script.TheVariants.{Good};
 ghost use Rattle.nats_replay.specs.declared.top.Ending.{Ending};
+ghost use Rattle.nats_replay.specs.declared.top.Ending.TheVariants as endings;
 ghost use Rattle.nats_script.specs.Script.{script};
+ghost use Rattle.nats_script.specs.Spelling.{field_number};
 ghost use Rattle.nats_script.specs.Printed.{printed};
 ghost use Rattle.nats_replay.specs.Outside.{Rose, RoseBy, Still, AppendsFront};
-ghost use Rattle.nats_replay.specs.Words.{run_words, unknown_command, unreadable_text, out_of_turn_text, is_status, IsUnreadable, IsOutOfTurn, Prints, IsPlayable};
-ghost use Rattle.nats_replay.specs.Played.{Comes, Played, status_of_ending, status_of};
+ghost use Rattle.nats_replay.specs.Words.{run_words, in_bulk, bulk_count, IsUnknown, unknown_command, unreadable_text, out_of_turn_text, is_status, is_status_of_run, is_status_of_bulk, is_status_of_others, IsUnreadable, IsOutOfTurn, IsSummary, IsBulkOutOfTurn, Prints, PrintsBulk, IsPlayable};
+ghost use Rattle.nats_replay.specs.Played.{Comes, BulkComes, Played, status_of_ending, status_of};
 
 use crate::outside::{Sink, Source};
 use crate::whole::{ReadRefusal, SCRIPT_LIMIT, read_all, write_all};
+use nats_bulk::{bulk_config, bulk_turns, summary};
 use nats_names::NoMemory;
-use nats_script::{Script, print_transcript, push_number, read_script};
+use nats_script::{Script, field_number, print_transcript, push_number, read_script};
 use nats_session::{Config, RunError, Seq, Turn, run};
 use std::alloc::Global;
+
+/// The most turns of a list that is made by a rule, behind its opening.
+pub const BULK_LIMIT: u64 = 1_000_000;
 
 /// What is printed of words that are no command.
 const UNKNOWN_COMMAND: &[u8] = b"unknown command\n";
@@ -99,19 +105,44 @@ fn out_of_turn_text(alloc: Global, place: u64) -> Result<Vec<u8>, NoMemory>
     Ok(text)
 }
 
+fn played(text: Vec<u8>) -> Output
+    ensures { (result.ending ≡ endings.Transcript) × (result.text ≡ text) }
+{
+    Output {
+        ending: Ending::Transcript,
+        text,
+    }
+}
+
+fn out_of_turn(alloc: Global, place: u64) -> Result<Output, NoMemory>
+    ensures { IfOk result (λ o. (o.ending ≡ endings.OutOfTurn) × (o.text.items ≡ out_of_turn_text place)) }
+{
+    Ok(Output {
+        ending: Ending::OutOfTurn,
+        text: out_of_turn_text(alloc, place)?,
+    })
+}
+
 fn play_turns(alloc: Global, config: Config, turns: &[Turn]) -> Result<Output, Refusal>
     ensures { (bytes : List _) → script bytes ≡ Good config turns.now → Comes bytes result }
 {
     match run(alloc, config, turns) {
-        Ok(transcript) => Ok(Output {
-            ending: Ending::Transcript,
-            text: print_transcript(alloc, &transcript)?,
-        }),
-        Err(RunError::OutOfTurn { place }) => Ok(Output {
-            ending: Ending::OutOfTurn,
-            text: out_of_turn_text(alloc, place)?,
-        }),
+        Ok(transcript) => Ok(played(print_transcript(alloc, &transcript)?)),
+        Err(RunError::OutOfTurn { place }) => Ok(out_of_turn(alloc, place)?),
         Err(RunError::NoMemory) => Err(Refusal::NoMemory),
+    }
+}
+
+fn play_bulk(alloc: Global, count: u64) -> Result<Output, NoMemory>
+    requires { count ≤ BULK_LIMIT }
+    ensures { BulkComes count result }
+{
+    let config = bulk_config(alloc)?;
+    let turns = bulk_turns(alloc, count)?;
+    match run(alloc, config, turns.as_slice()) {
+        Ok(transcript) => Ok(played(summary(alloc, count + 3, &transcript)?.into_bytes())),
+        Err(RunError::OutOfTurn { place }) => out_of_turn(alloc, place),
+        Err(RunError::NoMemory) => Err(NoMemory),
     }
 }
 
@@ -149,6 +180,34 @@ fn are_run(words: &[String]) -> bool
     }
 }
 
+fn bulk_number(word: &str) -> Option<u64>
+    ensures exact { result ≡ option_and_then in_bulk (field_number word.now) }
+    ensures fits { IfSome result (λ n. n ≤ BULK_LIMIT) }
+{
+    let count = field_number(word.as_bytes())?;
+    if 1 <= count && count <= BULK_LIMIT {
+        Some(count)
+    } else {
+        None
+    }
+}
+
+fn bulk_count(words: &[String]) -> Option<u64>
+    ensures exact { result ≡ bulk_count (map string_bytes words.now) }
+    ensures fits { IfSome result (λ n. n ≤ BULK_LIMIT) }
+{
+    match words {
+        [word, number] => {
+            if word.as_str() == "bulk" {
+                bulk_number(number.as_str())
+            } else {
+                None
+            }
+        }
+        _ => None,
+    }
+}
+
 fn status_of_ending(ending: Ending) -> u8
     ensures { result ≡ status_of_ending ending }
 {
@@ -169,9 +228,44 @@ fn status_of(refusal: Refusal) -> u8
     }
 }
 
+// What words but `run` come to: `bulk N` to its eight lines, others to the text that calls them unknown.
+fn answer_others<K: Sink>(alloc: Global, words: &[String], sink: &mut K) -> u8
+    ensures status { IsTrue (is_status_of_others result) }
+    ensures summary { (n : _) → bulk_count (map string_bytes words.now) ≡ Some n → result ≡ 0 →
+        (text : List _) × IsSummary n text × Appends (K.written sink.old) (K.written sink.new) text }
+    ensures bulk { (n : _) → bulk_count (map string_bytes words.now) ≡ Some n → IsTrue (is_status_of_bulk result) }
+    ensures bulk_cut_short { (n : _) → bulk_count (map string_bytes words.now) ≡ Some n → result ≡ 4 →
+        (ending : Ending) × (text : List _) × PrintsBulk ending n text
+        × AppendsFront (K.written sink.old) (K.written sink.new) text }
+    ensures bulk_out_of_turn { (n : _) → bulk_count (map string_bytes words.now) ≡ Some n → result ≡ 6 →
+        (text : List _) × IsBulkOutOfTurn n text × Appends (K.written sink.old) (K.written sink.new) text }
+    ensures unknown { bulk_count (map string_bytes words.now) ≡ None → (result ≡ 2) ⊎ (result ≡ 4) }
+    ensures unknown_only { result ≡ 2 → bulk_count (map string_bytes words.now) ≡ None }
+    ensures unknown_text { result ≡ 2 → Appends (K.written sink.old) (K.written sink.new) unknown_command }
+    ensures unknown_cut_short { result ≡ 4 → bulk_count (map string_bytes words.now) ≡ None →
+        AppendsFront (K.written sink.old) (K.written sink.new) unknown_command }
+    ensures write_fault { result ≡ 4 → Rose (K.faults sink.old) (K.faults sink.new) }
+    ensures silent { result ≡ 7 → sink.new ≡ sink.old }
+{
+    match bulk_count(words) {
+        Some(count) => match play_bulk(alloc, count) {
+            Ok(Output { ending, text }) => match write_all(text.as_slice(), sink) {
+                Ok(()) => status_of_ending(ending),
+                Err(_) => WRITE_FAULT,
+            },
+            Err(NoMemory) => NO_MEMORY,
+        },
+        None => match write_all(UNKNOWN_COMMAND, sink) {
+            Ok(()) => UNKNOWN,
+            Err(_) => WRITE_FAULT,
+        },
+    }
+}
+
 /// What the program does: where the words are the one word `run`, it reads the source whole as a script, plays its turns
-/// and prints their transcript into the sink. It answers the status to exit with: 0, the transcript is printed; 2, other
-/// words, which are called unknown; 3, the source failed; 4, the sink failed; 5, a line of the script cannot be read, and
+/// and prints their transcript into the sink; where they are `bulk N`, N from 1 to 1,000,000 in decimal, it plays a list of N
+/// turns that is made by a rule, behind the opening of that list, and prints what its transcript comes to in eight lines. It
+/// answers the status to exit with: 0, the transcript or the lines are printed; 2, other words, which are called unknown; 3, the source failed; 4, the sink failed; 5, a line of the script cannot be read, and
 /// `script line k` says which is the first; 6, a turn may not come where it stands, and `turn k out of turn` says which is the
 /// first; 7, want of memory; 8, more than 16,777,216 bytes. With 3, 7 and 8 nothing is printed. The words, the statuses and
 /// their order are our own choice.
@@ -188,13 +282,22 @@ pub fn replay<S: Source, K: Sink>(
         × Appends (K.written sink.old) (K.written sink.new) (printed (transcript config turns))) }
     // Every answer is one of these.
     ensures status { IsTrue (is_status result) }
-    // 2: the words are another command.
-    ensures unknown { map string_bytes words.now ≢ run_words → (result ≡ 2) ⊎ (result ≡ 4) }
-    ensures unknown_only { result ≡ 2 → map string_bytes words.now ≢ run_words }
+    // 0 to `bulk N`: what was written sums up the transcript of the generated turns, which may come where they stand.
+    ensures summary { (n : _) → bulk_count (map string_bytes words.now) ≡ Some n → result ≡ 0 →
+        (text : List _) × IsSummary n text × Appends (K.written sink.old) (K.written sink.new) text }
+    ensures bulk { (n : _) → bulk_count (map string_bytes words.now) ≡ Some n → IsTrue (is_status_of_bulk result) }
+    ensures bulk_cut_short { (n : _) → bulk_count (map string_bytes words.now) ≡ Some n → result ≡ 4 →
+        (ending : Ending) × (text : List _) × PrintsBulk ending n text
+        × AppendsFront (K.written sink.old) (K.written sink.new) text }
+    ensures bulk_out_of_turn { (n : _) → bulk_count (map string_bytes words.now) ≡ Some n → result ≡ 6 →
+        (text : List _) × IsBulkOutOfTurn n text × Appends (K.written sink.old) (K.written sink.new) text }
+    // 2: the words are no command.
+    ensures unknown { IsUnknown (map string_bytes words.now) → (result ≡ 2) ⊎ (result ≡ 4) }
+    ensures unknown_only { result ≡ 2 → IsUnknown (map string_bytes words.now) }
     ensures unknown_text { result ≡ 2 → Appends (K.written sink.old) (K.written sink.new) unknown_command }
     ensures unread { map string_bytes words.now ≢ run_words → source.new ≡ source.old }
-    // All others but 4 come to `run` alone.
-    ensures run_only { result ≢ 2 → result ≢ 4 → map string_bytes words.now ≡ run_words }
+    // These come to `run` alone: 3, 5 and 8.
+    ensures run_only { IsTrue (is_status_of_run result) → map string_bytes words.now ≡ run_words }
     // 3: the source failed.
     ensures read_fault { result ≡ 3 → Rose (S.faults source.old) (S.faults source.new) }
     // 4: the sink failed, behind a first part of the text.
@@ -202,14 +305,14 @@ pub fn replay<S: Source, K: Sink>(
     ensures cut_short { result ≡ 4 → map string_bytes words.now ≡ run_words → IfSome (S.left source.old) (λ bytes.
         (ending : Ending) × (text : List _) × Prints ending bytes text
         × AppendsFront (K.written sink.old) (K.written sink.new) text) }
-    ensures unknown_cut_short { result ≡ 4 → map string_bytes words.now ≢ run_words →
+    ensures unknown_cut_short { result ≡ 4 → IsUnknown (map string_bytes words.now) →
         AppendsFront (K.written sink.old) (K.written sink.new) unknown_command }
     // 5: a line cannot be read, and the text says which is the first.
     ensures unreadable { result ≡ 5 → IfSome (S.left source.old) (λ bytes. (text : List _) × IsUnreadable bytes text
         × Appends (K.written sink.old) (K.written sink.new) text) }
     // 6: every line can be read, a turn may not come where it stands, and the text says which is the first.
-    ensures out_of_turn { result ≡ 6 → IfSome (S.left source.old) (λ bytes. (text : List _) × IsOutOfTurn bytes text
-        × Appends (K.written sink.old) (K.written sink.new) text) }
+    ensures out_of_turn { result ≡ 6 → map string_bytes words.now ≡ run_words → IfSome (S.left source.old) (λ bytes.
+        (text : List _) × IsOutOfTurn bytes text × Appends (K.written sink.old) (K.written sink.new) text) }
     // 8: the source held more than a script may have, and gave more.
     ensures too_long { result ≡ 8 → IfSome (S.left source.old) (λ bytes. SCRIPT_LIMIT < length bytes) }
     ensures too_much { result ≡ 8 → RoseBy (suc SCRIPT_LIMIT) (S.given source.old) (S.given source.new) }
@@ -226,10 +329,7 @@ pub fn replay<S: Source, K: Sink>(
     ensures silent { result ≢ 0 → result ≢ 2 → result ≢ 4 → result ≢ 5 → result ≢ 6 → sink.new ≡ sink.old }
 {
     if !are_run(words) {
-        return match write_all(UNKNOWN_COMMAND, sink) {
-            Ok(()) => UNKNOWN,
-            Err(_) => WRITE_FAULT,
-        };
+        return answer_others(alloc, words, sink);
     }
     match play(alloc, source) {
         Ok(output) => match write_all(output.text.as_slice(), sink) {

@@ -7,7 +7,7 @@ use Rattle.nats_names.specs.declared.event.Event.{Event}
 use Rattle.nats_names.specs.Events.{event_text}
 use Rattle.nats_wire.specs.declared.message.Message.{Message}
 use Rattle.nats_history.specs.declared.call.CallReply.{CallReply}
-use Rattle.nats_history.specs.declared.call.CallReply.TheVariants.{Accepted, Numbered, InvalidSubject, InvalidQueueName, MaxPayloadExceeded, Closed, NoNumber, Full}
+use Rattle.nats_history.specs.declared.call.CallReply.TheVariants.{Accepted, Numbered, InvalidSubject, InvalidQueueName, MaxPayloadExceeded, Closed, NoNumber, Full, Flushed, FlushFailed}
 use Rattle.nats_history.specs.declared.call.TakeReply.{TakeReply}
 use Rattle.nats_history.specs.declared.call.TakeReply.TheVariants as took
 use Rattle.nats_history.specs.declared.transcript.LinkWord.{LinkWord}
@@ -100,7 +100,7 @@ abbrev pub sub_lines : ℕ → SubRow → List ℕ
 sub_lines s row =
     codes "sub " ++ decimal s ++ lf ++ flat_map put_line row.puts ++ flat_map drop_line row.drops ++ flat_map take_line row.takes
 
--- ---- events and calls
+-- ---- events, calls and tickets
 
 abbrev pub event_line : ℕ × Event → List ℕ
 event_line (place, event) = placed (codes "event") place (spelled (event_text event))
@@ -118,9 +118,19 @@ reply_text (MaxPayloadExceeded limit size) = sizes_text limit size
 reply_text Closed = codes "closed"
 reply_text NoNumber = codes "no-number"
 reply_text Full = codes "full"
+reply_text Flushed = codes "flushed"
+reply_text FlushFailed = codes "flush-failed"
 
 abbrev pub call_line : ℕ × CallReply → List ℕ
 call_line (place, reply) = placed (codes "call") place (reply_text reply)
+
+-- at which turn a ticket settled and how, or that it waits
+abbrev pub ticket_text : Option (ℕ × CallReply) → List ℕ
+ticket_text None = codes "waiting"
+ticket_text (Some (place, reply)) = decimal place ++ space ++ reply_text reply
+
+abbrev pub ticket_line : ℕ → Option (ℕ × CallReply) → List ℕ
+ticket_line t row = placed (codes "ticket") t (ticket_text row)
 
 -- ---- the whole
 
@@ -129,7 +139,8 @@ abbrev pub numbered : {A : Type 0} → (ℕ → A → List ℕ) → ℕ → List
 numbered lines k [] = []
 numbered lines k (row ∷ rows) = lines k row ++ numbered lines (suc k) rows
 
--- a transcript: its links, its subscriptions, its events, its calls
+-- a transcript: its links, its subscriptions, its events, its calls, its tickets
 abbrev pub printed : Transcript → List ℕ
 printed t =
     numbered link_lines 1 t.links ++ numbered sub_lines 1 t.subs ++ flat_map event_line t.events ++ flat_map call_line t.calls
+    ++ numbered ticket_line 1 t.tickets

@@ -9,7 +9,7 @@ use Rattle.nats_info.specs.Info.{default_info}
 use Rattle.nats_info.specs.Fields.{info_at}
 use Rattle.nats_history.specs.declared.config.Config.{Config}
 use Rattle.nats_history.specs.declared.call.Call.{Call}
-use Rattle.nats_history.specs.declared.call.Call.TheVariants.{Publish, Subscribe, Unsubscribe, Limit, Drain, DrainAll, DropSub, Reconnect}
+use Rattle.nats_history.specs.declared.call.Call.TheVariants.{Publish, Subscribe, Unsubscribe, Limit, Drain, DrainAll, Flush, DropSub, Reconnect}
 use Rattle.nats_history.specs.declared.turn.Turn.{Turn}
 use Rattle.nats_history.specs.declared.turn.Turn.TheVariants.{Up, Piece, Write, Tick, Lost, GiveUp, Hangup, Do, Take}
 use Rattle.nats_script.specs.declared.turn_lines.Word.{Word}
@@ -89,7 +89,8 @@ short_word_of field =
     (if bytes_eq field (codes "unsub") then word.Unsub else
     (if bytes_eq field (codes "limit") then word.Limit else
     (if bytes_eq field (codes "drain") then word.Drain else
-    (if bytes_eq field (codes "drop") then word.Drop else word.Other)))))))))))))
+    (if bytes_eq field (codes "drop") then word.Drop else
+    (if bytes_eq field (codes "flush") then word.Flush else word.Other))))))))))))))
 
 -- the word that a turn begins with
 abbrev pub word_of : List ℕ → Word
@@ -190,6 +191,7 @@ turn_of word.Unsub fields = call_of Unsubscribe fields
 turn_of word.Limit fields = limit_of fields
 turn_of word.Drain fields = call_of Drain fields
 turn_of word.DrainAll fields = bare (Do DrainAll) fields
+turn_of word.Flush fields = bare (Do Flush) fields
 turn_of word.Drop fields = call_of DropSub fields
 turn_of word.Reconnect fields = bare (Do Reconnect) fields
 turn_of word.Other fields = None

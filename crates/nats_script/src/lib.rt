@@ -11,6 +11,7 @@ mod script;
 mod spelling;
 mod turn_lines;
 
+pub use fields::field_number;
 pub use nats_history::{Config, NoMemory, Seq, Transcript, Turn};
 pub use print::print_transcript;
 pub use read::read_script;

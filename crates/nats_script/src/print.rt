@@ -1,7 +1,7 @@
 //! Printing a transcript.
 ghost use Rattle.std.specs.Prelude.{◌≡◌, ◌++◌, IfOk, OnOk};
 ghost use Rattle.std.specs.List.{flat_map};
-ghost use Rattle.nats_script.specs.Printed.{lf, opening, number_or_absent, header_fields, value_count, headers_text, content_text, answer_text, message_text, placed, end_word, link_lines, put_line, drop_line, take_text, take_line, sub_lines, event_line, sizes_text, reply_text, call_line, numbered, printed};
+ghost use Rattle.nats_script.specs.Printed.{lf, opening, number_or_absent, header_fields, value_count, headers_text, content_text, answer_text, message_text, placed, end_word, link_lines, put_line, drop_line, take_text, take_line, sub_lines, event_line, sizes_text, reply_text, call_line, ticket_text, ticket_line, numbered, printed};
 ghost use Rattle.nats_script.specs.Spelling.{spelled, spelled_or_absent};
 ghost use Rattle.nats_names.specs.Events.{event_text};
 
@@ -248,7 +248,7 @@ fn push_subs(out: &mut Vec<u8>, subs: &[SubRow]) -> Result<(), NoMemory>
     Ok(())
 }
 
-// ---- events and calls
+// ---- events, calls and tickets
 
 fn push_event(alloc: Global, out: &mut Vec<u8>, event: &Event) -> Result<(), NoMemory>
     ensures { OnOk result (out.new.items ≡ out.old.items ++ spelled (event_text event.now)) }
@@ -290,6 +290,8 @@ fn push_reply(out: &mut Vec<u8>, reply: &CallReply) -> Result<(), NoMemory>
         CallReply::Closed => out.extend_from_slice(b"closed")?,
         CallReply::NoNumber => out.extend_from_slice(b"no-number")?,
         CallReply::Full => out.extend_from_slice(b"full")?,
+        CallReply::Flushed => out.extend_from_slice(b"flushed")?,
+        CallReply::FlushFailed => out.extend_from_slice(b"flush-failed")?,
     }
     Ok(())
 }
@@ -305,8 +307,47 @@ fn push_calls(out: &mut Vec<u8>, calls: &[(u64, CallReply)]) -> Result<(), NoMem
     Ok(())
 }
 
-/// The printed form of a transcript: its links, its subscriptions, its events and its calls, a line for each entry. It is
-/// our own format.
+fn push_ticket(out: &mut Vec<u8>, row: &Option<(u64, CallReply)>) -> Result<(), NoMemory>
+    ensures { OnOk result (out.new.items ≡ out.old.items ++ ticket_text row.now) }
+{
+    match row {
+        Some((place, reply)) => {
+            push_number(out, *place)?;
+            out.push(b' ')?;
+            push_reply(out, reply)
+        }
+        None => {
+            out.extend_from_slice(b"waiting")?;
+            Ok(())
+        }
+    }
+}
+
+fn push_ticket_line(
+    out: &mut Vec<u8>,
+    t: u64,
+    row: &Option<(u64, CallReply)>,
+) -> Result<(), NoMemory>
+    ensures { OnOk result (out.new.items ≡ out.old.items ++ ticket_line t row.now) }
+{
+    open_line(out, b"ticket", t)?;
+    push_ticket(out, row)?;
+    close_line(out)
+}
+
+fn push_tickets(out: &mut Vec<u8>, tickets: &[Option<(u64, CallReply)>]) -> Result<(), NoMemory>
+    ensures { OnOk result (out.new.items ≡ out.old.items ++ numbered ticket_line 1 tickets.now) }
+{
+    let mut t = 1;
+    for row in tickets {
+        push_ticket_line(out, t, row)?;
+        t += 1;
+    }
+    Ok(())
+}
+
+/// The printed form of a transcript: its links, its subscriptions, its events, its calls and its tickets, a line for each entry.
+/// It is our own format.
 pub fn print_transcript(alloc: Global, transcript: &Transcript) -> Result<Vec<u8>, NoMemory>
     ensures { IfOk result (λ text. text.items ≡ printed transcript.now) }
 {
@@ -315,5 +356,6 @@ pub fn print_transcript(alloc: Global, transcript: &Transcript) -> Result<Vec<u8
     push_subs(&mut out, transcript.subs.as_slice())?;
     push_events(alloc, &mut out, transcript.events.as_slice())?;
     push_calls(&mut out, transcript.calls.as_slice())?;
+    push_tickets(&mut out, transcript.tickets.as_slice())?;
     Ok(out)
 }

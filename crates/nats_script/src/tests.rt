@@ -55,6 +55,7 @@ fn the_first_line_in_no_form_is_found(rt: HostRuntime) -> Result<(), Fail> {
         ("config 1 1 check P X\nsub %FF ~\n", 2),
         ("config 1 1 check P X\nlimit 1\n", 2),
         ("config 1 1 check P X\ndrain 1\ndrainall\ndrain\n", 4),
+        ("config 1 1 check P X\nflush\nflush 1\n", 3),
         ("config 1 1 check P X\npub a ~ x y\n", 2),
         ("config 1 1 check P X\nhpub a ~ x K\n", 2),
         ("config 1 1 check P X\nhpub a ~ x K v%0D%0Aw\n", 2),
@@ -156,6 +157,7 @@ fn rows(alloc: Global) -> Result<Transcript, NoMemory> {
         subs: only(alloc, sub)?,
         events: only(alloc, (5, Event::SlowConsumer(1)))?,
         calls: only(alloc, (2, CallReply::Full))?,
+        tickets: only(alloc, Some((7, CallReply::FlushFailed)))?,
     })
 }
 
@@ -163,7 +165,7 @@ fn rows(alloc: Global) -> Result<Transcript, NoMemory> {
 fn rows_of_every_kind_are_printed(rt: HostRuntime) -> Result<(), Fail> {
     let want = "link 1 fault\nout %\nleft %0A\nsub 1\n\
 drop 5 a r%C3%A9%20 %00%25%7E} 404 No%20Messages 9 2 K v%20w K %\ntake 6 empty\n\
-event 5 slow%20consumers%20for%20subscription%201\ncall 2 full\n";
+event 5 slow%20consumers%20for%20subscription%201\ncall 2 full\nticket 1 7 flush-failed\n";
     let text = print_transcript(rt.alloc(), &rows(rt.alloc())?)?;
     assert_eq!(rt; text.as_slice(), want.as_bytes());
     Ok(())

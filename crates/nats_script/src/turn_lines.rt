@@ -117,6 +117,7 @@ pub enum Word {
     Limit,
     Drain,
     DrainAll,
+    Flush,
     Drop,
     Reconnect,
     Other,
@@ -141,6 +142,7 @@ fn short_word_of(field: &[u8]) -> Word
         b"limit" => Word::Limit,
         b"drain" => Word::Drain,
         b"drop" => Word::Drop,
+        b"flush" => Word::Flush,
         _ => Word::Other,
     }
 }
@@ -273,6 +275,7 @@ fn turn_of(alloc: Global, word: Word, fields: Option<&[u8]>) -> Result<Option<Tu
         Word::Limit => Ok(limit_of(fields)),
         Word::Drain => Ok(number_in(fields).map(|s| Turn::Do(Call::Drain(s)))),
         Word::DrainAll => Ok(is_bare(fields).then_some(Turn::Do(Call::DrainAll))),
+        Word::Flush => Ok(is_bare(fields).then_some(Turn::Do(Call::Flush))),
         Word::Drop => Ok(number_in(fields).map(|s| Turn::Do(Call::DropSub(s)))),
         Word::Reconnect => Ok(is_bare(fields).then_some(Turn::Do(Call::Reconnect))),
         Word::Other => Ok(None),

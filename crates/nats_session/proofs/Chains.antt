@@ -1,17 +1,22 @@
 -- Several steps at once: what they write, and behind it their events.
-use Rattle.std.proofs.Common.{◌≡◌, ℕ, Bool, true, false, cond, List, [], ◌∷◌, ◌++◌, Option, Some, None, refl, sym, ◌∙◌, ap}
+use Rattle.std.proofs.Common.{◌≡◌, ℕ, Bool, true, false, cond, not, min, List, [], ◌∷◌, ◌++◌, length, take, Option, Some, None, is_some, refl, sym, ◌∙◌, ap}
 use Rattle.std.proofs.lemmas.List.{append-nil, append_assoc}
+use Rattle.std.proofs.lemmas.Bool.{false≢true}
 use Rattle.nats_names.specs.declared.event.Event.{Event}
 use Rattle.nats_history.specs.declared.transcript.LinkWord.{LinkWord}
 use Rattle.nats_history.specs.declared.transcript.LinkWord.TheVariants as word
-use Rattle.nats_history.specs.History.{Step, ticked, link_end, closed, at_place}
+use Rattle.nats_history.specs.declared.call.CallReply.{CallReply}
+use Rattle.nats_history.specs.declared.turn.Turn.TheVariants.{Write}
+use Rattle.nats_history.specs.History.{Step, accepted, taken, ticked, link_end, closed, at_place, grown_tickets, settle_once, settle_rows}
+use Rattle.nats_tables.specs.Numbers.{at_number}
 use Rattle.nats_history.specs.Parts.{Parts}
-use Rattle.nats_history.specs.Schedule.{chain, closes, closing, ending}
-use Rattle.nats_history.specs.After.{after, after_all, events_of}
-use Rattle.nats_session.specs.Handler.{Seen, seen_after, seen_all, all_events, end_in}
-use Rattle.nats_session.specs.Sheet.{Sheet, row_with, write_step, write_events}
+use Rattle.nats_history.specs.Schedule.{due, chain, closes, closing, ending}
+use Rattle.nats_history.specs.After.{after, after_all, events_of, settled_of}
+use Rattle.nats_session.specs.Handler.{Seen, push_all, seen_after, seen_all, all_events, all_settled, end_in, can_play}
+use Rattle.nats_session.specs.Sheet.{Sheet, row_with, write_step, write_events, write_tickets}
 use Rattle.nats_session.specs.Machine.{quiet, sheet_noted, sheet_recorded, sheet_written, write_end}
-use Rattle.nats_session.proofs.Handlers.{pushed}
+use Rattle.nats_tickets.proofs.Marks.{pushed}
+use Rattle.nats_session.proofs.Handlers.{both_true}
 
 at_place_append : {A : Type 0} (place : ℕ) (xs ys : List A) → at_place place (xs ++ ys) ≡ at_place place xs ++ at_place place ys
 at_place_append place [] ys = refl
@@ -30,24 +35,94 @@ events_behind : (place : ℕ) (steps : List Step) (p : Parts) (es : List Event) 
 events_behind place [] p es sheet = refl
 events_behind place (step ∷ steps) p es sheet = events_behind place steps (after p step) es (write_step place p step sheet)
 
-pub recorded : (place : ℕ) (steps : List Step) (p : Parts) (sheet : Sheet) → sheet_recorded place steps p sheet ≡ write_events place (all_events p steps) (sheet_written place steps p sheet)
-recorded place [] p sheet = sym (no_events place sheet)
-recorded place (step ∷ steps) p sheet =
-    recorded place steps (after p step) (sheet_noted place step p sheet)
-    ∙ (ap (write_events place (all_events (after p step) steps)) (events_behind place steps (after p step) (events_of p step) (write_step place p step sheet))
-    ∙ events_append place (events_of p step) (all_events (after p step) steps) (sheet_written place steps (after p step) (write_step place p step sheet)))
+-- ---- settled tickets
 
-seen_together : (old : Seen) (steps : List Step) → seen_all old steps ≡ record { parts = after_all old.parts steps; events = old.events ++ all_events old.parts steps }
-seen_together old [] = ap (λ es. record old { events = es }) (sym (append-nil old.events))
+-- a step that gives a ticket
+abbrev gives : Step → Bool
+gives (accepted call) = true
+gives step = false
+
+-- no ticket is given by these
+abbrev pub NoneGiven : List Step → Type 0
+NoneGiven [] = Unit {0}
+NoneGiven (step ∷ steps) = (gives step ≡ false) × NoneGiven steps
+
+pub closing_gives_none : (b : Bool) → NoneGiven (closing b)
+closing_gives_none true = (refl, tt)
+closing_gives_none false = tt
+
+pub ending_gives_none : (drained : Bool) (end : Option LinkWord) → NoneGiven (ending drained end)
+ending_gives_none drained None = tt
+ending_gives_none drained (Some end) = (refl, closing_gives_none (closes drained end))
+
+pub hangup_gives_none : (p : Parts) (up : Bool) → NoneGiven (cond up (chain p (link_end word.Hangup)) (chain p closed))
+hangup_gives_none p true = (refl, (refl, tt))
+hangup_gives_none p false = (refl, tt)
+
+pub tick_gives_none : (p : Parts) (last : Bool) → NoneGiven (cond last (chain p (link_end word.Ticks)) (chain p ticked))
+tick_gives_none p true = (refl, closing_gives_none (closes p.drain.is_handled word.Ticks))
+tick_gives_none p false = (refl, tt)
+
+grown_same : {A : Type 0} (step : Step) (rows : List (Option A)) → gives step ≡ false → grown_tickets step rows ≡ rows
+grown_same (accepted call) rows e = absurd (false≢true (sym e))
+grown_same step rows e = refl
+
+settle_append : (place : ℕ) (xs ys : List (ℕ × CallReply)) (rows : List (Option (ℕ × CallReply))) → settle_rows place ys (settle_rows place xs rows) ≡ settle_rows place (xs ++ ys) rows
+settle_append place [] ys rows = refl
+settle_append place ((ticket, reply) ∷ xs) ys rows =
+    settle_append place xs ys (at_number ticket (settle_once (place, reply)) rows)
+
+-- what such steps write hangs on no settled ticket
+settled_behind : (place : ℕ) (steps : List Step) (p : Parts) (rs : List (ℕ × CallReply)) (sheet : Sheet) → NoneGiven steps
+    → sheet_written place steps p (write_tickets place rs sheet) ≡ write_tickets place rs (sheet_written place steps p sheet)
+settled_behind place [] p rs sheet none = refl
+settled_behind place (step ∷ steps) p rs sheet none =
+    let here : write_step place p step (write_tickets place rs sheet) ≡ write_tickets place rs (write_step place p step sheet) =
+    ap (λ rows. record (write_step place p step sheet) { tickets = rows })
+    (grown_same step (settle_rows place rs sheet.tickets) none.0 ∙ sym (ap (settle_rows place rs) (grown_same step sheet.tickets none.0)))
+    in
+    ap (sheet_written place steps (after p step)) here ∙ settled_behind place steps (after p step) rs (write_step place p step sheet) none.1
+
+-- several steps are what they write, then their events, then the tickets that they settle
+pub recorded : (place : ℕ) (steps : List Step) (p : Parts) (sheet : Sheet) → NoneGiven steps
+    → sheet_recorded place steps p sheet ≡ write_tickets place (all_settled p steps) (write_events place (all_events p steps) (sheet_written place steps p sheet))
+recorded place [] p sheet none = sym (no_events place sheet)
+recorded place (step ∷ steps) p sheet none =
+    let q = after p step in
+    let one = write_step place p step sheet in
+    let rest = sheet_written place steps q one in
+    recorded place steps q (sheet_noted place step p sheet) none.1
+    ∙ (ap (λ s. write_tickets place (all_settled q steps) (write_events place (all_events q steps) s))
+    (settled_behind place steps q (settled_of p step) (write_events place (events_of p step) one) none.1 ∙ ap (write_tickets place (settled_of p step)) (events_behind place steps q (events_of p step) one))
+    ∙ (ap (λ s. write_tickets place (all_settled q steps) (write_tickets place (settled_of p step) s)) (events_append place (events_of p step) (all_events q steps) rest)
+    ∙ ap (λ rows. record (write_events place (events_of p step ++ all_events q steps) rest) { tickets = rows }) (settle_append place (settled_of p step) (all_settled q steps) rest.tickets)))
+
+abbrev seen_of : Parts → List Event → List (ℕ × CallReply) → Seen
+seen_of p es rs = record { parts = p; events = es; ready = rs }
+
+push_append : {A : Type 0} (xs ys waiting : List A) → push_all xs waiting ++ ys ≡ waiting ++ (xs ++ ys)
+push_append xs ys waiting = ap (λ zs. zs ++ ys) (pushed xs waiting) ∙ append_assoc waiting xs ys
+
+seen_together : (old : Seen) (steps : List Step)
+    → seen_all old steps ≡ seen_of (after_all old.parts steps) (old.events ++ all_events old.parts steps) (old.ready ++ all_settled old.parts steps)
+seen_together old [] =
+    ap (λ es. seen_of old.parts es old.ready) (sym (append-nil old.events))
+    ∙ ap (λ rs. seen_of old.parts (old.events ++ []) rs) (sym (append-nil old.ready))
 seen_together old (step ∷ steps) =
-    seen_together (seen_after old step) steps
-    ∙ ap (λ es. record { parts = after_all (after old.parts step) steps; events = es })
-    (ap (λ es. es ++ all_events (after old.parts step) steps) (pushed (events_of old.parts step) old.events) ∙ append_assoc old.events (events_of old.parts step) (all_events (after old.parts step) steps))
+    let p = old.parts in
+    let q = after p step in
+    let news = seen_after old step in
+    seen_together news steps
+    ∙ (ap (λ es. seen_of (after_all q steps) es (news.ready ++ all_settled q steps)) (push_append (events_of p step) (all_events q steps) old.events)
+    ∙ ap (λ rs. seen_of (after_all q steps) (old.events ++ (events_of p step ++ all_events q steps)) rs) (push_append (settled_of p step) (all_settled q steps) old.ready))
 
 -- where none waits
-pub seen_quiet : (old : Seen) (steps : List Step) → old.events ≡ [] → seen_all old steps ≡ record { parts = after_all old.parts steps; events = all_events old.parts steps }
-seen_quiet old steps none =
-    seen_together old steps ∙ ap (λ es. record { parts = after_all old.parts steps; events = es ++ all_events old.parts steps }) none
+pub seen_quiet : (old : Seen) (steps : List Step) → old.events ≡ [] → old.ready ≡ []
+    → seen_all old steps ≡ seen_of (after_all old.parts steps) (all_events old.parts steps) (all_settled old.parts steps)
+seen_quiet old steps none settled =
+    seen_together old steps
+    ∙ (ap (λ es. seen_of (after_all old.parts steps) (es ++ all_events old.parts steps) (old.ready ++ all_settled old.parts steps)) none
+    ∙ ap (λ rs. seen_of (after_all old.parts steps) (all_events old.parts steps) (rs ++ all_settled old.parts steps)) settled)
 
 -- ---- a link that ends, and the close
 
@@ -79,14 +154,31 @@ ending_written place p q drained (Some end) sheet same =
     by_closing true = refl
     by_closing false = refl
 
--- steps that were played, after what they write was written, and then their events
-pub played : (place : ℕ) (steps : List Step) (old new last : Seen) (s0 s1 s2 : Sheet) → old.events ≡ [] → new ≡ seen_all old steps
-    → s1 ≡ sheet_written place steps old.parts s0 → s2 ≡ write_events place new.events s1 → last ≡ record new { events = [] }
+-- steps that were played, after what they write was written, and then their events and the tickets that they settle
+pub played : (place : ℕ) (steps : List Step) (old new last : Seen) (s0 s1 s2 : Sheet) → NoneGiven steps → old.events ≡ [] → old.ready ≡ [] → new ≡ seen_all old steps
+    → s1 ≡ sheet_written place steps old.parts s0 → s2 ≡ write_tickets place new.ready (write_events place new.events s1)
+    → last ≡ record new { events = []; ready = [] }
     → (last ≡ quiet (after_all old.parts steps)) × (s2 ≡ sheet_recorded place steps old.parts s0)
-played place steps old new last s0 s1 s2 none plays written events handed =
-    let seen = plays ∙ seen_quiet old steps none in (
-      handed ∙ ap (λ (s : Seen). record s { events = [] }) seen,
-      events
-          ∙ (ap (λ (s : Seen). write_events place s.events s1) seen
-          ∙ (ap (write_events place (all_events old.parts steps)) written ∙ sym (recorded place steps old.parts s0))),
+played place steps old new last s0 s1 s2 gives_none none settled plays written news handed =
+    let seen = plays ∙ seen_quiet old steps none settled in (
+      handed ∙ ap (λ (s : Seen). record s { events = []; ready = [] }) seen,
+      news
+          ∙ (ap (λ (s : Seen). write_tickets place s.ready (write_events place s.events s1)) seen
+          ∙ (ap (λ s. write_tickets place (all_settled old.parts steps) (write_events place (all_events old.parts steps) s)) written ∙ sym (recorded place steps old.parts s0 gives_none))),
     )
+
+-- a write, after the bytes that the link takes were written
+pub write_noted : (place n k : ℕ) (old new : Seen) (s0 s1 s2 : Sheet) (waiting : List ℕ) → can_play old.parts (Write n) ≡ true → old.events ≡ [] → old.ready ≡ []
+    → k ≡ min n (length waiting) → waiting ≡ old.parts.link.wire.waiting → s1 ≡ record s0 { taken = s0.taken ++ take k waiting }
+    → new ≡ seen_after old (taken (min n (length old.parts.link.wire.waiting))) → s2 ≡ write_tickets place new.ready (write_events place new.events s1)
+    → s2 ≡ sheet_noted place (taken (min n (length old.parts.link.wire.waiting))) old.parts s0
+write_noted place n k old new s0 s1 s2 waiting may none settled count same took plays news =
+    let bytes = old.parts.link.wire.waiting in
+    let step = taken (min n (length bytes)) in
+    let up : old.parts.link.is_up ≡ true = both_true old.parts.link.is_up (not (is_some (due old.parts))) may in
+    let written : s1 ≡ sheet_written place (step ∷ []) old.parts s0 =
+    took
+    ∙ (ap (λ text. record s0 { taken = s0.taken ++ text }) (ap (λ j. take j waiting) count ∙ ap (λ bs. take (min n (length bs)) bs) same)
+    ∙ sym (ap (λ b. record s0 { taken = cond b (s0.taken ++ take (min n (length bytes)) bytes) [] }) up))
+    in
+    (played place (step ∷ []) old new (record new { events = []; ready = [] }) s0 s1 s2 (refl, tt) none settled plays written news refl).1

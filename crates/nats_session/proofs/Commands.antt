@@ -20,7 +20,7 @@ use Rattle.nats_tables.specs.Numbers.{nobody, change}
 use Rattle.nats_history.specs.History.{read, handled, link_end, drained_by, cut, Sub, texts, end_events}
 use Rattle.nats_history.specs.Parts.{Parts}
 use Rattle.nats_history.specs.Schedule.{closes, closing, ending, ends_link, pong_end, read_end, chain, due, due_chain}
-use Rattle.nats_history.specs.After.{sub_after, after_all, write_all, written}
+use Rattle.nats_history.specs.After.{sub_after, write_all, written}
 use Rattle.nats_history.proofs.Words.{written_all}
 use Rattle.nats_subs.specs.Delivery.{with_rows}
 use Rattle.nats_session.specs.Handler.{Seen, push_all, seen_after, seen_all, close_events, Advances, command_end, seen_handled, handled_first, name_of, ended_or, end_in, counted, read_past, pong_read}
@@ -54,31 +54,28 @@ handled_one old new some stays is = by_first (first old.parts.calls) some stays 
 
 -- ---- a link's end
 
--- what is seen after it, by the events and the parts
-abbrev left_seen : Seen → LinkWord → Bool → Seen
-left_seen old end b = record {
-  parts = after_all old.parts (link_end word.Hangup ∷ closing b);
-  events = push_all (close_events b) (push_all (end_events end) old.events);
-}
+-- what is seen after it, where these are the events
+abbrev left_with : Seen → Bool → List Event → Seen
+left_with old b events = record (seen_all (record old { events = events }) (link_end word.Hangup ∷ closing b)) { events = events }
 
-left : (old : Seen) (end : LinkWord) (b : Bool) → left_seen old end b ≡ seen_all old (link_end end ∷ closing b)
+left : (old : Seen) (end : LinkWord) (b : Bool) → left_with old b (push_all (close_events b) (push_all (end_events end) old.events)) ≡ seen_all old (link_end end ∷ closing b)
 left old end true = refl
 left old end false = refl
 
 -- the same by what the fields of the handler became
 pub left_by : (seen old new : Seen) (end : LinkWord) (b : Bool) (events : List Event) → seen ≡ old → b ≡ closes old.parts.drain.is_handled end
-    → events ≡ push_all (close_events b) (push_all (end_events end) seen.events) → new ≡ record { parts = after_all seen.parts (link_end word.Hangup ∷ closing b); events = events }
+    → events ≡ push_all (close_events b) (push_all (end_events end) seen.events) → new ≡ left_with seen b events
     → new ≡ seen_all old (chain old.parts (link_end end))
 left_by seen old new end b events same closing_is es is =
     is
-    ∙ (ap (λ e. record { parts = after_all seen.parts (link_end word.Hangup ∷ closing b); events = e }) es
+    ∙ (ap (left_with seen b) es
     ∙ (left seen end b
     ∙ (ap (λ (s : Seen). seen_all s (link_end end ∷ closing b)) same ∙ ap (λ x. seen_all old (link_end end ∷ closing x)) closing_is)))
 
 -- a call by which it ends
 pub last_by : (seen old new : Seen) (end : LinkWord) (b : Bool) (calls : List Call) (events : List Event) → seen ≡ old → command_end (first old.parts.calls) ≡ Some end
     → b ≡ closes old.parts.drain.is_handled end → calls ≡ drop 1 seen.parts.calls → events ≡ push_all (close_events b) (push_all (end_events end) seen.events)
-    → new ≡ record { parts = after_all (record seen.parts { calls = calls }) (link_end word.Hangup ∷ closing b); events = events }
+    → new ≡ left_with (record seen { parts = record seen.parts { calls = calls } }) b events
     → Advances (handled_first old.parts) old due_names.Ended new
 last_by seen old new end b calls events same ends closing_is a es is = by_first (first old.parts.calls) ends
   where

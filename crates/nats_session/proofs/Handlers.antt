@@ -1,5 +1,5 @@
 -- Laws on a handler as it is seen.
-use Rattle.std.proofs.Common.{◌≡◌, ℕ, zero, suc, ◌≤◌, List, [], ◌∷◌, ◌++◌, length, drop, map, Option, Some, None, Result, Ok, Err, OnOk, OnErr, IfOk, Bool, true, false, not, cond, is_some, ◌&&◌, ◌||◌, refl, sym, ◌∙◌, ap, subst, arith}
+use Rattle.std.proofs.Common.{◌≡◌, ℕ, zero, suc, ◌≤◌, List, [], ◌∷◌, ◌++◌, length, drop, map, Option, Some, None, Result, Ok, Err, OnOk, OnErr, IfOk, Bool, true, false, not, cond, is_some, ◌&&◌, ◌||◌, ◌==◌, refl, sym, ◌∙◌, ap, subst, arith}
 use Rattle.std.proofs.lemmas.List.{append-nil, append_assoc, map-append, length-append, length-map, drop-append-le, length-drop}
 use Rattle.std.proofs.lemmas.Bool.{false≢true}
 use Rattle.std.proofs.lemmas.Option.{none-some}
@@ -8,7 +8,7 @@ use Rattle.nats_names.specs.declared.event.Event.{Event}
 use Rattle.nats_wire.specs.declared.message.Message.{Message}
 use Rattle.nats_history.specs.declared.config.Config.{Config}
 use Rattle.nats_history.specs.declared.call.Call.{Call}
-use Rattle.nats_history.specs.declared.call.Call.TheVariants.{Unsubscribe, DrainAll}
+use Rattle.nats_history.specs.declared.call.Call.TheVariants.{Unsubscribe, DrainAll, Flush}
 use Rattle.nats_history.specs.declared.call.Interest.{Interest}
 use Rattle.nats_history.specs.declared.ping.Ping.{Ping}
 use Rattle.nats_history.specs.declared.call.CallReply.{CallReply}
@@ -19,16 +19,19 @@ use Rattle.nats_history.specs.declared.turn.Turn.TheVariants.{Do, Take}
 use Rattle.nats_history.specs.declared.turn.Due.{Due}
 use Rattle.nats_history.specs.Queue.{first}
 use Rattle.nats_tables.specs.Numbers.{only, at_number, item_of, named, change}
-use Rattle.nats_history.specs.History.{Step, accepted, took, History, asks, shuts, drains_all, lets_go, interest_by, Sub, is_ended, forgotten, kept, second, events_by, at_place, events}
+use Rattle.nats_history.specs.History.{Step, accepted, took, History, asks, shuts, drains_all, is_flush, lets_go, settles, tickets, waiting_bytes, interest_by, Sub, is_ended, forgotten, kept, second, events_by, at_place, events}
 use Rattle.nats_history.specs.Parts.{Subs, Parts}
 use Rattle.nats_history.specs.Schedule.{refusal, reply_by, accepted_reply, call_reply, accepted_step, gone_step, call_steps, is_closed_sub, oldest, sub_take, take_reply_of, take_reply, is_there, took_step, own_steps, due, put_steps, chain, due_chain}
-use Rattle.nats_history.specs.After.{new_sub, sub_after, subs_after, after, after_all, events_of}
+use Rattle.nats_history.specs.After.{new_sub, sub_after, subs_after, after, after_all, events_of, settled_of}
 use Rattle.nats_history.proofs.Refines.{parts_after}
 use Rattle.nats_tables.proofs.Numbers.{at_number_same, agree_at}
 use Rattle.nats_subs.specs.declared.subs.subscription.Alteration.TheVariants as alterations
 use Rattle.nats_subs.specs.Delivery.{take_from, given_one, rows_named, with_rows}
+use Rattle.nats_tickets.specs.Kept.{Kept, reply_in, without}
+use Rattle.nats_tickets.specs.Kept as tickets_kept
+use Rattle.nats_tickets.proofs.Marks.{pushed}
 use Rattle.nats_session.specs.Machine.{quiet}
-use Rattle.nats_session.specs.Handler.{Seen, HandedOut, StandsFor, push_all, seen_after, seen_all, LeadTo, can_play, Advances, Answers, Submits, handed, HandsOut}
+use Rattle.nats_session.specs.Handler.{Seen, kept_of, HandedOut, settled_tickets, without_all, StoodThere, StandsFor, push_all, seen_after, seen_all, LeadTo, can_play, Advances, Answers, Submits, handed, HandsOut, handed_reply, HandsReply}
 
 -- ---- a take where nothing waits changes nothing
 
@@ -66,10 +69,6 @@ own_take seen sid takes.Ended there e = ap (with_taken seen) (took_nothing seen.
 
 -- ---- standing for a history
 
-pub pushed : {A : Type 0} (more waiting : List A) → push_all more waiting ≡ waiting ++ more
-pushed [] waiting = sym (append-nil waiting)
-pushed (x ∷ more) waiting = pushed more (waiting ++ x ∷ []) ∙ append_assoc waiting (x ∷ []) more
-
 second-at_place : {A : Type 0} (place : ℕ) (xs : List A) → map second (at_place place xs) ≡ xs
 second-at_place place [] = refl
 second-at_place place (x ∷ xs) = ap (λ ys. x ∷ ys) (second-at_place place xs)
@@ -79,12 +78,61 @@ events_more : (out : ℕ) (es : List (ℕ × Event)) (place : ℕ) (more : List 
 events_more out es place more fits =
     sym (ap (drop out) (map-append second es (at_place place more)) ∙ (drop-append-le out (map second es) (map second (at_place place more)) (rw length-map fits) ∙ ap (λ xs. drop out (map second es) ++ xs) (second-at_place place more)))
 
+-- ---- settled tickets
+
+abbrev Settled : Type 0
+Settled = List (ℕ × CallReply)
+
+-- what stands there is found, and taken away, whatever is behind it
+reply_more : (ticket : ℕ) (xs more : Settled) → is_some (reply_in ticket xs) ≡ true → is_some (reply_in ticket (xs ++ more)) ≡ true
+reply_more ticket [] more e = absurd (false≢true e)
+reply_more ticket (x ∷ xs) more e = by (ticket == x.0) e (reply_more ticket xs more)
+  where
+    by : (b : Bool) → is_some (cond b (Some x.1) (reply_in ticket xs)) ≡ true → (is_some (reply_in ticket xs) ≡ true → is_some (reply_in ticket (xs ++ more)) ≡ true)
+        → is_some (cond b (Some x.1) (reply_in ticket (xs ++ more))) ≡ true
+    by true e later = refl
+    by false e later = later e
+
+without_more : (ticket : ℕ) (xs more : Settled) → is_some (reply_in ticket xs) ≡ true → without ticket (xs ++ more) ≡ without ticket xs ++ more
+without_more ticket [] more e = absurd (false≢true e)
+without_more ticket (x ∷ xs) more e = by (ticket == x.0) e (without_more ticket xs more)
+  where
+    by : (b : Bool) → is_some (cond b (Some x.1) (reply_in ticket xs)) ≡ true → (is_some (reply_in ticket xs) ≡ true → without ticket (xs ++ more) ≡ without ticket xs ++ more)
+        → cond b (xs ++ more) (x ∷ without ticket (xs ++ more)) ≡ cond b xs (x ∷ without ticket xs) ++ more
+    by true e later = refl
+    by false e later = ap (λ ys. x ∷ ys) (later e)
+
+all_more : (out : List ℕ) (xs more : Settled) → StoodThere out xs → without_all out (xs ++ more) ≡ without_all out xs ++ more
+all_more [] xs more there = refl
+all_more (ticket ∷ out) xs more there = ap (without ticket) (all_more out xs more there.1) ∙ without_more ticket (without_all out xs) more there.0
+
+stood_more : (out : List ℕ) (xs more : Settled) → StoodThere out xs → StoodThere out (xs ++ more)
+stood_more [] xs more there = tt
+stood_more (ticket ∷ out) xs more there = (
+  ap (λ ys. is_some (reply_in ticket ys)) (all_more out xs more there.1) ∙ reply_more ticket (without_all out xs) more there.0,
+  stood_more out xs more there.1,
+)
+
+-- what isn't there can't be taken away
+without_none : (ticket : ℕ) (xs : Settled) → reply_in ticket xs ≡ None → without ticket xs ≡ xs
+without_none ticket [] e = refl
+without_none ticket (x ∷ xs) e = by (ticket == x.0) e (without_none ticket xs)
+  where
+    by : (b : Bool) → cond b (Some x.1) (reply_in ticket xs) ≡ None → (reply_in ticket xs ≡ None → without ticket xs ≡ xs) → cond b xs (x ∷ without ticket xs) ≡ x ∷ xs
+    by true e later = absurd (none-some x.1 (sym e))
+    by false e later = ap (λ ys. x ∷ ys) (later e)
+
 -- what stands for a history stands, after a step, for the history with that step
 stands_after : (c : Config) (out : HandedOut) (h : History) (place : ℕ) (step : Step) (seen : Seen) → StandsFor c out h seen → StandsFor c out ((place, step) ∷ h) (seen_after seen step)
 stands_after c out h place step seen stands = record {
   parts = ap (λ q. after q step) stands.parts ∙ sym (parts_after c h place step);
   handed_out = omega (arith, stands.handed_out, length-append (events c h) (at_place place (events_by c h step)));
   waiting = pushed (events_of seen.parts step) seen.events ∙ (ap (λ q. seen.events ++ events_of q step) stands.parts ∙ (ap (λ es. es ++ events_by c h step) stands.waiting ∙ events_more out.events (events c h) place (events_by c h step) stands.handed_out));
+  replied = stood_more out.tickets (settled_tickets c h) (settles (length (waiting_bytes c h)) step (tickets c h)) stands.replied;
+  ready = pushed (settled_of seen.parts step) seen.ready
+      ∙ (ap (λ q. seen.ready ++ settled_of q step) stands.parts
+      ∙ (ap (λ rs. rs ++ settles (length (waiting_bytes c h)) step (tickets c h)) stands.ready
+      ∙ sym (all_more out.tickets (settled_tickets c h) (settles (length (waiting_bytes c h)) step (tickets c h)) stands.replied)));
 }
 
 lead_to : (old : Seen) (steps : List Step) → LeadTo old steps (seen_all old steps)
@@ -105,7 +153,7 @@ leads_one r old new step e = on_ok_weaker r (λ is. leads old (step ∷ []) new 
 pub leads_all : {T E : Type 0} (r : Result T E) (old new : Seen) (steps : List Step) → OnOk r (new ≡ seen_all old steps) → OnOk r (LeadTo old steps new)
 leads_all r old new steps e = on_ok_weaker r (λ is. leads old steps new is) e
 
-both_true : (a b : Bool) → (a && b) ≡ true → a ≡ true
+pub both_true : (a b : Bool) → (a && b) ≡ true → a ≡ true
 both_true true b e = refl
 both_true false b e = absurd (false≢true e)
 
@@ -133,6 +181,8 @@ next_stands c out h old new [] is e stands = record {
   parts = ap (λ (s : Seen). s.parts) e ∙ stands.parts;
   handed_out = stands.handed_out;
   waiting = ap (λ (s : Seen). s.events) e ∙ (ap (drop 1) is ∙ (sym is ∙ stands.waiting));
+  replied = stands.replied;
+  ready = ap (λ (s : Seen). s.ready) e ∙ stands.ready;
 }
 next_stands c out h old new (event ∷ more) is e stands =
     let left : length (drop out.events (map second (events c h))) ≡ suc (length more) =
@@ -142,6 +192,8 @@ next_stands c out h old new (event ∷ more) is e stands =
       parts = ap (λ (s : Seen). s.parts) e ∙ stands.parts;
       handed_out = omega (arith, left, length-drop out.events (map second (events c h)), length-map (events c h) (λ (e : ℕ × Event). second e));
       waiting = ap (λ (s : Seen). s.events) e ∙ (ap (drop 1) stands.waiting ∙ drop_next out.events (map second (events c h)));
+      replied = stands.replied;
+      ready = ap (λ (s : Seen). s.ready) e ∙ stands.ready;
     }
   where
     drop_next : (n : ℕ) (xs : List Event) → drop 1 (drop n xs) ≡ drop (suc n) xs
@@ -153,6 +205,32 @@ pub hands_out : (old new : Seen) (event : Option Event) → event ≡ first old.
 hands_out old new event is e c out h stands = (
   is ∙ ap first stands.waiting,
   subst (λ x. StandsFor c (handed x out) h new) (sym is) (next_stands c out h old new old.events refl e stands),
+)
+
+-- ---- replies of tickets are handed out
+
+reply_stands : (c : Config) (out : HandedOut) (h : History) (ticket : ℕ) (old new : Seen) (reply : Option CallReply) → reply_in ticket old.ready ≡ reply
+    → new ≡ record old { ready = without ticket old.ready } → StandsFor c out h old → StandsFor c (handed_reply ticket reply out) h new
+reply_stands c out h ticket old new None is e stands = record {
+  parts = ap (λ (s : Seen). s.parts) e ∙ stands.parts;
+  handed_out = stands.handed_out;
+  waiting = ap (λ (s : Seen). s.events) e ∙ stands.waiting;
+  replied = stands.replied;
+  ready = ap (λ (s : Seen). s.ready) e ∙ (without_none ticket old.ready is ∙ stands.ready);
+}
+reply_stands c out h ticket old new (Some reply) is e stands = record {
+  parts = ap (λ (s : Seen). s.parts) e ∙ stands.parts;
+  handed_out = stands.handed_out;
+  waiting = ap (λ (s : Seen). s.events) e ∙ stands.waiting;
+  replied = (ap is_some (ap (reply_in ticket) (sym stands.ready) ∙ is), stands.replied);
+  ready = ap (λ (s : Seen). s.ready) e ∙ ap (without ticket) stands.ready;
+}
+
+pub hands_reply : (ticket : ℕ) (old new : Seen) (reply : Option CallReply) → reply ≡ reply_in ticket old.ready → new ≡ record old { ready = without ticket old.ready }
+    → HandsReply ticket old reply new
+hands_reply ticket old new reply is e c out h stands = (
+  is ∙ ap (reply_in ticket) stands.ready,
+  reply_stands c out h ticket old new reply (sym is) e stands,
 )
 
 pub leads_advance : {E : Type 0} (old new : Seen) (next : Option Step) (r : Result Due E) → IfOk r (λ name. Advances next old name new) → OnOk r (LeadTo old (due_chain old.parts next) new)
@@ -174,7 +252,7 @@ on_ok_of (Ok x) p = p
 on_ok_of (Err e) p = tt
 
 -- what an alteration of subscriptions or the events leave alone
-pub unchanged : (seen : Seen) (subs : Subs) (events : List Event) → subs ≡ seen.parts.subs → events ≡ seen.events → record { parts = record seen.parts { subs = subs }; events = events } ≡ seen
+pub unchanged : (seen : Seen) (subs : Subs) (events : List Event) → subs ≡ seen.parts.subs → events ≡ seen.events → record seen { parts = record seen.parts { subs = subs }; events = events } ≡ seen
 unchanged seen subs events a b = rw (a, b) refl
 
 -- ---- a call that is accepted
@@ -182,6 +260,10 @@ unchanged seen subs events a b = rw (a, b) refl
 no_drain : (call : Call) (asked : Interest) → asks call ≡ Some asked → drains_all call ≡ false
 no_drain DrainAll asked e = absurd (none-some asked e)
 no_drain call asked e = refl
+
+no_flush : (call : Call) (asked : Interest) → asks call ≡ Some asked → is_flush call ≡ false
+no_flush Flush asked e = absurd (none-some asked e)
+no_flush call asked e = refl
 
 no_shut : (call : Call) (asked : Interest) → asks call ≡ Some asked → shuts call ≡ None
 no_shut (Unsubscribe s) asked e = absurd (none-some asked e)
@@ -226,40 +308,77 @@ with_call seen drained calls subs = record seen {
 abbrev TakenIn : Seen → Call → CallReply → Seen → Type 0
 TakenIn old call reply new = (reply ≡ call_reply old.parts call) × (new ≡ seen_all old (accepted_step (refusal old.parts call) call))
 
--- a call that is not refused: one more waits, and the subscriptions are those after its acceptance
-taken : (old : Seen) (call : Call) (reply : CallReply) (drained : Bool) (calls : List Call) (subs : Subs) → refusal old.parts call ≡ None → reply ≡ accepted_reply old.parts call
+-- the same, where a flush is given a ticket
+abbrev with_flush : Seen → Bool → List Call → Subs → Bool → Seen
+with_flush seen drained calls subs flush = record seen {
+  parts = record seen.parts {
+    drain = record seen.parts.drain { is_accepted = drained };
+    calls = calls;
+    subs = subs;
+    tickets = record seen.parts.tickets { given = cond flush (suc seen.parts.tickets.given) seen.parts.tickets.given };
+  };
+}
+
+-- a call that is not refused and no flush: one more waits, and the subscriptions are those after its acceptance
+taken : (old : Seen) (call : Call) (reply : CallReply) (drained : Bool) (calls : List Call) (subs : Subs) → refusal old.parts call ≡ None → is_flush call ≡ false → reply ≡ accepted_reply old.parts call
     → drained ≡ (drains_all call || old.parts.drain.is_accepted) → calls ≡ old.parts.calls ++ call ∷ [] → subs ≡ subs_after old.parts.config old.parts.link.pings (accepted call) old.parts.subs
     → TakenIn old call reply (with_call old drained calls subs)
-taken old call reply drained calls subs free is d a b = (
+taken old call reply drained calls subs free plain is d a b = (
   is ∙ sym (ap (λ r. reply_by r (accepted_reply old.parts call)) free),
   ap (λ x. with_call old x calls subs) d
       ∙ (ap (λ cs. with_call old (drains_all call || old.parts.drain.is_accepted) cs subs) a
-      ∙ (ap (with_call old (drains_all call || old.parts.drain.is_accepted) (old.parts.calls ++ call ∷ [])) b ∙ sym (ap (λ r. seen_all old (accepted_step r call)) free))),
+      ∙ (ap (with_call old (drains_all call || old.parts.drain.is_accepted) (old.parts.calls ++ call ∷ [])) b
+      ∙ (ap (with_flush old (drains_all call || old.parts.drain.is_accepted) (old.parts.calls ++ call ∷ []) (subs_after old.parts.config old.parts.link.pings (accepted call) old.parts.subs)) (sym plain)
+      ∙ sym (ap (λ r. seen_all old (accepted_step r call)) free)))),
 )
 
 -- the same by what the fields of the handler became
-taken_by : (seen old : Seen) (call : Call) (reply : CallReply) (drained : Bool) (calls : List Call) (subs : Subs) → seen ≡ old → refusal old.parts call ≡ None
+taken_by : (seen old : Seen) (call : Call) (reply : CallReply) (drained : Bool) (calls : List Call) (subs : Subs) → seen ≡ old → refusal old.parts call ≡ None → is_flush call ≡ false
     → reply ≡ accepted_reply seen.parts call → drained ≡ (drains_all call || seen.parts.drain.is_accepted) → calls ≡ seen.parts.calls ++ call ∷ []
     → subs ≡ subs_after seen.parts.config seen.parts.link.pings (accepted call) seen.parts.subs → TakenIn old call reply (with_call seen drained calls subs)
-taken_by seen old call reply drained calls subs same free is d a b =
+taken_by seen old call reply drained calls subs same free plain is d a b =
     let free_there : refusal seen.parts call ≡ None = subst (λ (s : Seen). refusal s.parts call ≡ None) (sym same) free in
-    subst (λ s. TakenIn s call reply (with_call seen drained calls subs)) same (taken seen call reply drained calls subs free_there is d a b)
+    subst (λ s. TakenIn s call reply (with_call seen drained calls subs)) same (taken seen call reply drained calls subs free_there plain is d a b)
 
 pub numbered_by : (seen old : Seen) (call : Call) (asked : Interest) (calls : List Call) (subs : Subs) (number : ℕ) → seen ≡ old → refusal old.parts call ≡ None → asks call ≡ Some asked
     → calls ≡ seen.parts.calls ++ call ∷ [] → subs ≡ given_one asked seen.parts.subs → number ≡ subs.given
     → TakenIn old call (Numbered number) (record seen { parts = record seen.parts { calls = calls; subs = subs } })
 numbered_by seen old call asked calls subs number same free is a b d =
-    taken_by seen old call (Numbered number) seen.parts.drain.is_accepted calls subs same free
-    (ap Numbered (d ∙ ap (λ (x : Subs). x.given) b) ∙ sym (ap (λ o. cond (is_some o) (Numbered (suc seen.parts.subs.given)) Accepted) is))
+    taken_by seen old call (Numbered number) seen.parts.drain.is_accepted calls subs same free (no_flush call asked is)
+    (ap Numbered (d ∙ ap (λ (x : Subs). x.given) b) ∙ sym (ap (λ o. cond (is_some o) (Numbered (suc seen.parts.subs.given)) (cond (is_flush call) (Numbered (suc seen.parts.tickets.given)) Accepted)) is))
     (sym (ap (λ x. x || seen.parts.drain.is_accepted) (no_drain call asked is)))
     a (b ∙ sym (subs_given seen.parts.config seen.parts.link.pings call asked seen.parts.subs is))
 
-pub shut_by : (seen old : Seen) (call : Call) (drained : Bool) (calls : List Call) (subs : Subs) → seen ≡ old → refusal old.parts call ≡ None → asks call ≡ None
+pub shut_by : (seen old : Seen) (call : Call) (drained : Bool) (calls : List Call) (subs : Subs) → seen ≡ old → refusal old.parts call ≡ None → is_flush call ≡ false → asks call ≡ None
     → drained ≡ (drains_all call || seen.parts.drain.is_accepted) → calls ≡ seen.parts.calls ++ call ∷ [] → subs ≡ with_rows (rows_named (shuts call) alterations.Shut seen.parts.subs.rows) seen.parts.subs
     → TakenIn old call Accepted (with_call seen drained calls subs)
-shut_by seen old call drained calls subs same free is d a b =
-    taken_by seen old call Accepted drained calls subs same free (sym (ap (λ o. cond (is_some o) (Numbered (suc seen.parts.subs.given)) Accepted) is))
+shut_by seen old call drained calls subs same free plain is d a b =
+    taken_by seen old call Accepted drained calls subs same free plain
+    (sym (ap (λ o. cond (is_some o) (Numbered (suc seen.parts.subs.given)) (cond (is_flush call) (Numbered (suc seen.parts.tickets.given)) Accepted)) is
+    ∙ ap (λ b. cond b (Numbered (suc seen.parts.tickets.given)) Accepted) plain))
     d a (b ∙ sym (subs_shut seen.parts.config seen.parts.link.pings call seen.parts.subs is))
+
+-- ---- a flush that is accepted
+
+abbrev pub with_kept : List Call → Kept → Seen → Seen
+with_kept calls kept seen = record seen { parts = record seen.parts { calls = calls; tickets = kept.tickets }; ready = kept.ready }
+
+flush_taken : (old : Seen) (calls : List Call) (kept : Kept) (number : ℕ) → refusal old.parts Flush ≡ None → calls ≡ old.parts.calls ++ Flush ∷ []
+    → kept ≡ tickets_kept.given_one (kept_of old) → number ≡ kept.tickets.given → TakenIn old Flush (Numbered number) (with_kept calls kept old)
+flush_taken old calls kept number free a b d = (
+  ap Numbered (d ∙ ap (λ (k : Kept). k.tickets.given) b) ∙ sym (ap (λ r. reply_by r (Numbered (suc old.parts.tickets.given))) free),
+  ap (λ cs. with_kept cs kept old) a
+      ∙ (ap (λ k. with_kept (old.parts.calls ++ Flush ∷ []) k old) b ∙ sym (ap (λ r. seen_all old (accepted_step r Flush)) free)),
+)
+
+-- one more call waits, and one more ticket was given
+pub flush_by : (seen old : Seen) (call : Call) (calls : List Call) (kept : Kept) (number : ℕ) → seen ≡ old → refusal old.parts call ≡ None → is_flush call ≡ true
+    → calls ≡ seen.parts.calls ++ call ∷ [] → kept ≡ tickets_kept.given_one (kept_of seen) → number ≡ kept.tickets.given
+    → TakenIn old call (Numbered number) (with_kept calls kept seen)
+flush_by seen old Flush calls kept number same free flush a b d =
+    let free_there : refusal seen.parts Flush ≡ None = subst (λ (s : Seen). refusal s.parts Flush ≡ None) (sym same) free in
+    subst (λ s. TakenIn s Flush (Numbered number) (with_kept calls kept seen)) same (flush_taken seen calls kept number free_there a b d)
+flush_by seen old call calls kept number same free flush a b d = absurd (false≢true flush)
 
 -- ---- a subscription that is let go, whatever the reply
 
@@ -281,11 +400,12 @@ submitted old mid seen call reply subs taken_in same is = (
 
 -- ---- turns that leave no event
 
-pub take_quiet : (old : Seen) (sid : ℕ) → old.events ≡ [] → can_play old.parts (Take sid) ≡ true
+pub take_quiet : (old : Seen) (sid : ℕ) → old.events ≡ [] → old.ready ≡ [] → can_play old.parts (Take sid) ≡ true
     → seen_after old (took sid) ≡ quiet (after_all old.parts (took_step sid (take_reply old.parts sid)))
-take_quiet old sid none may =
+take_quiet old sid none settled may =
     let reply = take_reply old.parts sid in
-    ap (λ es. record { parts = after old.parts (took sid); events = es }) none
+    ap (λ es. record { parts = after old.parts (took sid); events = es; ready = old.ready }) none
+    ∙ ap (λ rs. record { parts = after old.parts (took sid); events = []; ready = rs }) settled
     ∙ ap quiet (ap (λ (s : Seen). s.parts) (own_take old sid reply (may_take old.parts sid may) refl) ∙ by_reply reply)
   where
     by_reply : (r : TakeReply) → (seen_all old (took_step sid r)).parts ≡ after_all old.parts (took_step sid r)
@@ -293,12 +413,14 @@ take_quiet old sid none may =
     by_reply takes.Empty = refl
     by_reply takes.Ended = refl
 
-pub call_quiet : (old : Seen) (call : Call) → old.events ≡ [] → seen_all old (call_steps old.parts call) ≡ quiet (after_all old.parts (call_steps old.parts call))
-call_quiet old call none =
-    by_steps (refusal old.parts call) (lets_go call) ∙ ap (λ es. record { parts = after_all old.parts (call_steps old.parts call); events = es }) none
+pub call_quiet : (old : Seen) (call : Call) → old.events ≡ [] → old.ready ≡ [] → seen_all old (call_steps old.parts call) ≡ quiet (after_all old.parts (call_steps old.parts call))
+call_quiet old call none settled =
+    by_steps (refusal old.parts call) (lets_go call)
+    ∙ (ap (λ es. record { parts = after_all old.parts (call_steps old.parts call); events = es; ready = old.ready }) none
+    ∙ ap (λ rs. record { parts = after_all old.parts (call_steps old.parts call); events = []; ready = rs }) settled)
   where
     by_steps : (refused : Option CallReply) (name : Option ℕ)
-        → seen_all old (accepted_step refused call ++ gone_step name) ≡ record { parts = after_all old.parts (accepted_step refused call ++ gone_step name); events = old.events }
+        → seen_all old (accepted_step refused call ++ gone_step name) ≡ record old { parts = after_all old.parts (accepted_step refused call ++ gone_step name) }
     by_steps None None = refl
     by_steps None (Some s) = refl
     by_steps (Some reply) None = refl

@@ -3,6 +3,7 @@ pub mod Chains
 pub mod Commands
 pub mod Handlers
 pub mod Messages
+pub mod Once
 pub mod Plays
 pub mod Runs
 pub mod Settles

@@ -18,7 +18,7 @@ use Rattle.nats_session.specs.Handler.{Seen, push_all, seen_after, seen_all, rea
 -- ---- the handler
 
 abbrev seen_with : Seen → List ℕ → List ℕ → List Sub → List Event → Seen
-seen_with old unread waiting rows events = record {
+seen_with old unread waiting rows events = record old {
   parts = record old.parts {
     link = record old.parts.link { reads = cut (suc old.parts.link.reads); wire = record { unread = unread; waiting = waiting } };
     subs = with_rows rows old.parts.subs;

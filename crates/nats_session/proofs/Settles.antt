@@ -17,13 +17,13 @@ use Rattle.nats_history.specs.declared.transcript.LinkWord.TheVariants as word
 use Rattle.nats_history.specs.Queue.{first}
 use Rattle.nats_history.specs.History.{Step, opened, fed, read, ticked, taken, accepted, handled, took, gone, link_end, closed}
 use Rattle.nats_history.specs.Parts.{Parts}
-use Rattle.nats_history.specs.Schedule.{ending, pong_end, chain, due_call, due_by, due, due_chain, most_due}
+use Rattle.nats_history.specs.Schedule.{closes, ending, ends_link, read_end, pong_end, chain, due_call, due_by, due, due_chain, most_due}
 use Rattle.nats_history.specs.After.{after, after_all, due_steps}
 use Rattle.nats_history.proofs.Dues.{bound_falls, none_due, one_due, after_append}
 use Rattle.nats_session.specs.Handler.{Seen, delivery_name, delivery_of, end_in, ended_or, name_of, Advances, Sees, is_nothing}
-use Rattle.nats_session.specs.Sheet.{Sheet, write_delivery, write_due, write_events}
+use Rattle.nats_session.specs.Sheet.{Sheet, write_delivery, write_due, write_events, write_tickets}
 use Rattle.nats_session.specs.Machine.{sheet_noted, sheet_recorded, sheet_written, settled_parts, settled_sheet, write_look, write_before, write_coming, write_end, Notes}
-use Rattle.nats_session.proofs.Chains.{no_events, end_written, ending_written, played}
+use Rattle.nats_session.proofs.Chains.{NoneGiven, ending_gives_none, closing_gives_none, no_events, end_written, ending_written, played}
 
 -- ---- what can be due
 
@@ -84,21 +84,37 @@ written_due place p (gone sid) sheet can = absurd can
 written_due place p closed sheet can = absurd can
 written_due place p ticked sheet can = absurd can
 
--- a due step that was played, written and whose events were handed out
+chain_gives_none : (p : Parts) (step : Step) → CanBeDue step → NoneGiven (chain p step)
+chain_gives_none p (read operation) can = (refl, ending_gives_none p.drain.is_handled (read_end p.link.pings operation))
+chain_gives_none p (handled call) can = (refl, ending_gives_none p.drain.is_handled (ends_link call))
+chain_gives_none p (link_end end) can = (refl, closing_gives_none (closes p.drain.is_handled end))
+chain_gives_none p (opened info) can = absurd can
+chain_gives_none p (fed bytes) can = absurd can
+chain_gives_none p (taken n) can = absurd can
+chain_gives_none p (accepted call) can = absurd can
+chain_gives_none p (took sid) can = absurd can
+chain_gives_none p (gone sid) can = absurd can
+chain_gives_none p closed can = absurd can
+chain_gives_none p ticked can = absurd can
+
+-- a due step that was played, written and whose events and settled tickets were handed out
 pub noted : (place : ℕ) (next : Option Step) (old new last : Seen) (name : Due) (s0 s1 s2 s3 : Sheet)
-    → due old.parts ≡ next → old.events ≡ [] → Advances next old name new
-    → s1 ≡ write_end (end_in (due_chain old.parts next)) old.parts (write_before place old.parts next s0) → s2 ≡ write_due place name s1 → s3 ≡ write_events place new.events s2
-    → last ≡ record new { events = [] } → Notes next place old.parts s0 last s3
-noted place None old new last name s0 s1 s2 s3 is none plays a b d e = (
-  e ∙ ap (λ (s : Seen). record s { events = [] }) plays.1,
-  d ∙ (ap (λ (s : Seen). write_events place s.events s2) plays.1 ∙ (ap (λ es. write_events place es s2) none ∙ (no_events place s2 ∙ (b ∙ (ap (λ n. write_due place n s1) plays.0 ∙ a))))),
+    → due old.parts ≡ next → old.events ≡ [] → old.ready ≡ [] → Advances next old name new
+    → s1 ≡ write_end (end_in (due_chain old.parts next)) old.parts (write_before place old.parts next s0) → s2 ≡ write_due place name s1
+    → s3 ≡ write_tickets place new.ready (write_events place new.events s2)
+    → last ≡ record new { events = []; ready = [] } → Notes next place old.parts s0 last s3
+noted place None old new last name s0 s1 s2 s3 is none settled plays a b d e = (
+  e ∙ ap (λ (s : Seen). record s { events = []; ready = [] }) plays.1,
+  d ∙ (ap (λ (s : Seen). write_tickets place s.ready (write_events place s.events s2)) plays.1
+      ∙ (ap (λ rs. write_tickets place rs (write_events place old.events s2)) settled
+      ∙ (ap (λ es. write_events place es s2) none ∙ (no_events place s2 ∙ (b ∙ (ap (λ n. write_due place n s1) plays.0 ∙ a)))))),
 )
-noted place (Some step) old new last name s0 s1 s2 s3 is none plays a b d e =
+noted place (Some step) old new last name s0 s1 s2 s3 is none settled plays a b d e =
     let p = old.parts in
     let written : s2 ≡ sheet_written place (chain p step) p s0 =
     b ∙ (ap (λ n. write_due place n s1) plays.0 ∙ (ap (write_due place (name_of p step)) a ∙ written_due place p step s0 (can_be_due p step is)))
     in
-    played place (chain p step) old new last s0 s2 s3 none plays.1 written d e
+    played place (chain p step) old new last s0 s2 s3 (chain_gives_none p step (can_be_due p step is)) none settled plays.1 written d e
 
 -- ---- a look
 
@@ -128,6 +144,7 @@ look_written place p looks.Command sheet sees = sym (ap (λ next. write_before p
 pub record Goes (place : ℕ) (p : Parts) (sheet : Sheet) (seen : Seen) (sheet' : Sheet) : Type 0 where
   pub falls : most_due seen.parts < most_due p
   pub none : seen.events ≡ []
+  pub settled : seen.ready ≡ []
   pub same_parts : settled_parts seen.parts ≡ settled_parts p
   pub same_sheet : settled_sheet place seen.parts sheet' ≡ settled_sheet place p sheet
 
@@ -151,6 +168,7 @@ goes place (Some step) p seen sheet sheet' is some notes =
     record {
       falls = subst (λ q. most_due q < most_due p) (sym parts) (bound_falls p step is);
       none = ap (λ (s : Seen). s.events) notes.0;
+      settled = ap (λ (s : Seen). s.ready) notes.0;
       same_parts = ap settled_parts parts ∙ settle_parts p step is;
       same_sheet = ap (λ q. settled_sheet place q sheet') parts ∙ (ap (settled_sheet place more) notes.1 ∙ settle_sheet place p step sheet is);
     }

@@ -1,5 +1,5 @@
 -- The sheet after one more step, and after one more answer.
-use Rattle.std.proofs.Common.{◌≡◌, ℕ, suc, ◌+◌, ◌≤◌, Bool, true, false, cond, not, eqb, ◌&&◌, min, List, [], ◌∷◌, ◌++◌, length, take, drop, map, Some, None, zero, refl, sym, ◌∙◌, ap, subst, arith}
+use Rattle.std.proofs.Common.{◌≡◌, ℕ, suc, ◌+◌, ◌≤◌, Bool, true, false, cond, not, eqb, ◌&&◌, min, List, [], ◌∷◌, ◌++◌, length, take, drop, map, Option, Some, None, zero, refl, sym, ◌∙◌, ap, subst, arith}
 use Rattle.std.proofs.lemmas.List.{append-nil, append_assoc, take-append-le, take_min}
 use Rattle.std.proofs.Math.Seq.{take-add}
 use Rattle.std.proofs.lemmas.Bool.{ne_eqb, le-ltb, ltb-true, ltb-false, false≢true}
@@ -19,7 +19,7 @@ use Rattle.nats_history.specs.declared.transcript.SubRow.{SubRow}
 use Rattle.nats_subs.specs.declared.subs.subscription.Delivery.{Delivery}
 use Rattle.nats_subs.specs.declared.subs.subscription.Delivery.TheVariants.{Put, Dropped, Unwanted, Ignored}
 use Rattle.nats_tables.specs.Numbers.{is_about, at_number, item_of, count_from}
-use Rattle.nats_history.specs.History.{Step, opened, read, taken, accepted, link_end, History, is_up, subscribes, given_after, at_after, at_of, given, numbers, about, is_given, concerns, Told, nothing_told, Sub, sub_of, is_open, is_ended, has_room, is_over, forgotten, kept, told_after, told, rows_of, link_text, taken_count, waiting_bytes, text_by, events}
+use Rattle.nats_history.specs.History.{Step, opened, read, taken, accepted, link_end, History, is_up, subscribes, given_after, at_after, at_of, given, numbers, about, is_given, concerns, Told, nothing_told, Sub, sub_of, is_open, is_ended, has_room, is_over, forgotten, kept, told_after, told, rows_of, link_text, taken_count, waiting_bytes, text_by, events, ticket_rows}
 use Rattle.nats_history.specs.Parts.{Parts, parts_of}
 use Rattle.nats_history.specs.After.{after}
 use Rattle.nats_subs.specs.Delivery.{delivery, delivery_at}
@@ -159,11 +159,15 @@ taken_kept c h more = none_taken (is_up h) (taken_count c h) (link_text c h) mor
 
 -- ---- the sheet after one more step
 
-abbrev sheet_with : List LinkRow → List ℕ → List SubRow → List (ℕ × Event) → List (ℕ × CallReply) → Sheet
-sheet_with ls ts ss es cs = record { links = ls; taken = ts; subs = ss; events = es; calls = cs }
+abbrev Tickets : Type 0
+Tickets = List (Option (ℕ × CallReply))
 
-same_sheet : (ls ls' : List LinkRow) (ts ts' : List ℕ) (ss ss' : List SubRow) (es : List (ℕ × Event)) (cs : List (ℕ × CallReply)) → ls ≡ ls' → ts ≡ ts' → ss ≡ ss' → sheet_with ls ts ss es cs ≡ sheet_with ls' ts' ss' es cs
-same_sheet ls ls' ts ts' ss ss' es cs a b d = rw (a, b, d) refl
+abbrev sheet_with : List LinkRow → List ℕ → List SubRow → List (ℕ × Event) → List (ℕ × CallReply) → Tickets → Sheet
+sheet_with ls ts ss es cs ks = record { links = ls; taken = ts; subs = ss; events = es; calls = cs; tickets = ks }
+
+same_sheet : (ls ls' : List LinkRow) (ts ts' : List ℕ) (ss ss' : List SubRow) (es : List (ℕ × Event)) (cs : List (ℕ × CallReply)) (ks : Tickets)
+    → ls ≡ ls' → ts ≡ ts' → ss ≡ ss' → sheet_with ls ts ss es cs ks ≡ sheet_with ls' ts' ss' es cs ks
+same_sheet ls ls' ts ts' ss ss' es cs ks a b d = rw (a, b, d) refl
 
 ended_row : (c : Config) (end : LinkWord) (h : History) → is_up h ≡ true → link_row c end h ≡ record { end = end; taken = cond (is_up h) (take (taken_count c h) (link_text c h)) []; left = waiting_bytes c h }
 ended_row c end h up = rw up refl
@@ -176,19 +180,19 @@ EndsUp up step = Unit {0}
 sheet_after : (c : Config) (h : History) (answers : List (ℕ × Answer)) (place : ℕ) (step : Step) → AreGiven h answers → EndsUp (is_up h) step
     → sheet_of c ((place, step) ∷ h) answers ≡ sheet_noted place step (parts_of c h) (sheet_of c h answers)
 sheet_after c h answers place (opened info) named up =
-    same_sheet _ _ _ _ _ _ _ _ refl refl (rows_kept c h answers place (opened info) refl (λ t. append-nil t.puts) (λ t. append-nil t.drops))
+    same_sheet _ _ _ _ _ _ _ _ _ refl refl (rows_kept c h answers place (opened info) refl (λ t. append-nil t.puts) (λ t. append-nil t.drops))
 sheet_after c h answers place (link_end end) named up =
-    same_sheet _ _ _ _ _ _ _ _ (ap (λ row. ended_links c h ++ row ∷ []) (ended_row c end h up)) refl (rows_kept c h answers place (link_end end) refl (λ t. append-nil t.puts) (λ t. append-nil t.drops))
+    same_sheet _ _ _ _ _ _ _ _ _ (ap (λ row. ended_links c h ++ row ∷ []) (ended_row c end h up)) refl (rows_kept c h answers place (link_end end) refl (λ t. append-nil t.puts) (λ t. append-nil t.drops))
 sheet_after c h answers place (read (message sid m)) named up =
-    same_sheet _ _ _ _ _ _ _ _ refl (taken_kept c h (text_by c h (read (message sid m)))) (rows_read c h answers place sid m)
+    same_sheet _ _ _ _ _ _ _ _ _ refl (taken_kept c h (text_by c h (read (message sid m)))) (rows_read c h answers place sid m)
 sheet_after c h answers place (read operation) named up =
-    same_sheet _ _ _ _ _ _ _ _ refl (taken_kept c h (text_by c h (read operation))) (rows_kept c h answers place (read operation) refl (λ t. append-nil t.puts) (λ t. append-nil t.drops))
+    same_sheet _ _ _ _ _ _ _ _ _ refl (taken_kept c h (text_by c h (read operation))) (rows_kept c h answers place (read operation) refl (λ t. append-nil t.puts) (λ t. append-nil t.drops))
 sheet_after c h answers place (taken k) named up =
-    same_sheet _ _ _ _ _ _ _ _ refl (more_taken (is_up h) (taken_count c h) k (link_text c h)) (rows_kept c h answers place (taken k) refl (λ t. append-nil t.puts) (λ t. append-nil t.drops))
+    same_sheet _ _ _ _ _ _ _ _ _ refl (more_taken (is_up h) (taken_count c h) k (link_text c h)) (rows_kept c h answers place (taken k) refl (λ t. append-nil t.puts) (λ t. append-nil t.drops))
 sheet_after c h answers place (accepted call) named up =
-    same_sheet _ _ _ _ _ _ _ _ refl (taken_kept c h (text_by c h (accepted call))) (rows_accepted c h answers place call named)
+    same_sheet _ _ _ _ _ _ _ _ _ refl (taken_kept c h (text_by c h (accepted call))) (rows_accepted c h answers place call named)
 sheet_after c h answers place step named up =
-    same_sheet _ _ _ _ _ _ _ _ refl (taken_kept c h (text_by c h step)) (rows_kept c h answers place step refl (λ t. append-nil t.puts) (λ t. append-nil t.drops))
+    same_sheet _ _ _ _ _ _ _ _ _ refl (taken_kept c h (text_by c h step)) (rows_kept c h answers place step refl (λ t. append-nil t.puts) (λ t. append-nil t.drops))
 
 pub tells_step : (c : Config) (h : History) (answers : List (ℕ × Answer)) (place : ℕ) (step : Step) (p : Parts) (sheet : Sheet) → Tells c h answers p sheet → EndsUp p.link.is_up step
     → Tells c ((place, step) ∷ h) answers (after p step) (sheet_noted place step p sheet)
@@ -270,7 +274,7 @@ last_link false bytes text = refl
 
 pub tells_finished : (c : Config) (h : History) (answers : List (ℕ × Answer)) (p : Parts) (sheet : Sheet) → Tells c h answers p sheet → finished p sheet ≡ shown c h answers
 tells_finished c h answers p sheet tells =
-    rw (tells.parts, tells.written) (ap (λ last. record { links = ended_links c h ++ last; subs = sub_rows c h answers; events = events c h; calls = call_replies answers }) (last_link (is_up h) (take (taken_count c h) (link_text c h)) (drop (taken_count c h) (link_text c h))))
+    rw (tells.parts, tells.written) (ap (λ last. record { links = ended_links c h ++ last; subs = sub_rows c h answers; events = events c h; calls = call_replies answers; tickets = ticket_rows c h }) (last_link (is_up h) (take (taken_count c h) (link_text c h)) (drop (taken_count c h) (link_text c h))))
 
 pub tells_nothing : (c : Config) → Tells c [] [] (idle c) empty_sheet
 tells_nothing c = record { parts = refl; written = refl; given_numbers = λ s past. refl }

@@ -24,32 +24,57 @@ use Rattle.nats_subs.specs.declared.subs.subscription.Delivery.{Delivery}
 use Rattle.nats_subs.specs.declared.subs.subscription.Delivery.TheVariants.{Put, Dropped, Unwanted, Ignored}
 use Rattle.nats_history.specs.Queue.{first}
 use Rattle.nats_tables.specs.Numbers.{at_number, item_of, change}
-use Rattle.nats_history.specs.History.{Step, cut, read, handled, link_end, History, drained_by, second, kept, events}
+use Rattle.nats_history.specs.History.{Step, cut, read, handled, link_end, History, drained_by, second, kept, events, waiting_bytes, settles, tickets}
 use Rattle.nats_history.specs.Parts.{Parts, parts_of}
 use Rattle.nats_history.specs.Schedule.{is_valid_turn, refusal, call_reply, accepted_step, call_steps, due, chain, ends_link, put_steps}
-use Rattle.nats_history.specs.After.{after, events_of}
+use Rattle.nats_history.specs.After.{after, events_of, settled_of}
+pub use Rattle.nats_tickets.specs.Kept.{push_all}
+use Rattle.nats_tickets.specs.Kept.{Kept, reply_in, without}
 use Rattle.nats_subs.specs.Delivery.{delivery_at, deliver, altered, with_rows, rows_with}
 use Rattle.nats_subs.specs.declared.subs.subscription.Alteration.TheVariants as alterations
 
 -- ---- a handler as it is seen
 
--- its parts, and the events that wait to be handed out, oldest first
+-- its parts, the events that wait to be handed out, oldest first, and the settled tickets that were not handed out
 pub record Seen : Type 0 where
   pub parts : Parts
   pub events : List Event
+  pub ready : List (ℕ × CallReply)
 
--- what was handed out: how many events
+-- what is kept of tickets
+abbrev pub kept_of : Seen → Kept
+kept_of seen = record { tickets = seen.parts.tickets; ready = seen.ready }
+
+-- what was handed out: how many events, and the replies of which tickets, the latest first
 pub record HandedOut : Type 0 where
   pub events : ℕ
+  pub tickets : List ℕ
 
 abbrev pub nothing_handed : HandedOut
-nothing_handed = record { events = 0 }
+nothing_handed = record { events = 0; tickets = [] }
+
+-- the tickets that settled, each with its reply, in the order in which they did
+abbrev pub settled_tickets : Config → History → List (ℕ × CallReply)
+settled_tickets c [] = []
+settled_tickets c ((place, step) ∷ h) = settled_tickets c h ++ settles (length (waiting_bytes c h)) step (tickets c h)
+
+-- those that are left where these were handed out
+abbrev pub without_all : List ℕ → List (ℕ × CallReply) → List (ℕ × CallReply)
+without_all [] settled = settled
+without_all (ticket ∷ earlier) settled = without ticket (without_all earlier settled)
+
+-- each of these stood there when it was handed out
+abbrev pub StoodThere : List ℕ → List (ℕ × CallReply) → Type 0
+StoodThere [] settled = Unit {0}
+StoodThere (ticket ∷ earlier) settled = (is_some (reply_in ticket (without_all earlier settled)) ≡ true) × StoodThere earlier settled
 
 -- a handler stands for a history, of which this was handed out
 pub record StandsFor (c : Config) (out : HandedOut) (h : History) (seen : Seen) : Type 0 where
   pub parts : seen.parts ≡ parts_of c h
   pub handed_out : out.events ≤ length (events c h)
   pub waiting : seen.events ≡ drop out.events (map second (events c h))
+  pub replied : StoodThere out.tickets (settled_tickets c h)
+  pub ready : seen.ready ≡ without_all out.tickets (settled_tickets c h)
 
 -- as it is made: no link came up and nothing happened
 abbrev pub idle : Config → Parts
@@ -60,14 +85,15 @@ idle c = record {
   link = record { number = 0; is_up = false; max_payload = 1048576; info = None; reads = 0; pings = []; wire = fresh };
   calls = [];
   subs = record { given = 0; subscribed = 0; rows = [] };
+  tickets = record { given = 0; handled = 0; flushing = [] };
 }
 
-abbrev pub push_all : {A : Type 0} → List A → List A → List A
-push_all [] waiting = waiting
-push_all (x ∷ more) waiting = push_all more (waiting ++ x ∷ [])
-
 abbrev pub seen_after : Seen → Step → Seen
-seen_after seen step = record { parts = after seen.parts step; events = push_all (events_of seen.parts step) seen.events }
+seen_after seen step = record {
+  parts = after seen.parts step;
+  events = push_all (events_of seen.parts step) seen.events;
+  ready = push_all (settled_of seen.parts step) seen.ready;
+}
 
 abbrev pub seen_all : Seen → List Step → Seen
 seen_all seen [] = seen
@@ -86,6 +112,11 @@ state_of p = if p.link.is_up then states.Connected else (if p.link.number == 0 t
 abbrev pub all_events : Parts → List Step → List Event
 all_events p [] = []
 all_events p (step ∷ steps) = events_of p step ++ all_events (after p step) steps
+
+-- the tickets that some steps settle
+abbrev pub all_settled : Parts → List Step → List (ℕ × CallReply)
+all_settled p [] = []
+all_settled p (step ∷ steps) = settled_of p step ++ all_settled (after p step) steps
 
 -- the same with these buffers of the link
 abbrev pub with_buffers : Wire → Seen → Seen
@@ -252,3 +283,16 @@ abbrev pub HandsOut : Seen → Option Event → Seen → Type 0
 HandsOut old event new =
     (c : Config) (out : HandedOut) (h : History) → StandsFor c out h old
     → (event ≡ next_of c out h) × StandsFor c (handed event out) h new
+
+-- ---- replies of tickets
+
+abbrev pub handed_reply : ℕ → Option CallReply → HandedOut → HandedOut
+handed_reply ticket None out = out
+handed_reply ticket (Some reply) out = record out { tickets = ticket ∷ out.tickets }
+
+-- the reply of a ticket is handed out, where it settled and was not handed out: whatever history the old one stands for, it is
+-- that history's, and the new one stands for the history with this one more handed out
+abbrev pub HandsReply : ℕ → Seen → Option CallReply → Seen → Type 0
+HandsReply ticket old reply new =
+    (c : Config) (out : HandedOut) (h : History) → StandsFor c out h old
+    → (reply ≡ reply_in ticket (without_all out.tickets (settled_tickets c h))) × StandsFor c (handed_reply ticket reply out) h new

@@ -10,29 +10,30 @@ use Rattle.nats_tables.specs.Numbers.{at_number}
 use Rattle.nats_history.specs.Parts.{Parts}
 use Rattle.nats_history.specs.Schedule.{is_valid_turn, own_steps, call_reply, take_reply, chain}
 use Rattle.nats_history.specs.Transcripts.{Answer, nothing, called, asked}
-use Rattle.nats_history.specs.After.{after, after_all, events_of, due_steps}
+use Rattle.nats_history.specs.After.{after, after_all, events_of, settled_of, due_steps}
 use Rattle.nats_subs.specs.declared.subs.subscription.Delivery.{Delivery}
 use Rattle.nats_subs.specs.declared.subs.subscription.Delivery.TheVariants.{Put, Dropped, Unwanted, Ignored}
 use Rattle.nats_session.specs.declared.handler.due.Look.{Look}
 use Rattle.nats_session.specs.declared.handler.due.Look.TheVariants as looks
 use Rattle.nats_session.specs.Handler.{Seen, delivery_of}
-use Rattle.nats_session.specs.Sheet.{Sheet, row_with, write_put, write_step, write_answer, write_events}
+use Rattle.nats_session.specs.Sheet.{Sheet, row_with, write_put, write_step, write_answer, write_events, write_tickets}
 
--- a handler with these parts, all of whose events were handed out
+-- a handler with these parts, all of whose events and settled tickets were handed out
 abbrev pub quiet : Parts → Seen
-quiet p = record { parts = p; events = [] }
+quiet p = record { parts = p; events = []; ready = [] }
 
 -- ---- steps
 
--- the sheet with what the step writes and with its events
+-- the sheet with what the step writes, with its events and the tickets that it settles
 abbrev pub sheet_noted : ℕ → Step → Parts → Sheet → Sheet
-sheet_noted place step p sheet = write_events place (events_of p step) (write_step place p step sheet)
+sheet_noted place step p sheet =
+    write_tickets place (settled_of p step) (write_events place (events_of p step) (write_step place p step sheet))
 
 abbrev pub sheet_recorded : ℕ → List Step → Parts → Sheet → Sheet
 sheet_recorded place [] p sheet = sheet
 sheet_recorded place (step ∷ steps) p sheet = sheet_recorded place steps (after p step) (sheet_noted place step p sheet)
 
--- what some steps write but for their events
+-- what some steps write but for their events and the tickets that they settle
 abbrev pub sheet_written : ℕ → List Step → Parts → Sheet → Sheet
 sheet_written place [] p sheet = sheet
 sheet_written place (step ∷ steps) p sheet = sheet_written place steps (after p step) (write_step place p step sheet)

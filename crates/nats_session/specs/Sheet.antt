@@ -4,17 +4,18 @@ use Rattle.nats_names.specs.declared.event.Event.{Event}
 use Rattle.nats_wire.specs.declared.message.Message.{Message}
 use Rattle.nats_wire.specs.Operations.{message}
 use Rattle.nats_history.specs.declared.config.Config.{Config}
+use Rattle.nats_history.specs.declared.call.CallReply.{CallReply}
 use Rattle.nats_history.specs.declared.transcript.LinkWord.TheVariants as word
 use Rattle.nats_history.specs.declared.transcript.LinkRow.{LinkRow}
 use Rattle.nats_history.specs.declared.transcript.SubRow.{SubRow}
 use Rattle.nats_history.specs.declared.transcript.Transcript.{Transcript}
 use Rattle.nats_subs.specs.declared.subs.subscription.Delivery.{Delivery}
 use Rattle.nats_subs.specs.declared.subs.subscription.Delivery.TheVariants.{Put, Dropped, Unwanted, Ignored}
-use Rattle.nats_history.specs.History.{Step, opened, read, taken, accepted, link_end, History, is_up, subscribes, link_text, taken_count, at_place, given, events}
+use Rattle.nats_history.specs.History.{Step, opened, read, taken, accepted, link_end, History, is_up, subscribes, link_text, taken_count, at_place, given, events, grown_tickets, settle_rows, ticket_rows}
 use Rattle.nats_tables.specs.Numbers.{at_number, item_of}
 use Rattle.nats_history.specs.Parts.{Parts, parts_of}
 use Rattle.nats_subs.specs.Delivery.{delivery_at}
-pub use Rattle.nats_draft.specs.Sheet.{Sheet, empty_sheet, row_with, new_row, added, write_put, write_drop, write_take, write_due}
+pub use Rattle.nats_draft.specs.Sheet.{Sheet, empty_sheet, row_with, new_row, added, added_ticket, write_settled, write_put, write_drop, write_take, write_due}
 use Rattle.nats_history.specs.Transcripts.{Answer, nothing, called, asked, ended_links, sub_rows, take_replies, call_replies}
 
 -- the sheet that the words on a history and the answers give
@@ -25,6 +26,7 @@ sheet_of c h answers = record {
   subs = sub_rows c h answers;
   events = events c h;
   calls = call_replies answers;
+  tickets = ticket_rows c h;
 }
 
 -- ---- what a step writes
@@ -51,7 +53,7 @@ rows_written place p (accepted call) rows = if subscribes call then rows ++ new_
 rows_written place p (read (message sid m)) rows = write_delivery place sid m (delivery_at p.config (item_of sid p.subs.rows)) rows
 rows_written place p step rows = rows
 
--- what a step writes at a place but for its events, where these are the parts before it
+-- what a step writes at a place but for its events and the tickets that it settles, where these are the parts before it
 abbrev pub write_step : ℕ → Parts → Step → Sheet → Sheet
 write_step place p step sheet = record {
   links = links_written p step sheet.taken sheet.links;
@@ -59,10 +61,14 @@ write_step place p step sheet = record {
   subs = rows_written place p step sheet.subs;
   events = sheet.events;
   calls = sheet.calls;
+  tickets = grown_tickets step sheet.tickets;
 }
 
 abbrev pub write_events : ℕ → List Event → Sheet → Sheet
 write_events place events sheet = record sheet { events = sheet.events ++ at_place place events }
+
+abbrev pub write_tickets : ℕ → List (ℕ × CallReply) → Sheet → Sheet
+write_tickets place settled sheet = record sheet { tickets = settle_rows place settled sheet.tickets }
 
 -- ---- what an answer writes
 
@@ -80,6 +86,7 @@ finished p sheet = record {
   subs = sheet.subs;
   events = sheet.events;
   calls = sheet.calls;
+  tickets = sheet.tickets;
 }
 
 -- the answers to takes are of numbers that were given

@@ -11,6 +11,7 @@ mod ends;
 pub use due::Look;
 use nats_history::{Call, Config, Event, NoMemory, ServerInfo};
 use nats_subs::{Pings, Queue, Subscriptions};
+use nats_tickets::Flushes;
 use nats_wire::Connection;
 use std::alloc::Global;
 use std::marker::Model;
@@ -21,8 +22,8 @@ const DEFAULT_MAX_PAYLOAD: u64 = 1_048_576;
 /// A tick ends the link where so many ticks before it have no answer. The crate's `MAX_PENDING_PINGS`.
 const TICK_LIMIT: u64 = 2;
 
-/// A session over one link at a time. The crate's private handler, with its turns as calls. Contracts see its parts, and the
-/// events that wait to be handed out.
+/// A session over one link at a time. The crate's private handler, with its turns as calls. Contracts see its parts, the
+/// events that wait to be handed out, and the settled tickets that do.
 #[derive(Drop)]
 pub struct ConnectionHandler {
     config: Config,
@@ -38,6 +39,7 @@ pub struct ConnectionHandler {
     connection: Connection,
     calls: Queue<Call>,
     subs: Subscriptions,
+    flushes: Flushes,
     events: Queue<Event>,
 }
 
@@ -63,15 +65,17 @@ impl Model for ConnectionHandler {
         };
         calls = h.calls;
         subs = h.subs;
+        tickets = h.flushes.tickets;
       };
       events = h.events;
+      ready = h.flushes.ready;
     } };
 }
 
 impl ConnectionHandler {
     /// A session with no link yet. Today it takes no memory, so it never answers `NoMemory`.
     pub fn new(alloc: Global, config: Config) -> Result<ConnectionHandler, NoMemory>
-        ensures seen { IfOk result (λ h. h ≡ record { parts = idle config; events = [] }) }
+        ensures seen { IfOk result (λ h. h ≡ record { parts = idle config; events = []; ready = [] }) }
         ensures stands { IfOk result (λ h. StandsFor config nothing_handed [] h) }
     {
         Ok(ConnectionHandler {
@@ -88,6 +92,7 @@ impl ConnectionHandler {
             connection: Connection::new(alloc),
             calls: Queue::new(alloc),
             subs: Subscriptions::new(alloc),
+            flushes: Flushes::new(alloc),
             events: Queue::new(alloc),
         })
     }

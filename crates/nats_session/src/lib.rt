@@ -3,6 +3,7 @@
 #![tactic(auto)]
 
 mod handler;
+pub mod laws;
 mod play;
 
 pub use handler::ConnectionHandler;

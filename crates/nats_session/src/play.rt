@@ -4,12 +4,13 @@ ghost use Rattle.nats_history.specs.declared.turn.Turn.TheVariants as turns;
 ghost use Rattle.nats_history.specs.Schedule.{due};
 ghost use Rattle.nats_history.specs.Transcripts.{Plays};
 ghost use Rattle.nats_session.specs.Handler.{can_play, end_in, Sees, is_nothing};
-ghost use Rattle.nats_session.specs.Sheet.{write_events, finished};
+ghost use Rattle.nats_session.specs.Sheet.{write_events, write_tickets, finished};
 ghost use Rattle.nats_session.specs.Machine.{quiet, own_parts, own_sheet, settled_parts, settled_sheet, turn_parts, turn_sheet, write_look, write_end, Notes};
 ghost use Rattle.nats_history.specs.declared.transcript.RunError.TheVariants as refused;
 
 use crate::handler::{ConnectionHandler, Look};
 use nats_draft::{Draft, Note};
+use nats_history::refusals::is_flush;
 use nats_history::{Call, Config, LinkWord, NoMemory, RunError, ServerInfo, Transcript, Turn};
 use nats_subs::Delivery;
 use nats_wire::PeekedOp;
@@ -24,12 +25,13 @@ fn play_up(
 ) -> Result<(), NoMemory>
     requires may { IsTrue (can_play handler.old.parts (turns.Up info.now)) }
     requires none { handler.old.events ≡ [] }
+    requires settled { handler.old.ready ≡ [] }
     ensures parts { OnOk result (handler.new ≡ quiet (own_parts (turns.Up info.now) handler.old.parts)) }
     ensures sheet { OnOk result (draft.new ≡ own_sheet place (turns.Up info.now) handler.old.parts draft.old) }
 {
     handler.up(alloc, info.copy(alloc)?)?;
     draft.begin_link();
-    note_events(handler, draft, place)
+    note_news(handler, draft, place)
 }
 
 fn play_piece(
@@ -41,11 +43,12 @@ fn play_piece(
 ) -> Result<(), NoMemory>
     requires may { IsTrue (can_play handler.old.parts (turns.Piece bytes.now)) }
     requires none { handler.old.events ≡ [] }
+    requires settled { handler.old.ready ≡ [] }
     ensures parts { OnOk result (handler.new ≡ quiet (own_parts (turns.Piece bytes.now) handler.old.parts)) }
     ensures sheet { OnOk result (draft.new ≡ own_sheet place (turns.Piece bytes.now) handler.old.parts draft.old) }
 {
     handler.piece(alloc, bytes)?;
-    note_events(handler, draft, place)
+    note_news(handler, draft, place)
 }
 
 fn play_write(
@@ -56,6 +59,7 @@ fn play_write(
 ) -> Result<(), NoMemory>
     requires may { IsTrue (can_play handler.old.parts (turns.Write n)) }
     requires none { handler.old.events ≡ [] }
+    requires settled { handler.old.ready ≡ [] }
     ensures parts { OnOk result (handler.new ≡ quiet (own_parts (turns.Write n) handler.old.parts)) }
     ensures sheet { OnOk result (draft.new ≡ own_sheet place (turns.Write n) handler.old.parts draft.old) }
 {
@@ -63,7 +67,7 @@ fn play_write(
     let count = (n as usize).min(waiting.len());
     draft.note_taken(&waiting[..count])?;
     handler.written(n);
-    note_events(handler, draft, place)
+    note_news(handler, draft, place)
 }
 
 fn play_tick(
@@ -74,13 +78,14 @@ fn play_tick(
 ) -> Result<(), NoMemory>
     requires may { IsTrue (can_play handler.old.parts turns.Tick) }
     requires none { handler.old.events ≡ [] }
+    requires settled { handler.old.ready ≡ [] }
     ensures parts { OnOk result (handler.new ≡ quiet (own_parts turns.Tick handler.old.parts)) }
     ensures sheet { OnOk result (draft.new ≡ own_sheet place turns.Tick handler.old.parts draft.old) }
 {
     let end = handler.tick_word();
     note_end(alloc, handler, draft, end)?;
     handler.tick(alloc)?;
-    note_events(handler, draft, place)
+    note_news(handler, draft, place)
 }
 
 fn play_lost(
@@ -91,12 +96,13 @@ fn play_lost(
 ) -> Result<(), NoMemory>
     requires may { IsTrue (can_play handler.old.parts turns.Lost) }
     requires none { handler.old.events ≡ [] }
+    requires settled { handler.old.ready ≡ [] }
     ensures parts { OnOk result (handler.new ≡ quiet (own_parts turns.Lost handler.old.parts)) }
     ensures sheet { OnOk result (draft.new ≡ own_sheet place turns.Lost handler.old.parts draft.old) }
 {
     note_end(alloc, handler, draft, Some(LinkWord::Lost))?;
     handler.lost(alloc)?;
-    note_events(handler, draft, place)
+    note_news(handler, draft, place)
 }
 
 fn play_give_up(
@@ -107,11 +113,12 @@ fn play_give_up(
 ) -> Result<(), NoMemory>
     requires may { IsTrue (can_play handler.old.parts turns.GiveUp) }
     requires none { handler.old.events ≡ [] }
+    requires settled { handler.old.ready ≡ [] }
     ensures parts { OnOk result (handler.new ≡ quiet (own_parts turns.GiveUp handler.old.parts)) }
     ensures sheet { OnOk result (draft.new ≡ own_sheet place turns.GiveUp handler.old.parts draft.old) }
 {
     handler.give_up(alloc)?;
-    note_events(handler, draft, place)
+    note_news(handler, draft, place)
 }
 
 fn play_hangup(
@@ -122,13 +129,14 @@ fn play_hangup(
 ) -> Result<(), NoMemory>
     requires may { IsTrue (can_play handler.old.parts turns.Hangup) }
     requires none { handler.old.events ≡ [] }
+    requires settled { handler.old.ready ≡ [] }
     ensures parts { OnOk result (handler.new ≡ quiet (own_parts turns.Hangup handler.old.parts)) }
     ensures sheet { OnOk result (draft.new ≡ own_sheet place turns.Hangup handler.old.parts draft.old) }
 {
     let end = handler.hangup_word();
     note_end(alloc, handler, draft, end)?;
     handler.hang_up(alloc)?;
-    note_events(handler, draft, place)
+    note_news(handler, draft, place)
 }
 
 fn play_call(
@@ -140,12 +148,16 @@ fn play_call(
 ) -> Result<(), NoMemory>
     requires may { IsTrue (can_play handler.old.parts (turns.Do call.now)) }
     requires none { handler.old.events ≡ [] }
+    requires settled { handler.old.ready ≡ [] }
     ensures parts { OnOk result (handler.new ≡ quiet (own_parts (turns.Do call.now) handler.old.parts)) }
     ensures sheet { OnOk result (draft.new ≡ own_sheet place (turns.Do call.now) handler.old.parts draft.old) }
 {
     let Ok(reply) = handler.submit(alloc, call.copy(alloc)?) else {
         return Err(NoMemory);
     };
+    if is_flush(call) {
+        return draft.note_flush(place, reply);
+    }
     draft.note_call(alloc, place, reply)
 }
 
@@ -158,6 +170,7 @@ fn play_take(
 ) -> Result<(), NoMemory>
     requires may { IsTrue (can_play handler.old.parts (turns.Take sid)) }
     requires none { handler.old.events ≡ [] }
+    requires settled { handler.old.ready ≡ [] }
     ensures parts { OnOk result (handler.new ≡ quiet (own_parts (turns.Take sid) handler.old.parts)) }
     ensures sheet { OnOk result (draft.new ≡ own_sheet place (turns.Take sid) handler.old.parts draft.old) }
 {
@@ -174,6 +187,7 @@ fn play_own(
 ) -> Result<(), NoMemory>
     requires may { IsTrue (can_play handler.old.parts turn.now) }
     requires none { handler.old.events ≡ [] }
+    requires settled { handler.old.ready ≡ [] }
     ensures parts { OnOk result (handler.new ≡ quiet (own_parts turn.now handler.old.parts)) }
     ensures sheet { OnOk result (draft.new ≡ own_sheet place turn.now handler.old.parts draft.old) }
 {
@@ -202,6 +216,27 @@ fn note_events(
     'event: while let Some(event) = handler.next_event() {
         draft.note_event(place, event)?;
     }
+    Ok(())
+}
+
+/// Takes over the settled tickets that wait in the handler.
+fn note_settled(handler: &mut ConnectionHandler, draft: &mut Draft, place: u64)
+    ensures written { draft.new ≡ write_tickets place handler.old.ready draft.old }
+    ensures handed_out { handler.new ≡ record handler.old { ready = [] } }
+{
+    'ticket: while let Some((ticket, reply)) = handler.next_settled() {
+        draft.note_settled(place, ticket, reply);
+    }
+}
+
+/// Takes over all that waits in the handler to be handed out.
+fn note_news(handler: &mut ConnectionHandler, draft: &mut Draft, place: u64) -> Result<(), NoMemory>
+    ensures written { OnOk result
+        (draft.new ≡ write_tickets place handler.old.ready (write_events place handler.old.events draft.old)) }
+    ensures handed_out { OnOk result (handler.new ≡ record handler.old { events = []; ready = [] }) }
+{
+    note_events(handler, draft, place)?;
+    note_settled(handler, draft, place);
     Ok(())
 }
 
@@ -253,6 +288,7 @@ fn play_due(
 ) -> Result<(), NoMemory>
     requires sees { Sees handler.old.parts look }
     requires none { handler.old.events ≡ [] }
+    requires settled { handler.old.ready ≡ [] }
     ensures { OnOk result (Notes (due handler.old.parts) place handler.old.parts draft.old handler.new draft.new) }
 {
     let end = handler.end_by(&look);
@@ -260,7 +296,7 @@ fn play_due(
     note_end(alloc, handler, draft, end)?;
     let name = handler.advance_by(alloc, look)?;
     draft.note_due(alloc, place, name)?;
-    note_events(handler, draft, place)
+    note_news(handler, draft, place)
 }
 
 fn settle(
@@ -269,7 +305,8 @@ fn settle(
     draft: &mut Draft,
     place: u64,
 ) -> Result<(), NoMemory>
-    requires { handler.old.events ≡ [] }
+    requires none { handler.old.events ≡ [] }
+    requires settled { handler.old.ready ≡ [] }
     ensures parts { OnOk result (handler.new ≡ quiet (settled_parts handler.old.parts)) }
     ensures sheet { OnOk result (draft.new ≡ settled_sheet place handler.old.parts draft.old) }
 {
@@ -291,6 +328,7 @@ fn play_turn(
 ) -> Result<(), NoMemory>
     requires may { IsTrue (can_play handler.old.parts turn.now) }
     requires none { handler.old.events ≡ [] }
+    requires settled { handler.old.ready ≡ [] }
     ensures parts { OnOk result (handler.new ≡ quiet (turn_parts turn.now handler.old.parts)) }
     ensures sheet { OnOk result (draft.new ≡ turn_sheet place turn.now handler.old.parts draft.old) }
 {

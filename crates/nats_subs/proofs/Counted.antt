@@ -5,15 +5,17 @@ use Rattle.std.proofs.lemmas.List.{append-nil, append_assoc, length-append, leng
 use Rattle.std.proofs.lemmas.Option.{none-some}
 use Rattle.nats_wire.specs.declared.op.ClientOp.{ClientOp}
 use Rattle.nats_tables.specs.Numbers.{at_index, at_number, item_of}
-use Rattle.nats_tables.specs.Rows.{kept_row, first_kept}
+use Rattle.nats_tables.specs.Rows.{kept_row, first_awake}
 use Rattle.nats_tables.proofs.Numbers.{length-at_number}
-use Rattle.nats_tables.proofs.Walks.{same_some, kept_low}
+use Rattle.nats_tables.proofs.Walks.{same_some, awake_low}
 use Rattle.nats_history.specs.declared.call.Interest.{Interest}
-use Rattle.nats_history.specs.History.{Sub, is_open, is_ended, is_over, kept, unsubscribe_command, subscribed_again, commands_from}
+use Rattle.nats_history.specs.History.{Sub, is_open, is_over, forgotten, kept, unsubscribe_command, subscribed_again, commands_from}
 use Rattle.nats_history.specs.Parts.{Subs}
 use Rattle.nats_history.specs.After.{new_sub}
-use Rattle.nats_history.proofs.Rows.{both_true, ended_is}
+use Rattle.nats_history.proofs.Rows.{ended_is}
+use Rattle.nats_subs.specs.declared.subs.subscription.Alteration.{Alteration}
 use Rattle.nats_subs.specs.declared.subs.subscription.Alteration.TheVariants as alterations
+use Rattle.nats_subs.specs.Forgetting.{rests, over_rests, stage_stays, LeavesResting}
 use Rattle.nats_subs.specs.Delivery.{altered, asked_sub, asking, rows_with, rows_named, given_one, subscribed_one, commands_by, commands_at}
 use Rattle.nats_subs.specs.declared.subs.subscription.Texts.{Texts}
 use Rattle.nats_subs.specs.declared.subs.subscription.Texts.TheVariants as which
@@ -44,6 +46,23 @@ pub rows_altered : (subscribed : ℕ) (f : Sub → Sub) (rows new : List Sub) �
 rows_altered subscribed f rows new is =
     ap (as_subs subscribed) is ∙ ap (λ n. record (as_subs subscribed (map f rows)) { given = n }) (length-map rows f)
 
+-- these leave alone what rests
+pub renew_leaves : LeavesResting alterations.Renew
+renew_leaves sub rest = ap (λ stage. record sub { stage = stage }) (stage_stays sub.is_shut false sub.stage rest)
+
+pub close_leaves : LeavesResting alterations.Close
+close_leaves sub rest = ap (λ stage. record sub { stage = stage }) (stage_stays true true sub.stage rest)
+
+pub kept_tidy : (sub : Sub) → (is_over sub ≡ true → sub ≡ forgotten) → kept sub ≡ sub
+kept_tidy sub tidy = by (is_over sub) refl
+  where
+    by : (b : Bool) → is_over sub ≡ b → cond b forgotten sub ≡ sub
+    by true over = sym (tidy over)
+    by false over = refl
+
+pub rests_still : (a : Alteration) → LeavesResting a → (sub : Sub) → rests sub ≡ true → (is_over sub ≡ true → sub ≡ forgotten) → kept (altered a sub) ≡ sub
+rests_still a leaves sub rest tidy = ap kept (leaves sub rest) ∙ kept_tidy sub tidy
+
 -- ---- one more number
 
 at_last : {A : Type 0} (f : A → A) (xs : List A) (x : A) → at_index (length xs) f (xs ++ x ∷ []) ≡ xs ++ f x ∷ []
@@ -59,38 +78,38 @@ one_given subscribed asked rows new is =
 
 -- ---- commands of each
 
--- one that is over has none
-over_quiet : (t : Texts) (s : ℕ) (sub : Sub) → is_over sub ≡ true → commands_by t s sub ≡ []
-over_quiet which.Again s sub over =
-    ap (λ stage. cond (is_open stage && not sub.is_shut) (subscribed_again s sub sub.interest) []) (ended_is sub.stage (both_true sub.is_gone (is_ended sub.stage) over).1)
-over_quiet which.Unsubscribe s sub over =
-    ap (λ stage. unsubscribe_command (is_open stage) s None) (ended_is sub.stage (both_true sub.is_gone (is_ended sub.stage) over).1)
+-- one that rests has none
+resting_quiet : (t : Texts) (s : ℕ) (sub : Sub) → rests sub ≡ true → commands_by t s sub ≡ []
+resting_quiet which.Again s sub rest =
+    ap (λ stage. cond (is_open stage && not sub.is_shut) (subscribed_again s sub sub.interest) []) (ended_is sub.stage rest)
+resting_quiet which.Unsubscribe s sub rest =
+    ap (λ stage. unsubscribe_command (is_open stage) s None) (ended_is sub.stage rest)
 
 pub commands_kept : (t : Texts) (s : ℕ) (row : Option Sub) → commands_at t s (kept_row is_over row) ≡ commands_at t s row
 commands_kept t s None = refl
 commands_kept t s (Some sub) = by_over (is_over sub) refl
   where
     by_over : (b : Bool) → is_over sub ≡ b → commands_at t s (cond b None (Some sub)) ≡ commands_by t s sub
-    by_over true over = sym (over_quiet t s sub over)
+    by_over true over = sym (resting_quiet t s sub (over_rests sub over))
     by_over false over = refl
 
 abbrev Next : Texts → ℕ → ℕ → ℕ → List Sub → Type 0
 Next t s d k subs = commands_from (commands_by t) s subs ≡ commands_at t k (slice_get subs d) ++ commands_from (commands_by t) (suc k) (drop (suc d) subs)
 
-first_commands : (t : Texts) (s d k : ℕ) (subs : List Sub) → k ≡ s + d → first_kept is_over s subs ≡ Some k → Next t s d k subs
+first_commands : (t : Texts) (s d k : ℕ) (subs : List Sub) → k ≡ s + d → first_awake rests s subs ≡ Some k → Next t s d k subs
 first_commands t s d k [] e is = absurd (none-some k is)
-first_commands t s zero k (sub ∷ more) e is = by (is_over sub) is (kept_low is_over (suc s) k more)
+first_commands t s zero k (sub ∷ more) e is = by (rests sub) is (awake_low rests (suc s) k more)
   where
-    by : (b : Bool) → cond b (first_kept is_over (suc s) more) (Some s) ≡ Some k → (first_kept is_over (suc s) more ≡ Some k → suc s ≤ k) → Next t s zero k (sub ∷ more)
+    by : (b : Bool) → cond b (first_awake rests (suc s) more) (Some s) ≡ Some k → (first_awake rests (suc s) more ≡ Some k → suc s ≤ k) → Next t s zero k (sub ∷ more)
     by true is low = absurd (omega (arith, low is, e))
     by false is low = ap (λ j. commands_by t j sub ++ commands_from (commands_by t) (suc j) more) (same_some s k is)
-first_commands t s (suc d) k (sub ∷ more) e is = by (is_over sub) refl is (first_commands t (suc s) d k more (omega (arith, e)))
+first_commands t s (suc d) k (sub ∷ more) e is = by (rests sub) refl is (first_commands t (suc s) d k more (omega (arith, e)))
   where
-    by : (b : Bool) → is_over sub ≡ b → cond b (first_kept is_over (suc s) more) (Some s) ≡ Some k → (first_kept is_over (suc s) more ≡ Some k → Next t (suc s) d k more) → Next t s (suc d) k (sub ∷ more)
-    by true over is next = ap (λ ops. ops ++ commands_from (commands_by t) (suc s) more) (over_quiet t s sub over) ∙ next is
-    by false over is next = absurd (omega (arith, same_some s k is, e))
+    by : (b : Bool) → rests sub ≡ b → cond b (first_awake rests (suc s) more) (Some s) ≡ Some k → (first_awake rests (suc s) more ≡ Some k → Next t (suc s) d k more) → Next t s (suc d) k (sub ∷ more)
+    by true rest is next = ap (λ ops. ops ++ commands_from (commands_by t) (suc s) more) (resting_quiet t s sub rest) ∙ next is
+    by false rest is next = absurd (omega (arith, same_some s k is, e))
 
-behind_commands : (t : Texts) (n s d i k : ℕ) (rows : List Sub) → i ≡ n + d → k ≡ s + d → first_kept is_over s (drop n rows) ≡ Some k
+behind_commands : (t : Texts) (n s d i k : ℕ) (rows : List Sub) → i ≡ n + d → k ≡ s + d → first_awake rests s (drop n rows) ≡ Some k
     → commands_from (commands_by t) s (drop n rows) ≡ commands_at t k (slice_get rows i) ++ commands_from (commands_by t) (suc k) (drop (suc i) rows)
 behind_commands t zero s d i k rows a b is =
     let e : d ≡ i = omega (arith, a) in
@@ -99,30 +118,30 @@ behind_commands t (suc n) s d i k [] a b is = absurd (none-some k is)
 behind_commands t (suc n) s d zero k (row ∷ rows) a b is = absurd (omega (arith, a))
 behind_commands t (suc n) s d (suc i) k (row ∷ rows) a b is = behind_commands t n s d i k rows (omega (arith, a)) b is
 
-next_commands : (t : Texts) (n k : ℕ) (rows : List Sub) → first_kept is_over (suc n) (drop n rows) ≡ Some k
+next_commands : (t : Texts) (n k : ℕ) (rows : List Sub) → first_awake rests (suc n) (drop n rows) ≡ Some k
     → commands_from (commands_by t) (suc n) (drop n rows) ≡ commands_at t k (item_of k rows) ++ commands_from (commands_by t) (suc k) (drop k rows)
-next_commands t n zero rows is = absurd (omega (arith, kept_low is_over (suc n) zero (drop n rows) is))
+next_commands t n zero rows is = absurd (omega (arith, awake_low rests (suc n) zero (drop n rows) is))
 next_commands t n (suc i) rows is =
-    let low = kept_low is_over (suc n) (suc i) (drop n rows) is in
+    let low = awake_low rests (suc n) (suc i) (drop n rows) is in
     behind_commands t n (suc n) (i - n) i (suc i) rows (omega (arith, low)) (omega (arith, low)) is
 
--- the commands of the next row that is not over, where those behind the first n are left
-pub one_command : (t : Texts) (n k : ℕ) (rows : List Sub) (old new all : List ClientOp) → old ++ commands_from (commands_by t) (suc n) (drop n rows) ≡ all → first_kept is_over (suc n) (drop n rows) ≡ Some k
+-- the commands of the next row that does not rest, where those behind the first n are left
+pub one_command : (t : Texts) (n k : ℕ) (rows : List Sub) (old new all : List ClientOp) → old ++ commands_from (commands_by t) (suc n) (drop n rows) ≡ all → first_awake rests (suc n) (drop n rows) ≡ Some k
     → new ≡ old ++ commands_at t k (item_of k rows) → new ++ commands_from (commands_by t) (suc k) (drop k rows) ≡ all
 one_command t n k rows old new all before next is =
     ap (λ ops. ops ++ commands_from (commands_by t) (suc k) (drop k rows)) is
     ∙ (append_assoc old (commands_at t k (item_of k rows)) (commands_from (commands_by t) (suc k) (drop k rows))
     ∙ (ap (λ ops. old ++ ops) (sym (next_commands t n k rows next)) ∙ before))
 
-none_commands : (t : Texts) (s : ℕ) (subs : List Sub) → first_kept is_over s subs ≡ None → commands_from (commands_by t) s subs ≡ []
+none_commands : (t : Texts) (s : ℕ) (subs : List Sub) → first_awake rests s subs ≡ None → commands_from (commands_by t) s subs ≡ []
 none_commands t s [] is = refl
-none_commands t s (sub ∷ more) is = by (is_over sub) refl is (none_commands t (suc s) more)
+none_commands t s (sub ∷ more) is = by (rests sub) refl is (none_commands t (suc s) more)
   where
-    by : (b : Bool) → is_over sub ≡ b → cond b (first_kept is_over (suc s) more) (Some s) ≡ None → (first_kept is_over (suc s) more ≡ None → commands_from (commands_by t) (suc s) more ≡ []) → commands_from (commands_by t) s (sub ∷ more) ≡ []
-    by true over is next = ap (λ ops. ops ++ commands_from (commands_by t) (suc s) more) (over_quiet t s sub over) ∙ next is
-    by false over is next = absurd (none-some s (sym is))
+    by : (b : Bool) → rests sub ≡ b → cond b (first_awake rests (suc s) more) (Some s) ≡ None → (first_awake rests (suc s) more ≡ None → commands_from (commands_by t) (suc s) more ≡ []) → commands_from (commands_by t) s (sub ∷ more) ≡ []
+    by true rest is next = ap (λ ops. ops ++ commands_from (commands_by t) (suc s) more) (resting_quiet t s sub rest) ∙ next is
+    by false rest is next = absurd (none-some s (sym is))
 
 -- no row is left
-pub commands_done : (t : Texts) (n : ℕ) (rows : List Sub) (ops all : List ClientOp) → ops ++ commands_from (commands_by t) (suc n) (drop n rows) ≡ all → first_kept is_over (suc n) (drop n rows) ≡ None → ops ≡ all
+pub commands_done : (t : Texts) (n : ℕ) (rows : List Sub) (ops all : List ClientOp) → ops ++ commands_from (commands_by t) (suc n) (drop n rows) ≡ all → first_awake rests (suc n) (drop n rows) ≡ None → ops ≡ all
 commands_done t n rows ops all before none =
     sym (append-nil ops) ∙ (ap (λ more. ops ++ more) (sym (none_commands t (suc n) (drop n rows) none)) ∙ before)

@@ -1,4 +1,5 @@
 pub mod Counted
 pub mod Deliveries
 pub mod Ends
+pub mod Noted
 pub mod Pinged

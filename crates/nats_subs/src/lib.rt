@@ -2,6 +2,7 @@
 //! in the order of what is kept. It has no clock, no lock and no handle. Subscriptions are numbered from 1.
 #![tactic(auto)]
 
+mod drained;
 mod pings;
 mod queue;
 mod subs;

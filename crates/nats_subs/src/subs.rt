@@ -5,10 +5,13 @@ ghost use Rattle.nats_subs.specs.declared.subs.subscription.Alteration.TheVarian
 ghost use Rattle.nats_tables.specs.Numbers.{at_number, item_of};
 ghost use Rattle.nats_history.specs.History.{next_number, is_open_at, kept, all_again, unsubscribed, commands_from};
 ghost use Rattle.nats_history.specs.Schedule.{take_reply_of, is_there};
+ghost use Rattle.nats_subs.specs.Forgetting.{LeavesResting};
+ghost use Rattle.nats_subs.specs.Draining.{drained_at, Covers};
 ghost use Rattle.nats_subs.specs.Delivery.{deliver, take_from, delivery_at, youngest, given_one, subscribed_one, with_rows, rows_with, rows_named, rows_each, commands_by, commands_at};
 
 mod subscription;
 
+use crate::drained::Drained;
 use nats_history::{Config, Interest, Message, NoMemory, TakeReply};
 use nats_tables::Table;
 use nats_wire::ClientOp;
@@ -22,24 +25,56 @@ use subscription::{Arrival, Subscription, Take, Texts};
 pub struct Subscriptions {
     table: Table<Subscription>,
     subscribed: u64,
+    drained: Drained,
 }
 
 impl Model for Subscriptions {
     ghost use Rattle.std.specs.Prelude.{length};
     ghost use Rattle.nats_history.specs.Parts.{Subs};
+    ghost use Rattle.nats_subs.specs.Draining.{Covers};
 
     ghost Value = { Subs };
 
     ghost view = { λ t. record { given = length t.table; subscribed = t.subscribed; rows = t.table } };
+
+    ghost invariant = { λ t. Covers t.drained t.table };
 }
 
+/// Something happens to each subscription that leaves alone what rests.
 fn alter_rows(table: &mut Table<Subscription>, alteration: Alteration)
+    requires { LeavesResting alteration }
     ensures { table.new ≡ rows_each alteration table.old }
 {
     let mut last = 0;
     'rows: while let Some(sid) = table.next_after(last) {
+        table.tidy();
         table.alter(sid, &alteration);
         last = sid;
+    }
+    table.tidy();
+}
+
+/// Whether a subscription ends with its link.
+fn is_drained(table: &Table<Subscription>, sid: u64) -> bool
+    ensures { result ≡ drained_at (item_of sid table.now) }
+{
+    match table.item(sid) {
+        Some(row) => row.is_drained(),
+        None => false,
+    }
+}
+
+/// Ends those that end with their link. Where all of them were noted it goes through those alone.
+fn end_drained(table: &mut Table<Subscription>, drained: &mut Drained)
+    requires { Covers drained.old table.old }
+    ensures { table.new ≡ rows_each alterations.EndLink table.old }
+{
+    'drained: while let Some(sid) = drained.pop() {
+        table.alter(sid, &Alteration::EndLink);
+    }
+    table.tidy();
+    if drained.forget_others() {
+        alter_rows(table, Alteration::EndLink);
     }
 }
 
@@ -82,6 +117,7 @@ impl Subscriptions {
         Subscriptions {
             table: Table::new(alloc),
             subscribed: 0,
+            drained: Drained::new(alloc),
         }
     }
 
@@ -132,6 +168,8 @@ impl Subscriptions {
         if self.subscribed < self.table.len() {
             self.subscribed += 1;
             self.table.alter(self.subscribed, &Alteration::Open);
+            let is_drained = is_drained(&self.table, self.subscribed);
+            self.drained.settle(self.subscribed, is_drained);
         }
     }
 
@@ -140,6 +178,19 @@ impl Subscriptions {
         ensures { self.new ≡ with_rows (rows_with sid alteration self.old.rows) self.old }
     {
         self.table.alter(sid, &alteration);
+        let is_drained = is_drained(&self.table, sid);
+        self.drained.settle(sid, is_drained);
+    }
+
+    /// Takes the memory for the drain of a subscription before it is drained, so that a link's end need not go through others.
+    ///
+    /// # Errors
+    ///
+    /// `NoMemory` where memory is wanting.
+    pub fn note_drain(&mut self, sid: u64) -> Result<(), NoMemory>
+        ensures { self.new ≡ self.old }
+    {
+        self.drained.note(sid)
     }
 
     /// Something happens to a subscription, where one is named.
@@ -151,11 +202,25 @@ impl Subscriptions {
         }
     }
 
-    /// Something happens to each subscription.
-    pub fn alter_each(&mut self, alteration: Alteration)
-        ensures { self.new ≡ with_rows (rows_each alteration self.old.rows) self.old }
+    /// A new link came up: each subscription that is open and shut ends.
+    pub fn renew(&mut self)
+        ensures { self.new ≡ with_rows (rows_each alterations.Renew self.old.rows) self.old }
     {
-        alter_rows(&mut self.table, alteration);
+        alter_rows(&mut self.table, Alteration::Renew);
+    }
+
+    /// The link ended: each subscription that is open and drained ends.
+    pub fn end_link(&mut self)
+        ensures { self.new ≡ with_rows (rows_each alterations.EndLink self.old.rows) self.old }
+    {
+        end_drained(&mut self.table, &mut self.drained);
+    }
+
+    /// The session closes: each subscription ends.
+    pub fn close(&mut self)
+        ensures { self.new ≡ with_rows (rows_each alterations.Close self.old.rows) self.old }
+    {
+        alter_rows(&mut self.table, Alteration::Close);
     }
 
     /// What becomes of a message that comes for a subscription.

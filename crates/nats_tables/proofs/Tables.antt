@@ -5,7 +5,7 @@ use Rattle.std.specs.Ordering.{is_eq}
 use Rattle.std.proofs.lemmas.Bool.{ne_eqb, eq-eqb}
 use Rattle.std.proofs.lemmas.List.{length-map}
 use Rattle.nats_tables.specs.Numbers.{count_from, at_number, item_of}
-use Rattle.nats_tables.specs.Rows.{look, UpdatedAt, ForgotIf, row_in, rows_in, tidied, row_at, kept_row, Stays, KeepsOnly, KeepsAll, Keeps}
+use Rattle.nats_tables.specs.Rows.{look, UpdatedAt, UpdatedIf, row_in, rows_in, tidied, row_at, kept_row, Stays, KeepsOnly, KeepsAll, Keeps}
 use Rattle.nats_tables.proofs.Numbers.{length-count_from, same_up_to, changed_at, one_more, item_there, item_missing, at_index_past}
 
 -- ---- keys
@@ -87,7 +87,7 @@ shown_tidied overs gone row false is = sym (ap (λ b. cond b gone row) is)
 
 -- one that is kept was changed, and forgotten where it is over then
 pub rows_altered : {A : Type 0} (overs : A → Bool) (gone : A) (given k : ℕ) (es mid fs : List (ℕ × A)) (row new : A) (g : A → A) (over : Bool)
-    → look k es ≡ Some row → UpdatedAt k (Some new) es mid → ForgotIf over k mid fs → new ≡ g row → over ≡ overs new
+    → look k es ≡ Some row → UpdatedAt k (Some new) es mid → UpdatedIf over k None mid fs → new ≡ g row → over ≡ overs new
     → rows_in gone given fs ≡ at_number k (λ r. tidied overs gone (g r)) (rows_in gone given es)
 rows_altered overs gone given k es mid fs row new g over there changed forgot is ends =
     let updated : UpdatedAt k (cond over None (Some new)) es fs = λ q. forgot q ∙ changed_or_forgotten over (is_at (nat_cmp k) q) new (look q mid) (look q es) (changed q) in

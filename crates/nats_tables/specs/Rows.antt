@@ -14,9 +14,9 @@ look s es = lookup (is_at (nat_cmp s)) es
 abbrev pub UpdatedAt : {A : Type 0} → ℕ → Option A → List (ℕ × A) → List (ℕ × A) → Type 0
 UpdatedAt k w es fs = (q : ℕ) → look q fs ≡ cond (is_at (nat_cmp k) q) w (look q es)
 
--- fs is es without a number where it is over, and else the same
-abbrev pub ForgotIf : {A : Type 0} → Bool → ℕ → List (ℕ × A) → List (ℕ × A) → Type 0
-ForgotIf over k es fs = (q : ℕ) → look q fs ≡ cond (over && is_at (nat_cmp k) q) None (look q es)
+-- the same where something holds, and else fs is es
+abbrev pub UpdatedIf : {A : Type 0} → Bool → ℕ → Option A → List (ℕ × A) → List (ℕ × A) → Type 0
+UpdatedIf b k w es fs = (q : ℕ) → look q fs ≡ cond (b && is_at (nat_cmp k) q) w (look q es)
 
 -- the row of a number: those that are not kept look alike
 abbrev pub row_in : {A : Type 0} → A → List (ℕ × A) → ℕ → A
@@ -45,6 +45,15 @@ KeepsAll over gone given es = (s : ℕ) → 0 < s → s ≤ given → look s es 
 abbrev pub Keeps : {A : Type 0} → (A → Bool) → A → ℕ → List (ℕ × A) → Type 0
 Keeps over gone given es = KeepsOnly over given es × KeepsAll over gone given es
 
+-- what an index has of what is kept of a number: nothing where that rests
+abbrev pub woken : {A : Type 0} → (A → Bool) → Option A → Option ⊤
+woken rests None = None
+woken rests (Some row) = if rests row then None else Some tt
+
+-- an index of the rows that do not rest
+abbrev pub Indexes : {A : Type 0} → (A → Bool) → List (ℕ × A) → List (ℕ × ⊤) → Type 0
+Indexes rests es ws = (s : ℕ) → look s ws ≡ woken rests (look s es)
+
 -- the row of a number, where one that was not given looks like one that is forgotten
 abbrev pub row_at : {A : Type 0} → A → ℕ → List A → A
 row_at gone s rows = unwrap_or (item_of s rows) gone
@@ -54,10 +63,10 @@ abbrev pub kept_row : {A : Type 0} → (A → Bool) → Option A → Option A
 kept_row over None = None
 kept_row over (Some row) = if over row then None else Some row
 
--- the number of the first row that is not over, where the rows are numbered from that on
-abbrev pub first_kept : {A : Type 0} → (A → Bool) → ℕ → List A → Option ℕ
-first_kept over s [] = None
-first_kept over s (row ∷ rows) = if over row then first_kept over (suc s) rows else Some s
+-- the number of the first row that does not rest, where the rows are numbered from that on
+abbrev pub first_awake : {A : Type 0} → (A → Bool) → ℕ → List A → Option ℕ
+first_awake rests s [] = None
+first_awake rests s (row ∷ rows) = if rests row then first_awake rests (suc s) rows else Some s
 
 -- each row that is over is shown as forgotten
 abbrev pub Tidy : {A : Type 0} → (A → Bool) → A → List A → Type 0

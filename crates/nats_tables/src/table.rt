@@ -1,8 +1,8 @@
 //! A table of numbered rows that forgets those that are over.
-ghost use Rattle.std.specs.Prelude.{◌≡◌, ◌++◌, [], ◌∷◌, Bool, true, false, length, drop, suc, OnOk, OnErr, IfOk, None};
+ghost use Rattle.std.specs.Prelude.{◌≡◌, ◌++◌, [], ◌∷◌, Bool, true, false, length, drop, suc, OnOk, OnErr, IfOk, Some, None};
 ghost use Rattle.std.specs.Option.{option_copied};
 ghost use Rattle.nats_tables.specs.Numbers.{item_of, at_number};
-ghost use Rattle.nats_tables.specs.Rows.{row_at, kept_row, tidied, first_kept, Tidy, UpdatedAt, ForgotIf};
+ghost use Rattle.nats_tables.specs.Rows.{row_at, kept_row, tidied, first_awake, Tidy, UpdatedAt, UpdatedIf};
 
 use nats_names::NoMemory;
 use std::alloc::Global;
@@ -10,7 +10,7 @@ use std::collections::BTreeMap;
 use std::marker::Model;
 use std::ops::Bound;
 
-/// A row of a table, which may be over.
+/// A row of a table, which may rest and be over.
 pub trait Row: Drop {
     /// What stands for a row that is forgotten.
     ghost forgotten: { Self };
@@ -23,6 +23,15 @@ pub trait Row: Drop {
 
     /// Where a row can be over, what stands for a forgotten one is.
     ghost forgotten_is_over: { (row : Self) → over row ≡ true → over forgotten ≡ true };
+
+    ghost rests: { Self → Bool };
+
+    /// Whether what goes through all rows may pass over it.
+    fn is_resting(&self) -> bool
+        ensures { result ≡ rests self.now };
+
+    /// One that is over rests.
+    ghost over_rests: { (row : Self) → over row ≡ true → rests row ≡ true };
 }
 
 /// A change of a row that takes no memory, and that answers something.
@@ -44,6 +53,9 @@ pub trait Change<T: Row> {
 
     /// What is forgotten stays so.
     ghost leaves_forgotten: { (c : Self) → T.over T.forgotten ≡ true → tidied T.over T.forgotten (changes c T.forgotten) ≡ T.forgotten };
+
+    /// One that rests does so for good.
+    ghost leaves_resting: { (c : Self) (row : T) → T.rests row ≡ true → T.rests (changes c row) ≡ true };
 }
 
 /// A change of a row that may want memory, and that answers something.
@@ -66,39 +78,57 @@ pub trait TryChange<T: Row> {
 
     /// What is forgotten stays so.
     ghost leaves_forgotten: { (c : Self) → T.over T.forgotten ≡ true → tidied T.over T.forgotten (changes c T.forgotten) ≡ T.forgotten };
+
+    /// One that rests does so for good.
+    ghost leaves_resting: { (c : Self) (row : T) → T.rests row ≡ true → T.rests (changes c row) ≡ true };
 }
 
 /// Rows by their numbers, from 1. Contracts see all rows that got a number, in the order of their numbers; in memory are
-/// those that are not over. A call costs at most the logarithm of what is in memory. Our own; the crate has a `HashMap`.
+/// those that are not over, and once more the numbers of those that do not rest. A call costs at most the logarithm of what
+/// is in memory. Our own; the crate has a `HashMap`.
 #[derive(Drop)]
 pub struct Table<T: Row> {
     given: u64,
     kept: BTreeMap<u64, T>,
+    awake: BTreeMap<u64, ()>,
 }
 
 impl<T: Row> Model for Table<T> {
     ghost use Rattle.std.specs.Prelude.{List};
-    ghost use Rattle.nats_tables.specs.Rows.{rows_in, Keeps};
+    ghost use Rattle.nats_tables.specs.Rows.{rows_in, Keeps, Indexes};
 
     ghost Value = { List T };
 
     ghost view = { λ t. rows_in T.forgotten t.given t.kept.entries };
 
-    ghost invariant = { λ t. Keeps T.over T.forgotten t.given t.kept.entries };
+    ghost invariant = { λ t. Keeps T.over T.forgotten t.given t.kept.entries × Indexes T.rests t.kept.entries t.awake.entries };
 }
 
-fn forget<T: Row>(kept: &mut BTreeMap<u64, T>, number: u64)
-    ensures { UpdatedAt number None kept.old.entries kept.new.entries }
+fn forget<V: Drop>(map: &mut BTreeMap<u64, V>, number: u64)
+    ensures { UpdatedAt number None map.old.entries map.new.entries }
 {
-    let _ = kept.remove(&number);
+    let _ = map.remove(&number);
 }
 
-fn forget_if<T: Row>(kept: &mut BTreeMap<u64, T>, number: u64, over: bool)
-    ensures { ForgotIf over number kept.old.entries kept.new.entries }
+fn forget_if<V: Drop>(map: &mut BTreeMap<u64, V>, number: u64, goes: bool)
+    ensures { UpdatedIf goes number None map.old.entries map.new.entries }
 {
-    if over {
-        forget(kept, number);
+    if goes {
+        forget(map, number);
     }
+}
+
+fn wake_if(awake: &mut BTreeMap<u64, ()>, number: u64, wakes: bool) -> Result<(), NoMemory>
+    ensures ok { OnOk result (UpdatedIf wakes number (Some tt) awake.old.entries awake.new.entries) }
+    ensures err { OnErr result (awake.new.entries ≡ awake.old.entries) }
+{
+    if !wakes {
+        return Ok(());
+    }
+    let Ok(_) = awake.insert(number, ()) else {
+        return Err(NoMemory);
+    };
+    Ok(())
 }
 
 impl<T: Row> Table<T> {
@@ -109,6 +139,7 @@ impl<T: Row> Table<T> {
         Table {
             given: 0,
             kept: BTreeMap::new(alloc),
+            awake: BTreeMap::new(alloc),
         }
     }
 
@@ -132,7 +163,10 @@ impl<T: Row> Table<T> {
         let Some(number) = self.given.checked_add(1) else {
             return Err(NoMemory);
         };
+        let is_awake = !row.is_resting();
+        wake_if(&mut self.awake, number, is_awake)?;
         let Ok(_) = self.kept.insert(number, row) else {
+            forget_if(&mut self.awake, number, is_awake);
             return Err(NoMemory);
         };
         self.given = number;
@@ -146,17 +180,23 @@ impl<T: Row> Table<T> {
         self.kept.get(&number)
     }
 
-    /// The first number above this one whose row is not over, so that those can be gone through in order; `None` where each
-    /// row above it is. It takes no memory. Our own; the crate goes through its `HashMap`, in no order.
+    /// The first number above this one whose row does not rest, so that those can be gone through in order; `None` where each
+    /// row above it rests. It takes no memory. Our own; the crate goes through its `HashMap`, in no order.
     pub fn next_after(&self, number: u64) -> Option<u64>
-        ensures next { result ≡ first_kept T.over (suc number) (drop number self.now) }
-        ensures tidy { Tidy T.over T.forgotten self.now }
+        ensures { result ≡ first_awake T.rests (suc number) (drop number self.now) }
     {
         let above = (Bound::Excluded(number), Bound::Unbounded);
-        match self.kept.range(above).next() {
+        match self.awake.range(above).next() {
             Some((next, _)) => Some(*next),
             None => None,
         }
+    }
+
+    /// Each row that is over is seen as forgotten. It does nothing.
+    pub fn tidy(&self)
+        ensures { Tidy T.over T.forgotten self.now }
+    {
+        let _given = self.given;
     }
 
     /// Changes the row of a number, if it was given, and forgets it where it is over then. It takes no memory.
@@ -168,7 +208,9 @@ impl<T: Row> Table<T> {
             return change.refuse();
         };
         let answer = change.change(row);
+        let rests = row.is_resting();
         let over = row.is_over();
+        forget_if(&mut self.awake, number, rests);
         forget_if(&mut self.kept, number, over);
         answer
     }
@@ -191,7 +233,9 @@ impl<T: Row> Table<T> {
             return Ok(change.refuse());
         };
         let answer = change.try_change(row)?;
+        let rests = row.is_resting();
         let over = row.is_over();
+        forget_if(&mut self.awake, number, rests);
         forget_if(&mut self.kept, number, over);
         Ok(answer)
     }

@@ -1,5 +1,6 @@
-//! A small table of counters, of which one that is stopped is over.
-ghost use Rattle.std.specs.Prelude.{◌≡◌, true, false};
+//! A small table of counters, of which one that is stopped is over, and one that is done rests.
+ghost use Rattle.std.specs.Prelude.{◌≡◌, ◌||◌, true, false};
+ghost use Rattle.std.proofs.lemmas.Bool.{or_left, or_right};
 ghost use Rattle.std.proofs.Common.{refl};
 
 use crate::{Change, NoMemory, Row, Table, TryChange};
@@ -8,11 +9,12 @@ use std::test::Fail;
 #[derive(Clone, Copy, PartialEq, Eq, Debug, Drop)]
 struct Counter {
     count: u64,
+    is_done: bool,
     is_stopped: bool,
 }
 
 impl Row for Counter {
-    ghost forgotten = { record { count = 0; is_stopped = true } };
+    ghost forgotten = { record { count = 0; is_done = true; is_stopped = true } };
 
     ghost over = { λ c. c.is_stopped };
 
@@ -21,6 +23,39 @@ impl Row for Counter {
     }
 
     ghost forgotten_is_over = { λ row over. refl };
+
+    ghost rests = { λ c. c.is_stopped || c.is_done };
+
+    fn is_resting(&self) -> bool {
+        self.is_stopped || self.is_done
+    }
+
+    ghost over_rests = { λ row over. or_left row.is_stopped row.is_done over };
+}
+
+/// Has a counter rest, and answers whether it is stopped.
+#[derive(Clone, Copy, Drop)]
+struct Finish;
+
+impl Change<Counter> for Finish {
+    type Answer = bool;
+
+    ghost changes = { λ _ c. record c { is_done = true } };
+
+    ghost answers = { λ _ c. c.is_stopped };
+
+    fn change(&self, row: &mut Counter) -> bool {
+        row.is_done = true;
+        row.is_stopped
+    }
+
+    fn refuse(&self) -> bool {
+        true
+    }
+
+    ghost leaves_forgotten = { λ c over. refl };
+
+    ghost leaves_resting = { λ c row rests. or_right row.is_stopped true refl };
 }
 
 #[derive(Clone, Copy, Drop)]
@@ -44,6 +79,8 @@ impl Change<Counter> for Stop {
     }
 
     ghost leaves_forgotten = { λ c over. refl };
+
+    ghost leaves_resting = { λ c row rests. refl };
 }
 
 /// Sets a counter, and answers what it was.
@@ -70,6 +107,8 @@ impl TryChange<Counter> for Set {
     }
 
     ghost leaves_forgotten = { λ c over. refl };
+
+    ghost leaves_resting = { λ c row rests. rests };
 }
 
 fn started() -> Counter
@@ -77,6 +116,7 @@ fn started() -> Counter
 {
     Counter {
         count: 7,
+        is_done: false,
         is_stopped: false,
     }
 }
@@ -98,5 +138,22 @@ fn a_row_that_is_over_is_forgotten(rt: HostRuntime) -> Result<(), Fail> {
     assert_eq!(rt; table.len(), 2);
     assert_eq!(rt; table.next_after(0), Some(1));
     assert_eq!(rt; table.next_after(1), None);
+    Ok(())
+}
+
+/// Three counters are given, and the second one rests: going through them passes over it, and it is still there.
+#[test]
+fn a_row_that_rests_is_passed_over(rt: HostRuntime) -> Result<(), Fail> {
+    let mut table = Table::new(rt.alloc());
+    table.give(started())?;
+    table.give(started())?;
+    table.give(started())?;
+    assert!(rt; !table.alter(2, &Finish));
+    assert_eq!(rt; table.next_after(1), Some(3));
+    assert_eq!(rt; table.try_alter(2, Set { count: 9 })?, 7);
+    assert_eq!(rt; table.item(2).map(|row| row.count), Some(9));
+    assert!(rt; !table.alter(2, &Stop));
+    assert!(rt; table.item(2).is_none());
+    assert_eq!(rt; table.next_after(3), None);
     Ok(())
 }

@@ -3,7 +3,9 @@ ghost use Rattle.std.specs.Prelude.{IsTrue};
 ghost use Rattle.nats_history.specs.declared.turn.Turn.TheVariants as turns;
 ghost use Rattle.nats_session.specs.Handler.{can_play};
 
-use crate::words::{say, say_due, say_event, say_last, say_number, say_reply, say_take};
+use crate::words::{
+    say, say_due, say_event, say_last, say_number, say_reply, say_take, say_ticket,
+};
 use nats_names::{Bytes, NoMemory, State};
 use nats_script::{Script, print_transcript, read_script};
 use nats_session::{Call, Config, ConnectionHandler, ServerInfo, Turn, run};
@@ -11,6 +13,9 @@ use std::alloc::Global;
 
 /// The most due steps, and the most events, that are played behind one turn.
 const MOST_DUE: u64 = 1000;
+
+/// The last ticket whose reply is asked for behind each turn.
+const LAST_TICKET: u64 = 5;
 
 // ---- a turn's own step
 
@@ -193,6 +198,20 @@ fn hand_out_all(
     Ok(())
 }
 
+fn hand_reply(handler: &mut ConnectionHandler, out: &mut Vec<u8>, t: u64) -> Result<(), NoMemory> {
+    match handler.reply_of(t) {
+        Some(reply) => say_ticket(out, t, &reply),
+        None => Ok(()),
+    }
+}
+
+fn hand_replies(handler: &mut ConnectionHandler, out: &mut Vec<u8>) -> Result<(), NoMemory> {
+    for t in 1..=LAST_TICKET {
+        hand_reply(handler, out, t)?;
+    }
+    Ok(())
+}
+
 fn play_turn(
     alloc: Global,
     handler: &mut ConnectionHandler,
@@ -202,6 +221,7 @@ fn play_turn(
     play_checked(alloc, handler, out, turn)?;
     settle(alloc, handler, out)?;
     hand_out_all(alloc, handler, out)?;
+    hand_replies(handler, out)?;
     say(out, "\n")
 }
 
@@ -282,11 +302,11 @@ fn drive(
     play_all(alloc, &mut handler, out, turns)
 }
 
-/// What a session answers to copies of the turns of a script, a line for each: the answer to the turn's own call, the due steps that
-/// `advance` then plays, and the events; `out of turn` where `check` refuses the turn, which is then not played. A last line
-/// says what the session tells of itself: its link, the payload's limit that a server said last, how much was read and how much
-/// waits, the youngest message of subscription 1, the waiting bytes.
-/// Where a line cannot be read, its number alone.
+/// What a session answers to copies of the turns of a script, a line for each: the answer to the turn's own call, the due steps
+/// that `advance` then plays, the events, and the replies of the first tickets; `out of turn` where `check` refuses the turn, which
+/// is then not played. A last line says what the session tells of itself: its link, the payload's limit that a server said last, how
+/// much was read and how much waits, the youngest message of subscription 1, the waiting bytes. Where a line cannot be read, its
+/// number alone.
 pub fn answers(alloc: Global, script: &str) -> Result<Vec<u8>, NoMemory> {
     let mut out = Vec::new(alloc);
     match read_script(alloc, script.as_bytes())? {

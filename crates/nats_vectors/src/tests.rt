@@ -163,7 +163,33 @@ fed read
 lost (disconnected)
 up (connected)
 fed read read
-link 2 up most 6 said 6 reads 3 pending 0 none";
+link 2 up most 6 said 6 reads 3 pending 0 none\
+|config 2048 65536 check _INBOX MUX1
+up 1048576
+flush
+pub a ~ hi
+flush
+write 12
+pub a ~ x
+flush
+write 1
+lost
+flush
+giveup
+flush
+=up (connected)
+numbered 1 handled ticket 1 flushed
+accepted handled
+numbered 2 handled
+written
+accepted handled
+numbered 3 handled
+written ticket 2 flushed
+lost (disconnected) ticket 3 flush-failed
+numbered 4
+given up (closed) ticket 4 flush-failed
+closed
+link 1 down closed most 1048576 said 1048576 reads 0 pending 0 none";
 
 #[test]
 fn sessions_answer_as_their_rows_say(rt: HostRuntime) -> Result<(), Fail> {
@@ -220,6 +246,39 @@ event 2 draining
 event 4 closed
 call 2 accepted
 call 3 closed
+|config 2048 65536 check _INBOX MUX1
+up 1048576
+pub a ~ hi
+flush
+write 3
+write 10
+flush
+=link 1 up
+out PUB%20a%202%0D%0Ahi%0D%0A
+left %
+event 1 connected
+call 2 accepted
+call 3 numbered 1
+call 6 numbered 2
+ticket 1 5 flushed
+ticket 2 6 flushed
+|config 2048 65536 check _INBOX MUX1
+up 1048576
+pub a ~ hi
+flush
+write 3
+lost
+flush
+=link 1 lost
+out PUB
+left %20a%202%0D%0Ahi%0D%0A
+event 1 connected
+event 5 disconnected
+call 2 accepted
+call 3 numbered 1
+call 6 numbered 2
+ticket 1 5 flush-failed
+ticket 2 waiting
 |config 2048 65536 check _INBOX MUX1
 up 1048576
 up 1048576

@@ -41,7 +41,16 @@ pub fn say_reply(out: &mut Vec<u8>, reply: &CallReply) -> Result<(), NoMemory> {
         CallReply::Closed => say(out, "closed"),
         CallReply::NoNumber => say(out, "no-number"),
         CallReply::Full => say(out, "full"),
+        CallReply::Flushed => say(out, "flushed"),
+        CallReply::FlushFailed => say(out, "flush-failed"),
     }
+}
+
+/// Says, behind a space, the reply by which a ticket settled.
+pub fn say_ticket(out: &mut Vec<u8>, t: u64, reply: &CallReply) -> Result<(), NoMemory> {
+    say_number(out, " ticket", t)?;
+    say(out, " ")?;
+    say_reply(out, reply)
 }
 
 /// Says the reply to a take.

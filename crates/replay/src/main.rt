@@ -1,4 +1,5 @@
-//! `replay run` reads a script of turns from standard input and prints their transcript. `replay --help` and
+//! `replay run` reads a script of turns from standard input and prints their transcript; `replay bulk N` plays N turns that are
+//! made by a rule and prints what they came to. `replay --help` and
 //! `replay --version` tell of the program.
 #![tactic(auto)]
 
@@ -13,12 +14,14 @@ const VERSION: &str = "replay 0.1.0, of Wichapok, a port of the core of async-na
 /// What `--help` prints: the words and the statuses of `nats_replay::replay`.
 const HELP: &str = "\
 usage: replay run < SCRIPT
+       replay bulk N
        replay --help | --version
 
 run reads a script of turns from standard input, plays them and prints their transcript.
+bulk plays N turns that are made by a rule, 1 to 1,000,000, and prints what they came to.
 
 exit status:
-  0  the transcript is printed
+  0  the transcript, or what the turns came to, is printed
   2  the words are no command
   3  standard input failed
   4  standard output failed

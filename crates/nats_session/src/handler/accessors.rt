@@ -5,12 +5,13 @@ ghost use Rattle.nats_history.specs.Queue.{first};
 ghost use Rattle.nats_tables.specs.Numbers.{item_of};
 ghost use Rattle.nats_history.specs.declared.turn.Turn.TheVariants as turns;
 ghost use Rattle.nats_history.specs.History.{names};
-ghost use Rattle.nats_history.specs.Schedule.{due, refusal, may_name, is_full, is_valid_turn, own_steps};
+ghost use Rattle.nats_tickets.specs.Kept.{reply_in, without};
+ghost use Rattle.nats_history.specs.Schedule.{due, refusal, has_no_number, may_name, is_full, is_valid_turn, own_steps};
 ghost use Rattle.nats_subs.specs.Delivery.{youngest};
-ghost use Rattle.nats_session.specs.Handler.{can_play, HandsOut, end_in, state_of};
+ghost use Rattle.nats_session.specs.Handler.{can_play, HandsOut, HandsReply, end_in, state_of};
 
 use super::{ConnectionHandler, TICK_LIMIT};
-use nats_history::refusals::{has_group, has_subjects, size_of, subscribes};
+use nats_history::refusals::{has_group, has_subjects, is_flush, size_of, subscribes};
 use nats_history::{Call, CallReply, Event, LinkWord, Message, ServerInfo, Turn};
 use nats_names::State;
 
@@ -62,10 +63,22 @@ impl ConnectionHandler {
         ensures { result ≡ may_name self.now.parts (names call.now) }
     {
         match call {
-            Call::Publish(_) | Call::Subscribe { .. } | Call::DrainAll | Call::Reconnect => true,
+            Call::Publish(_)
+            | Call::Subscribe { .. }
+            | Call::DrainAll
+            | Call::Flush
+            | Call::Reconnect => true,
             Call::Unsubscribe(sid) | Call::Limit(sid, _) | Call::Drain(sid) | Call::DropSub(sid) =>
                 self.subs.has(*sid),
         }
+    }
+
+    /// Whether a call would be given a number or a ticket and none is left.
+    fn has_no_number(&self, call: &Call) -> bool
+        ensures { result ≡ has_no_number self.now.parts call.now }
+    {
+        (subscribes(call) && self.subs.given() == u64::MAX)
+            || (is_flush(call) && self.flushes.given() == u64::MAX)
     }
 
     /// The reply by which a call is refused, if it is.
@@ -86,7 +99,7 @@ impl ConnectionHandler {
         if self.is_closed || self.drain_accepted {
             return Some(CallReply::Closed);
         }
-        if subscribes(call) && self.subs.given() == u64::MAX {
+        if self.has_no_number(call) {
             return Some(CallReply::NoNumber);
         }
         let is_full = self.calls.len() as u64 >= self.config.client_capacity;
@@ -210,5 +223,31 @@ impl ConnectionHandler {
         ensures stands { HandsOut self.old result self.new }
     {
         self.take_event()
+    }
+
+    /// Hands out the ticket that settled first of those that were not handed out, with its reply.
+    pub(crate) fn next_settled(&mut self) -> Option<(u64, CallReply)>
+        ensures ticket { result ≡ first self.old.ready }
+        ensures rest { self.new ≡ record self.old { ready = drop 1 self.old.ready } }
+    {
+        self.flushes.next()
+    }
+
+    fn take_reply_of(&mut self, t: u64) -> Option<CallReply>
+        ensures reply { result ≡ reply_in t self.old.ready }
+        ensures rest { self.new ≡ record self.old { ready = without t self.old.ready } }
+    {
+        self.flushes.reply_of(t)
+    }
+
+    /// Hands out the reply by which ticket `t` settled. `None` exactly where it did not settle or its reply was handed out, as
+    /// `laws::reply_once` says. It takes no memory, and looks through the settled tickets that were not handed out. Own call:
+    /// the crate has a channel for each.
+    pub fn reply_of(&mut self, t: u64) -> Option<CallReply>
+        ensures reply { result ≡ reply_in t self.old.ready }
+        ensures rest { self.new ≡ record self.old { ready = without t self.old.ready } }
+        ensures stands { HandsReply t self.old result self.new }
+    {
+        self.take_reply_of(t)
     }
 }

@@ -1,15 +1,15 @@
 //! The calls that play a session, turn by turn and step by step.
-ghost use Rattle.std.specs.Prelude.{◌≡◌, ◌<◌, [], ◌∷◌, ◌++◌, OnOk, OnErr, IfOk, IfErr, IsTrue, min, length, is_some};
+ghost use Rattle.std.specs.Prelude.{◌≡◌, ◌<◌, [], ◌∷◌, ◌++◌, OnOk, OnErr, IfOk, IfErr, IsTrue, min, length, is_some, None};
 ghost use Rattle.nats_names.specs.declared.event.Event.TheVariants.{Connected};
 ghost use Rattle.nats_wire.specs.Commands.{one_piece};
 ghost use Rattle.nats_history.specs.declared.turn.Turn.TheVariants as turns;
-ghost use Rattle.nats_history.specs.History.{opened, fed, ticked, taken, took, all_again};
+ghost use Rattle.nats_history.specs.History.{opened, fed, ticked, taken, took, all_again, is_flush};
 ghost use Rattle.nats_history.specs.After.{after, write_all};
-ghost use Rattle.nats_history.specs.Schedule.{own_steps, due, due_chain, take_reply};
+ghost use Rattle.nats_history.specs.Schedule.{refusal, own_steps, due, due_chain, take_reply};
 ghost use Rattle.nats_session.specs.Handler.{LeadTo, TakesIn, Submits, Advances, can_play, seen_after, seen_all, with_buffers};
 
 use super::{ConnectionHandler, TICK_LIMIT};
-use nats_history::refusals::{interest_of, is_drained_with, lets_go, shuts};
+use nats_history::refusals::{interest_of, is_drained_with, is_flush, lets_go, shuts};
 use nats_history::{
     Bytes, Call, CallReply, Due, Event, LinkWord, NoMemory, Ping, ServerInfo, TakeReply,
 };
@@ -52,7 +52,8 @@ impl ConnectionHandler {
         self.info = Some(info);
         self.pings.clear();
         self.connection = connection;
-        self.subs.alter_each(Alteration::Renew);
+        self.flushes.renew();
+        self.subs.renew();
     }
 
     fn open_link(&mut self, alloc: Global, info: ServerInfo) -> Result<(), NoMemory>
@@ -108,10 +109,11 @@ impl ConnectionHandler {
     {
         let count = (n as usize).min(self.connection.pending());
         self.connection.written(count);
+        self.flushes.pass(count as u64);
     }
 
-    /// The link took the first `n` waiting bytes, or all where fewer wait. Its condition is `check` of that turn. It takes
-    /// no memory.
+    /// The link took the first `n` waiting bytes, or all where fewer wait; each flush that awaited no more of them settles. Its
+    /// condition is `check` of that turn. It takes no memory.
     pub fn written(&mut self, n: u64)
         requires { IsTrue (can_play self.old.parts (turns.Write n)) }
         ensures seen { self.new ≡ seen_after self.old (taken (min n (length self.old.parts.link.wire.waiting))) }
@@ -221,12 +223,33 @@ impl ConnectionHandler {
         self.end_all(alloc)
     }
 
+    /// Takes in a flush: it is given a ticket, and with it all memory that settling it needs but for its place in the link's text.
+    fn take_flush(&mut self, call: Call) -> Result<CallReply, Call>
+        requires flush { IsTrue (is_flush call) }
+        requires free { refusal self.old.parts call ≡ None }
+        ensures { TakesIn self.old call result self.new }
+    {
+        if let Err(refused) = self.calls.push(call) {
+            return Err(refused.value);
+        }
+        match self.flushes.give() {
+            Ok(()) => Ok(CallReply::Numbered(self.flushes.given())),
+            Err(NoMemory) => match self.calls.pop_back() {
+                Some(call) => Err(call),
+                None => unreachable!(),
+            },
+        }
+    }
+
     /// Takes in a call or refuses it, and lets no subscription go.
     fn take_in(&mut self, alloc: Global, call: Call) -> Result<CallReply, Call>
         ensures { TakesIn self.old call result self.new }
     {
         if let Some(refused) = self.refusal(&call) {
             return Ok(refused);
+        }
+        if is_flush(&call) {
+            return self.take_flush(call);
         }
         let Ok(interest) = interest_of(alloc, &call) else {
             return Err(call);
@@ -267,8 +290,8 @@ impl ConnectionHandler {
     /// a reply that is there, is empty, or is not publishable and the settings don't skip that; a subscribe whose
     /// subject is not valid. `InvalidQueueName`: a group that is not publishable. `MaxPayloadExceeded`: the payload
     /// with its header block is larger than the server of the newest link takes, 1,048,576 bytes before any.
-    /// `Closed`: the session closed, or a drain of the whole session was accepted. `NoNumber`: a subscribe, and
-    /// number 2^64 - 1 was given. `Full`: as many accepted calls wait as the client capacity. A refused call is
+    /// `Closed`: the session closed, or a drain of the whole session was accepted. `NoNumber`: a subscribe or a flush,
+    /// and number or ticket 2^64 - 1 was given. `Full`: as many accepted calls wait as the client capacity. A refused call is
     /// dropped and changes nothing, but that a `DropSub` lets its subscription go whatever the reply. An accepted
     /// call is handled by `advance`, in the order of acceptance; an accepted `Unsubscribe` shuts its subscription at
     /// once, an accepted `DrainAll` the session to further calls. Its condition is `check` of that turn. The crate's

@@ -112,6 +112,7 @@ pub fn drain(
         ((connection.new ≡ connection.old) × (subs.new ≡ subs.old) × (pings.new ≡ pings.old)) }
 {
     let ops = unsubscribe_ops(alloc, subs.is_open(sid), sid)?;
+    subs.note_drain(sid)?;
     write_with_ping(connection, pings, alloc, ops, Ping::Drain(sid))?;
     subs.alter(sid, Alteration::Drain);
     Ok(())

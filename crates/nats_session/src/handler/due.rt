@@ -12,6 +12,7 @@ ghost use Rattle.nats_history.specs.Parts.{at_with};
 ghost use Rattle.nats_history.specs.Schedule.{due, due_chain, chain, read_end, pong_end};
 ghost use Rattle.nats_history.specs.After.{written, subs_after};
 ghost use Rattle.nats_subs.specs.Delivery.{with_rows, rows_with};
+ghost use Rattle.nats_tickets.specs.Kept.{kept_after};
 ghost use Rattle.nats_session.specs.Handler.{Advances, Sees, counted, read_past, command_end, seen_handled, is_nothing, handled_first, seen_all, name_of, delivery_of, delivery_name, unwanted_seen, after_message, pong_read, end_in, push_all};
 
 use super::ConnectionHandler;
@@ -24,6 +25,7 @@ use nats_history::{
     Call, Config, Due, Event, LinkWord, Message, NoMemory, OutboundMessage, Ping, Subject,
 };
 use nats_subs::{Alteration, Delivery, Pings, Subscriptions};
+use nats_tickets::Flushes;
 use nats_wire::{ClientOp, Connection, Peeked, PeekedOp, WireError, copy_headers, copy_subject};
 use std::alloc::Global;
 
@@ -90,11 +92,12 @@ fn write_subscribe(
     connection.enqueue_write_op(alloc, &op)
 }
 
-/// Writes the commands of a call that is handled, and changes the subscription that it is about.
+/// Writes the commands of a call that is handled, and changes the subscription or the ticket that it is about.
 fn handle_call(
     connection: &mut Connection,
     subs: &mut Subscriptions,
     pings: &mut Pings,
+    flushes: &mut Flushes,
     alloc: Global,
     _config: &Config,
     call: &Call,
@@ -105,8 +108,11 @@ fn handle_call(
     }) }
     ensures subs { OnOk result (subs.new ≡ subs_after _config.now pings.old (handled call.now) subs.old) }
     ensures pings { OnOk result (pings.new ≡ pings_after (handled call.now) pings.old) }
+    ensures flushes { OnOk result
+        (flushes.new ≡ kept_after (length connection.old.waiting) (handled call.now) flushes.old) }
     ensures err { OnErr result
-        ((connection.new ≡ connection.old) × (subs.new ≡ subs.old) × (pings.new ≡ pings.old)) }
+        ((connection.new ≡ connection.old) × (subs.new ≡ subs.old) × (pings.new ≡ pings.old)
+        × (flushes.new ≡ flushes.old)) }
 {
     match call {
         Call::Publish(message) => write_publish(connection, alloc, message),
@@ -126,6 +132,7 @@ fn handle_call(
         }
         Call::Drain(sid) => drain(connection, subs, pings, alloc, *sid),
         Call::DrainAll => drain_all(connection, subs, pings, alloc),
+        Call::Flush => flushes.handle(connection.pending() as u64),
         Call::Reconnect => Ok(()),
         Call::Limit(sid, limit) => {
             let alteration = Alteration::Limit(*limit);
@@ -433,6 +440,7 @@ impl ConnectionHandler {
             &mut self.connection,
             &mut self.subs,
             &mut self.pings,
+            &mut self.flushes,
             alloc,
             &self.config,
             call,

@@ -3,12 +3,11 @@ ghost use Rattle.std.specs.Prelude.{◌≡◌, ◌∷◌, [], OnOk, OnErr};
 ghost use Rattle.nats_history.specs.declared.transcript.LinkWord.TheVariants as word;
 ghost use Rattle.nats_history.specs.History.{link_end, closed, end_events};
 ghost use Rattle.nats_history.specs.Schedule.{closes, closing, chain};
-ghost use Rattle.nats_history.specs.After.{after, after_all};
 ghost use Rattle.nats_session.specs.Handler.{push_all, seen_after, seen_all, close_events};
 
 use super::ConnectionHandler;
 use nats_history::{Event, LinkWord, NoMemory};
-use nats_subs::{Alteration, Queue};
+use nats_subs::Queue;
 use nats_wire::Connection;
 use std::alloc::Global;
 
@@ -71,28 +70,31 @@ impl ConnectionHandler {
         matches!(end, LinkWord::Hangup) || self.drain_handled
     }
 
-    /// Drops the link with its bytes and PINGs, and ends what is drained.
+    /// Drops the link with its bytes and PINGs, ends what is drained, and fails the flushes that await its bytes.
     fn drop_link(&mut self, alloc: Global)
-        ensures { self.new ≡ record self.old { parts = after self.old.parts (link_end word.Hangup) } }
+        ensures { self.new ≡ seen_after self.old (link_end word.Hangup) }
     {
         self.is_up = false;
         self.pings.clear();
         self.connection = Connection::new(alloc);
-        self.subs.alter_each(Alteration::EndLink);
+        self.flushes.fail();
+        self.subs.end_link();
     }
 
-    /// Drops the calls that wait, and ends each subscription.
+    /// Drops the calls that wait, ends each subscription, and fails each flush.
     pub(super) fn shut_down(&mut self)
-        ensures { self.new ≡ record self.old { parts = after self.old.parts closed } }
+        ensures { self.new ≡ record (seen_after self.old closed) { events = self.old.events } }
     {
         self.is_closed = true;
         self.calls.clear();
-        self.subs.alter_each(Alteration::Close);
+        self.flushes.drop_waiting();
+        self.subs.close();
     }
 
     /// Drops the link, and closes the session where it is to close.
     pub(super) fn leave(&mut self, alloc: Global, closes: bool)
-        ensures { self.new ≡ record self.old { parts = after_all self.old.parts (link_end word.Hangup ∷ closing closes) } }
+        ensures { self.new
+            ≡ record (seen_all self.old (link_end word.Hangup ∷ closing closes)) { events = self.old.events } }
     {
         self.drop_link(alloc);
         if closes {

@@ -6,7 +6,8 @@ ghost use Rattle.nats_history.specs.History.{is_open, is_over, has_room, forgott
 ghost use Rattle.nats_wire.specs.declared.op.ClientOp.TheVariants as client;
 ghost use Rattle.nats_history.specs.Schedule.{sub_take};
 ghost use Rattle.nats_subs.specs.Delivery.{asked_sub, altered, deliver, take_from, delivery, youngest_of, commands_by};
-ghost use Rattle.nats_subs.specs.Forgetting.{still};
+ghost use Rattle.nats_subs.specs.Draining.{is_drained};
+ghost use Rattle.nats_subs.specs.Forgetting.{rests, over_rests, still, still_rests, rests_on};
 
 use crate::queue::Queue;
 use nats_history::{Config, Interest, Message, NoMemory, Stage, TakeReply};
@@ -58,17 +59,25 @@ pub enum Delivery {
     Ignored,
 }
 
-/// A subscription that its user let go and that ended is over.
+/// A subscription that ended rests, and one that its user let go as well is over.
 impl Row for Subscription {
     ghost forgotten = { forgotten };
 
     ghost over = { is_over };
 
     fn is_over(&self) -> bool {
-        self.is_gone && matches!(self.stage, Stage::Ended)
+        self.is_gone && self.is_resting()
     }
 
     ghost forgotten_is_over = { λ row over. refl };
+
+    ghost rests = { rests };
+
+    fn is_resting(&self) -> bool {
+        matches!(self.stage, Stage::Ended)
+    }
+
+    ghost over_rests = { over_rests };
 }
 
 /// What can happen to a subscription but for its messages.
@@ -117,6 +126,8 @@ impl Change<Subscription> for Alteration {
     fn refuse(&self) {}
 
     ghost leaves_forgotten = { λ a over. still a };
+
+    ghost leaves_resting = { still_rests };
 }
 
 /// The oldest waiting message leaves a subscription.
@@ -138,6 +149,8 @@ impl Change<Subscription> for Take {
     }
 
     ghost leaves_forgotten = { λ c over. refl };
+
+    ghost leaves_resting = { λ c row rest. rest };
 }
 
 /// A message that comes for a subscription.
@@ -161,6 +174,8 @@ impl TryChange<Subscription> for Arrival<'_> {
     fn refuse(self) {}
 
     ghost leaves_forgotten = { λ a over. refl };
+
+    ghost leaves_resting = { λ a. rests_on a.config.now a.message.value };
 }
 
 fn opened(stage: Stage) -> Stage
@@ -358,6 +373,13 @@ impl Subscription {
         ensures { result ≡ is_open self.now.stage }
     {
         matches!(self.stage, Stage::Open)
+    }
+
+    /// Whether it ends with its link.
+    pub fn is_drained(&self) -> bool
+        ensures { result ≡ is_drained self.now }
+    {
+        self.is_draining && self.is_open()
     }
 
     pub fn is_gone(&self) -> bool

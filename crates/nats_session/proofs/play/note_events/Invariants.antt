@@ -8,6 +8,7 @@ invariant-event l = record {
   all : l.draft.events ++ at_place l.place l.handler.events ≡ l.initial.draft.events ++ at_place l.initial.place l.initial.handler.events;
   others : l.draft ≡ record l.initial.draft { events = l.draft.events };
   rest : l.handler.parts ≡ l.initial.handler.parts;
+  ready : l.handler.ready ≡ l.initial.handler.ready;
   place : l.place ≡ l.initial.place;
 }
 

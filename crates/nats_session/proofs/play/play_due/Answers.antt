@@ -13,7 +13,7 @@ returns c =
     let ended = c.in_ok-note_end.ensures ∙ (ap (λ word. write_end word old.parts c.note_coming.new.draft) c.end_by-end.ensures
     ∙ ap (write_end (end_in (due_chain old.parts (due old.parts))) old.parts)
     (c.in_ok-note_coming.ensures ∙ look_written c.args.place old.parts c.args.look c.args.draft.now c.requires.sees)) in
-    on_ok_both c.note_events.result c.note_events.ensures.written c.note_events.ensures.handed_out (λ written handed.
-    noted c.args.place (due old.parts) old c.advance_by.new.self c.note_events.new.handler c.in_ok-name.name
-    c.args.draft.now c.note_end.new.draft c.note_due.new.self c.note_events.new.draft refl c.requires.none c.in_ok-name.ensures.ok
+    on_ok_both c.note_news.result c.note_news.ensures.written c.note_news.ensures.handed_out (λ written handed.
+    noted c.args.place (due old.parts) old c.advance_by.new.self c.note_news.new.handler c.in_ok-name.name
+    c.args.draft.now c.note_end.new.draft c.note_due.new.self c.note_news.new.draft refl c.requires.none c.requires.settled c.in_ok-name.ensures.ok
     ended c.in_ok-note_due.ensures written handed)

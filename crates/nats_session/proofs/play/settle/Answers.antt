@@ -12,6 +12,7 @@ due-preserved c =
     let round = goes_by c.args.place c.due.handler.parts c.in_ok-look.look c.play_due.new.handler c.due.draft c.play_due.new.draft c.in_ok-look.ensures.sees (sym c.is_nothing.ensures ∙ c.if-is_nothing.false) c.in_ok-play_due.ensures in
     record {
       none = round.none;
+      settled = round.settled;
       same_parts = round.same_parts ∙ c.due.invariant.same_parts;
       same_sheet = round.same_sheet ∙ c.due.invariant.same_sheet;
       place = refl;

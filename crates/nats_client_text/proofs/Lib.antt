@@ -1,0 +1,9 @@
+mod Blocks
+mod Cuts
+mod Fronts
+mod Lines
+mod Numbers
+mod Reading
+mod Spaced
+mod Written
+mod Fields

@@ -1,0 +1,9 @@
+//! How the tickets of a session are kept: which flush awaits what, and how each is settled. Once a ticket is given, settling it
+//! takes no memory. It has no clock, no lock and no handle. Tickets are numbered from 1, lengths are in bytes.
+#![tactic(auto)]
+
+mod flushes;
+#[cfg(test)]
+mod tests;
+
+pub use flushes::Flushes;
