@@ -7,7 +7,7 @@ use Rattle.nats_names.specs.declared.addr_error.AddrError.{AddrError}
 use Rattle.nats_names.specs.declared.cause.Cause.TheVariants as cause
 use Rattle.nats_info.specs.declared.info.ServerInfo.{ServerInfo}
 use Rattle.nats_addr.specs.Addr.{is_tls, is_websocket, host_name, port_of}
-use Rattle.nats_addr.specs.Resolving.{risen, gave, failed, wanted}
+use Rattle.nats_addr.specs.Resolving.{ResolverTold, risen, gave, failed, wanted}
 use Rattle.nats_addr.specs.declared.resolver.ResolveError.{ResolveError}
 use Rattle.nats_addr.specs.declared.resolver.ResolveError.TheVariants as refusal
 use Rattle.nats_pool.specs.Auths.{AuthValue}
@@ -23,6 +23,7 @@ use Rattle.nats_outside.specs.Told.{Seen, ReadTold, WriteTold, dialed, hung_up, 
 use Rattle.nats_handshake.specs.Errors.{Failure}
 use Rattle.nats_handshake.specs.Course.{io}
 use Rattle.nats_handshake.specs.Shaking.{wanting}
+use Rattle.nats_dial.specs.declared.linked.Linked.{Linked}
 use Rattle.nats_dial.specs.Lines.{Gave, Broke}
 use Rattle.nats_dial.specs.Taking.{TookIn}
 use Rattle.nats_dial.specs.Rounds.{RoundTold, IsBegun, HandsNext, left_of, handed_on, counted, told_of}
@@ -39,6 +40,12 @@ gave_last (Some pieces) (Some taken) (Some links) text g =
 gave_last (Some pieces) (Some taken) None text g = tt
 gave_last (Some pieces) None links text g = tt
 gave_last None taken links text g = tt
+
+-- how the pool went on
+record GoesOn (tried : List Planned) (before after : RoundTold) : Type 0 where
+  handed : after.handed ≡ before.handed + length tried
+  round : after.round ≡ before.round
+  attempts : after.attempts ≤ before.attempts + (plain tried + sockets tried) + 1
 
 dial_onward : (to : SocketAddr) (start : ℕ) (a : Seen) → Onward a (undialed to start a)
 dial_onward to start a = record {
@@ -128,20 +135,20 @@ module _ {P R T : Type 0} (Takes : P → P → List (List ℕ) → Result (Unit 
             → Onward a b × (b.resolver ≡ a.resolver) × (b.dialer.dials ≡ risen 1 a.dialer.dials)
             × LinkCause Takes Offers by_option name no_echo timeout (is_tls addr) a e b × (told q ≡ told p)
         tried_cause addr to a p e b q plain t =
-            let r = reached_cause addr to a t.0 b plain t.1.1.0 in (
+            let r = reached_cause addr to a t.0 b plain t.2.0 in (
               r.0,
               r.1,
               r.2,
-              noted_cause addr t.0 t.1.0 e q a b t.1.2 r.3,
-              noted_told addr t.0 t.1.0 e q t.1.2 ∙ took_told p t.1.0 t.1.1.1,
+              noted_cause addr t.0 t.1 e q a b t.3 r.3,
+              noted_told addr t.0 t.1 e q t.3 ∙ took_told p t.1 t.2.1,
             )
 
-        err_of : Failure → Result _ Failure → Failure
+        err_of : Failure → Result (Linked R T) Failure → Failure
         err_of d (Ok l) = d
         err_of d (Err e) = e
 
         -- tries of a server's addresses that gave no link
-        EachFacts : Parts → List SocketAddr → Failure → Seen → P → Failure → Seen → P → Type 0
+        abbrev EachFacts : Parts → List SocketAddr → Failure → Seen → P → Failure → Seen → P → Type 0
         EachFacts addr xs last a p e b q = Onward a b × (b.resolver ≡ a.resolver)
             × (ends_round e.0 ≡ false → RoseBy (length xs) a.dialer.dials b.dialer.dials)
             × (((xs ≡ []) × (e ≡ last) × (b ≡ a)) ⊎ LinkCause Takes Offers by_option name no_echo timeout (is_tls addr) a e b)
@@ -179,14 +186,14 @@ module _ {P R T : Type 0} (Takes : P → P → List (List ℕ) → Result (Unit 
             )
 
         -- a server that gave no link
-        ServerFacts : Planned → Seen → P → Failure → Seen → P → Type 0
+        abbrev ServerFacts : Planned → Seen → P → Failure → Seen → P → Type 0
         ServerFacts s a p e b q = Onward a b
             × RoseBy (if is_websocket s.addr then 0 else 1) a.resolver.askings b.resolver.askings
             × (ends_round e.0 ≡ false → EachDialed a b)
             × ServerCause Takes Offers by_option name no_echo timeout (s ∷ []) a e b
             × (told q ≡ told p)
 
-        asked : Parts → List SocketAddr → Seen → Seen
+        abbrev asked : Parts → List SocketAddr → Seen → Seen
         asked addr xs a = record a { resolver = gave (host_name addr) (port_of addr) xs a.resolver }
 
         asked_onward : (addr : Parts) (xs : List SocketAddr) (a : Seen) → Onward a (asked addr xs a)
@@ -207,7 +214,7 @@ module _ {P R T : Type 0} (Takes : P → P → List (List ℕ) → Result (Unit 
             ⊎ LinkCause Takes Offers by_option name no_echo timeout (is_tls s.addr) (asked s.addr xs a) e b
             → ServerCause Takes Offers by_option name no_echo timeout (s ∷ []) a e b
         given_cause s xs a e b told (inl (none, is, same)) =
-            inr (inl (is, rw (told, none) (omega arith), ap (λ r. r.word) told ∙ rw none refl))
+            inr (inl (is, rw (told, none) (omega arith), ap (λ (r : ResolverTold). r.word) told ∙ rw none refl))
         given_cause s xs a e b told (inr why) = inr (inr (inr why))
 
         asks_cause : (s : Planned) (answer : Result (List SocketAddr) ResolveError) (a : Seen) (p : P) (e : Failure) (b : Seen) (q : P)
@@ -255,12 +262,15 @@ module _ {P R T : Type 0} (Takes : P → P → List (List ℕ) → Result (Unit 
           ap told stays,
         )
 
+        none_asked : (x : Bool) (n : ℕ) → x ≡ true → RoseBy (if x then 0 else 1) n n
+        none_asked x n is = rw is (omega arith)
+
         visits_where : (is_ws : Bool) (s : Planned) (a : Seen) (p : P) (e : Failure) (b : Seen) (q : P) → is_websocket s.addr ≡ is_ws
             → VisitsWhere Takes Counts Hands Begins told Offers by_option name no_echo timeout read_of write_of is_ws s.addr a p (Err e) b q
             → ServerFacts s a p e b q
-        visits_where true s a p e b q ws (is, same, stays) = rw (same, ws) (
+        visits_where true s a p e b q ws (is, same, stays) = rw same (
           onward_same a,
-          omega arith,
+          none_asked (is_websocket s.addr) a.resolver.askings ws,
           λ goes. omega arith,
           inr (inr (inl (ap (err_of no_websocket) is, ws))),
           ap told stays,
@@ -296,19 +306,13 @@ module _ {P R T : Type 0} (Takes : P → P → List (List ℕ) → Result (Unit 
             (begins_round : (last : ServerInfo) (a b : P) (chosen : Choice) → Begins last a b chosen → IsBegun (told a) (told b))
           where
             -- why none of the servers that are left gave a link
-            WhyHere : List Planned → List Planned → Failure → Seen → Failure → Seen → RoundTold → Type 0
+            abbrev WhyHere : List Planned → List Planned → Failure → Seen → Failure → Seen → RoundTold → Type 0
             WhyHere tried rest last a e b after = ((e ≡ last) × (tried ≡ []) × (rest ≡ []) × (b ≡ a))
                 ⊎ (((e ≡ too_many) × (passes after.limit after.attempts ≡ true) × EachDialed a b)
                 ⊎ (ServerCause Takes Offers by_option name no_echo timeout tried a e b × (1 ≤ length tried)
                 × (ends_round e.0 ≡ false → (rest ≡ []) × EachDialed a b)))
 
-            -- how the pool went on
-            record GoesOn (tried : List Planned) (before after : RoundTold) : Type 0 where
-              handed : after.handed ≡ before.handed + length tried
-              round : after.round ≡ before.round
-              attempts : after.attempts ≤ before.attempts + (plain tried + sockets tried) + 1
-
-            RoundFacts : List Planned → Failure → Seen → P → Failure → Seen → P → Type 0
+            abbrev RoundFacts : List Planned → Failure → Seen → P → Failure → Seen → P → Type 0
             RoundFacts left last a p e b q = (tried : List Planned) × (rest : List Planned) × HasTried left tried rest a b
                 × GoesOn tried (told p) (told q) × WhyHere tried rest last a e b (told q)
 
@@ -336,9 +340,9 @@ module _ {P R T : Type 0} (Takes : P → P → List (List ℕ) → Result (Unit 
                 let each = one_each (is_websocket s.addr) in
                 let to = same ∙ handed in
                 record {
-                  handed = omega (arith, on.handed, ap (λ t. t.handed) to);
-                  round = on.round ∙ ap (λ t. t.round) to;
-                  attempts = omega (arith, on.attempts, ap (λ t. t.attempts) to, each);
+                  handed = omega (arith, on.handed, ap (λ (t : RoundTold). t.handed) to);
+                  round = on.round ∙ ap (λ (t : RoundTold). t.round) to;
+                  attempts = omega (arith, on.attempts, ap (λ (t : RoundTold). t.attempts) to, each);
                 }
 
             goes_cause : (left : List Planned) (last : Failure) (a : Seen) (p : P) (e : Failure) (b : Seen) (q : P)
@@ -351,9 +355,9 @@ module _ {P R T : Type 0} (Takes : P → P → List (List ℕ) → Result (Unit 
                   [],
                   record { all = refl; onward = onward_same a; askings = omega arith },
                   record {
-                    handed = omega (arith, ap (λ t. t.handed) h.1);
-                    round = ap (λ t. t.round) h.1;
-                    attempts = omega (arith, ap (λ t. t.attempts) h.1);
+                    handed = omega (arith, ap (λ (t : RoundTold). t.handed) h.1);
+                    round = ap (λ (t : RoundTold). t.round) h.1;
+                    attempts = omega (arith, ap (λ (t : RoundTold). t.attempts) h.1);
                   },
                   inl (ap (err_of last) is, refl, refl, refl),
                 )
@@ -364,9 +368,9 @@ module _ {P R T : Type 0} (Takes : P → P → List (List ℕ) → Result (Unit 
                   s ∷ more,
                   record { all = refl; onward = onward_same a; askings = omega arith },
                   record {
-                    handed = omega (arith, ap (λ t. t.handed) h.2);
-                    round = ap (λ t. t.round) h.2;
-                    attempts = omega (arith, ap (λ t. t.attempts) h.2);
+                    handed = omega (arith, ap (λ (t : RoundTold). t.handed) h.2);
+                    round = ap (λ (t : RoundTold). t.round) h.2;
+                    attempts = omega (arith, ap (λ (t : RoundTold). t.attempts) h.2);
                   },
                   inr (inl (ap (err_of too_many) is, rw h.2 h.1, omega arith)),
                 )
@@ -388,14 +392,14 @@ module _ {P R T : Type 0} (Takes : P → P → List (List ℕ) → Result (Unit 
                 let v = visited_cause s attempt.delay a n e1 c m visits in
                 let i = goes_cause more e1 c m e b q later in (
                   s ∷ i.0,
-                  i.1.0,
+                  i.1,
                   record {
-                    all = ap (λ l. s ∷ l) i.1.1.all;
-                    onward = onward_on a c b v.0 i.1.1.onward;
-                    askings = omega (arith, v.1, i.1.1.askings);
+                    all = ap (λ (l : List Planned). s ∷ l) i.2.all;
+                    onward = onward_on a c b v.0 i.2.onward;
+                    askings = omega (arith, v.1, i.2.askings);
                   },
-                  goes_on_later s i.0 (told p) (told n) (told m) (told q) h.4 v.4 i.1.2,
-                  inr (later_why s i.0 i.1.0 a e1 c e b (told q) v.0 i.1.1.onward (v.2 goes) v.3 i.1.3),
+                  goes_on_later s i.0 (told p) (told n) (told m) (told q) h.4 v.4 i.3,
+                  inr (later_why s i.0 i.1 a e1 c e b (told q) v.0 i.2.onward (v.2 goes) v.3 i.4),
                 )
 
             spent : (tried : List Planned) (p n q : RoundTold) (a b : Seen) → IsBegun p n → GoesOn tried n q
@@ -422,12 +426,12 @@ module _ {P R T : Type 0} (Takes : P → P → List (List ℕ) → Result (Unit 
                 let g = goes_cause (left_of (told n)) all_failed a n e b q goes in
                 inr (
                   g.0,
-                  g.1.0,
+                  g.1,
                   record {
-                    all = g.1.2.round ∙ sym (ap (λ k. drop k (told n).round) begun.0) ∙ g.1.1.all;
-                    onward = g.1.1.onward;
-                    askings = g.1.1.askings;
+                    all = g.3.round ∙ sym (ap (λ (k : ℕ). drop k (told n).round) begun.0) ∙ g.2.all;
+                    onward = g.2.onward;
+                    askings = g.2.askings;
                   },
-                  g.1.2.handed ∙ ap (λ k. k + length g.0) begun.0,
-                  why_of g.0 g.1.0 (told p) (told n) (told q) a e b begun g.1.2 g.1.1.askings g.1.3,
+                  g.3.handed ∙ ap (λ (k : ℕ). k + length g.0) begun.0,
+                  why_of g.0 g.1 (told p) (told n) (told q) a e b begun g.3 g.2.askings g.4,
                 )

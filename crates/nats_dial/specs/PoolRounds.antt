@@ -32,7 +32,7 @@ module _ {X Y : Type 0} {F : X → Type 0} {G : Y → Type 0} {g : Mut ((x : X) 
   takes_where : (ignores : Bool) (urls : List (List ℕ)) (a b : Pool X Y F G g h) (r : Result (Unit {0}) AddrError)
       → DiscoversWhere ignores urls a b r → pool_told b ≡ pool_told a
   takes_where true urls a b r d = ap pool_told d.1
-  takes_where false urls a b (Ok done) d = ap pool_told d.1.2
+  takes_where false urls a b (Ok done) d = ap pool_told d.3
   takes_where false urls a b (Err refusal.Url) d = ap pool_told d.1
   takes_where false urls a b (Err refusal.Scheme) d = ap pool_told d.1
   takes_where false urls a b (Err refusal.NoMemory) d = ap pool_told d.1

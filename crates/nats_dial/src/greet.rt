@@ -4,7 +4,7 @@ ghost use Rattle.nats_pool.specs.Auths.{auth_value};
 ghost use Rattle.nats_handshake.specs.Credentials.{SignerAnswers, AuthAnswers, Offers};
 ghost use Rattle.nats_outside.specs.Told.{IsFresh, looked};
 ghost use Rattle.nats_dial.specs.Lines.{Looked};
-ghost use Rattle.nats_dial.specs.Greets.{Finished, Greets};
+ghost use Rattle.nats_dial.specs.Greets.{Begun, Finished, Greets};
 
 use crate::link::wanting;
 use crate::shake::shake_hands;
@@ -21,6 +21,18 @@ fn finished(shaking: Handshake) -> Result<(ServerInfo, Vec<u8>), ConnectError>
         Some(ended) => Ok(ended),
         None => Err(wanting()),
     }
+}
+
+// A handshake that begins.
+fn begin(
+    alloc: Global,
+    addr: &ServerAddr,
+    start: u64,
+    options: &ConnectOptions,
+) -> Result<Handshake, ConnectError>
+    ensures { Begun addr.now options.now.connection_timeout start result }
+{
+    Handshake::new(alloc, addr, options, start)
 }
 
 // The handshake of a new link to this address, which began then.
@@ -41,14 +53,9 @@ fn greet<R: LinkRead, T: LinkWrite, C: Clock, P: ServerList>(
         options.now.tls_required options.now.name options.now.no_echo options.now.connection_timeout addr.now start
         pool.old result (R.read_told read.new) (T.write_told write.new) (C.clock_told clock.new) pool.new }
 {
-    match Handshake::new(alloc, addr, options, start) {
-        Ok(begun) => {
-            let mut shaking = begun;
-            shake_hands(alloc, &mut shaking, options, pool, read, write, clock)?;
-            finished(shaking)
-        }
-        Err(error) => Err(error),
-    }
+    let mut shaking = begin(alloc, addr, start, options)?;
+    shake_hands(alloc, &mut shaking, options, pool, read, write, clock)?;
+    finished(shaking)
 }
 
 // The same over all that the world tells.

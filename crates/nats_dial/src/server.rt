@@ -19,10 +19,9 @@ pub(crate) fn ends_round(kind: ConnectErrorKind) -> bool
     ensures { result ≡ ends_round kind }
 {
     match kind {
-        ConnectErrorKind::AuthorizationViolation
-        | ConnectErrorKind::Authentication
-        | ConnectErrorKind::MaxReconnects
-        | ConnectErrorKind::NoMemory => true,
+        ConnectErrorKind::AuthorizationViolation => true,
+        ConnectErrorKind::Authentication => true,
+        ConnectErrorKind::MaxReconnects | ConnectErrorKind::NoMemory => true,
         ConnectErrorKind::ServerParse
         | ConnectErrorKind::Dns
         | ConnectErrorKind::TimedOut

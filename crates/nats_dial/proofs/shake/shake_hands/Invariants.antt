@@ -4,6 +4,7 @@ use Rattle.nats_pool.specs.Auths.{auth_value}
 use Rattle.nats_handshake.specs.Credentials.{SignerAnswers, AuthAnswers, Offers}
 use Rattle.nats_handshake.specs.Heard.{IsOpen}
 use Rattle.nats_dial.specs.Lines.{Looked, Line}
+use Rattle.nats_dial.specs.Taking.{HasTook}
 use Rattle.nats_dial.proofs.shake.shake_hands.Given as goal
 
 abbrev pub invariant-turns : goal.invariant-turns
@@ -18,4 +19,7 @@ invariant-turns g l = record {
       × Line (Offers SignerAnswers AuthAnswers l.options.signer l.options.auth_callback (auth_value l.options.auth))
       l.options.name l.options.no_echo by_scheme start timeout text wrote
       l.shaking (g.R.LinkRead.read_told l.read) (g.T.LinkWrite.write_told l.write));
+  took : (p : _) → IsOpen l.initial.shaking.stage
+      → HasTook g.P.ServerList.Takes l.initial.shaking.stage p l.initial.pool
+      → IsOpen l.shaking.stage × HasTook g.P.ServerList.Takes l.shaking.stage p l.pool;
 }
