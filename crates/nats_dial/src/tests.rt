@@ -69,14 +69,17 @@ fn answer(
     Ok(shakes(alloc, shaking, &mut read, &mut write, &mut clock))
 }
 
-fn refused(alloc: Global, text: &str, last: u64, words: &str) -> Result<bool, &'static str> {
-    let mut shaking = begun(alloc)?;
-    match answer(alloc, &mut shaking, text, last)? {
-        Ok(()) => Ok(false),
-        Err(error) => match format!(in alloc; "{error}") {
-            Ok(said) => Ok(said.as_str() == words),
-            Err(_) => Err("memory"),
-        },
+fn says(alloc: Global, error: &ConnectError, words: &str) -> bool {
+    match format!(in alloc; "{error}") {
+        Ok(said) => said.as_str() == words,
+        Err(_) => false,
+    }
+}
+
+fn fails_so(alloc: Global, answer: Result<(), ConnectError>, words: &str) -> bool {
+    match answer {
+        Ok(()) => false,
+        Err(error) => says(alloc, &error, words),
     }
 }
 
@@ -97,13 +100,10 @@ fn a_link_comes_up_in_time(rt: HostRuntime) -> Result<(), Fail> {
 }
 
 #[test]
-fn a_link_fails(rt: HostRuntime) -> Result<(), Fail> {
-    for (text, last, words) in [
-        ("INFO {}\r\nPONG\r\n", 5_000, "timed out"),
-        ("INFO {}\r\n", 1, "IO error: broken pipe"),
-        ("", 1, "IO error: expected INFO, got nothing"),
-    ] {
-        assert!(rt; refused(rt.alloc(), text, last, words)?);
-    }
+fn a_link_ends_at_once(rt: HostRuntime) -> Result<(), Fail> {
+    let alloc = rt.alloc();
+    let mut shaking = begun(alloc)?;
+    let ended = answer(alloc, &mut shaking, "", 1)?;
+    assert!(rt; fails_so(alloc, ended, "IO error: expected INFO, got nothing"));
     Ok(())
 }
