@@ -69,20 +69,6 @@ fn answer(
     Ok(shakes(alloc, shaking, &mut read, &mut write, &mut clock))
 }
 
-fn says(alloc: Global, error: &ConnectError, words: &str) -> bool {
-    match format!(in alloc; "{error}") {
-        Ok(said) => said.as_str() == words,
-        Err(_) => false,
-    }
-}
-
-fn fails_so(alloc: Global, answer: Result<(), ConnectError>, words: &str) -> bool {
-    match answer {
-        Ok(()) => false,
-        Err(error) => says(alloc, &error, words),
-    }
-}
-
 fn leaves(shaking: Handshake, rest: &[u8]) -> bool {
     match shaking.finish() {
         Some((_, left)) => left.as_slice() == rest,
@@ -96,14 +82,5 @@ fn a_link_comes_up_in_time(rt: HostRuntime) -> Result<(), Fail> {
     let mut shaking = begun(alloc)?;
     assert!(rt; answer(alloc, &mut shaking, "INFO {}\r\nPONG\r\nrest", 4_999)?.is_ok());
     assert!(rt; leaves(shaking, b"rest"));
-    Ok(())
-}
-
-#[test]
-fn a_link_ends_at_once(rt: HostRuntime) -> Result<(), Fail> {
-    let alloc = rt.alloc();
-    let mut shaking = begun(alloc)?;
-    let ended = answer(alloc, &mut shaking, "", 1)?;
-    assert!(rt; fails_so(alloc, ended, "IO error: expected INFO, got nothing"));
     Ok(())
 }
