@@ -4,6 +4,7 @@ mod Numbers
 mod Pieces
 mod Quotes
 pub mod Reading
+mod Scans
 mod Sights
 mod Texts
 mod Words

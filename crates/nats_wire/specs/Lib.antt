@@ -3,4 +3,5 @@ pub mod Connection
 pub mod Decoder
 pub mod Laws
 pub mod Operations
+pub mod Scan
 pub mod Wire
