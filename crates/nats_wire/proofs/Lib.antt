@@ -1,4 +1,5 @@
 pub mod Fronts
+mod Ends
 mod Lines
 mod Numbers
 mod Pieces

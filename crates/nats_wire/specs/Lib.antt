@@ -4,4 +4,5 @@ pub mod Decoder
 pub mod Laws
 pub mod Operations
 pub mod Scan
+pub mod Store
 pub mod Wire

@@ -52,11 +52,11 @@ impl Connection {
     }
 
     /// Appends bytes that the server sent, whole.
-    pub fn feed(&mut self, _alloc: Global, bytes: &[u8]) -> Result<(), NoMemory>
+    pub fn feed(&mut self, alloc: Global, bytes: &[u8]) -> Result<(), NoMemory>
         ensures ok { OnOk result (self.new ≡ record self.old { unread = self.old.unread ++ bytes.now }) }
         ensures err { OnErr result (self.new ≡ self.old) }
     {
-        self.unread.feed(bytes)
+        self.unread.feed(alloc, bytes)
     }
 
     /// What stands at the front of the unread bytes, copied; `None` where that is less than an operation. Nothing is

@@ -11,6 +11,7 @@ mod head;
 pub mod laws;
 mod message;
 mod op;
+mod store;
 mod unread;
 
 pub use connection::{Connection, Peeked, SOFT_WRITE_BUF_LIMIT};

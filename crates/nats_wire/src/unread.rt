@@ -4,18 +4,23 @@ ghost use Rattle.std.specs.Prelude.{◌≡◌, ◌++◌, ◌<◌, ◌≤◌, [],
 ghost use Rattle.nats_wire.specs.Operations.{sight, front, takes_memory};
 ghost use Rattle.nats_wire.specs.Decoder.{sight_view, front_view, taken_by};
 ghost use Rattle.nats_wire.specs.Scan.{clear_to, Needs};
+ghost use Rattle.nats_wire.specs.Store.{store_bytes};
 
 use crate::decode::{self, Sight};
-use crate::front::{Front, front_by};
-use bytes::BytesMut;
+use crate::front::{Front, front_kept};
+use crate::store::Store;
 use nats_names::NoMemory;
 use std::alloc::Global;
 use std::marker::Model;
+use std::mem;
+
+/// From this length on bytes are shared that begin with no message. Own choice.
+const SHARED_LEAST: usize = 256;
 
 /// Unread bytes. Contracts see them as a list.
 #[derive(Drop)]
 pub struct Unread {
-    bytes: BytesMut,
+    store: Store,
     /// No line's end stands before this place.
     place: usize,
     /// Fewer bytes than these are less than an operation; 0 where that isn't known.
@@ -25,12 +30,14 @@ pub struct Unread {
 impl Model for Unread {
     ghost use Rattle.std.specs.Prelude.{◌≤◌, List, ℕ, length, IsTrue};
     ghost use Rattle.nats_wire.specs.Scan.{clear_to, Needs};
+    ghost use Rattle.nats_wire.specs.Store.{store_bytes};
 
     ghost Value = { List ℕ };
 
-    ghost view = { λ u. u.bytes.items };
+    ghost view = { λ u. store_bytes u.store };
 
-    ghost invariant = { λ u. (u.place ≤ length u.bytes.items) × IsTrue (clear_to u.place u.bytes.items) × Needs u.bytes.items u.needed };
+    ghost invariant = { λ u. (u.place ≤ length (store_bytes u.store)) × IsTrue (clear_to u.place (store_bytes u.store))
+        × Needs (store_bytes u.store) u.needed };
 }
 
 /// What is remembered of some bytes.
@@ -64,13 +71,24 @@ fn know_more(bytes: &[u8], before: Known) -> Known
     }
 }
 
+// Whether messages are to share some bytes: a whole line stands there, and what is left of the bytes at the next piece, which is
+// copied then, is at most twice what this piece had. A short text that begins with no message isn't worth it.
+fn is_worth_sharing(bytes: &[u8], place: usize, last: usize) -> bool
+    requires { place ≤ length bytes.now }
+{
+    let begins = bytes.starts_with(b"MSG ") || bytes.starts_with(b"HMSG ");
+    bytes.len() / 2 <= last
+        && (begins || bytes.len() >= SHARED_LEAST)
+        && decode::is_crlf_at(bytes, place)
+}
+
 impl Unread {
     /// No bytes. It takes no memory.
     pub fn new(alloc: Global) -> Unread
         ensures { result ≡ [] }
     {
         Unread {
-            bytes: BytesMut::new(alloc),
+            store: Store::new(alloc),
             place: 0,
             needed: 0,
         }
@@ -80,18 +98,18 @@ impl Unread {
     pub fn len(&self) -> usize
         ensures { result ≡ length self.now }
     {
-        self.bytes.len()
+        self.store.as_slice().len()
     }
 
     /// All of them.
     pub fn as_slice(&self) -> &[u8]
         ensures { result.now ≡ self.now }
     {
-        self.bytes.as_slice()
+        self.store.as_slice()
     }
 
     /// Appends bytes, whole or not at all.
-    pub fn feed(&mut self, bytes: &[u8]) -> Result<(), NoMemory>
+    pub fn feed(&mut self, alloc: Global, bytes: &[u8]) -> Result<(), NoMemory>
         ensures ok { OnOk result (self.new ≡ self.old ++ bytes.now) }
         ensures err { OnErr result (self.new ≡ self.old) }
     {
@@ -99,10 +117,15 @@ impl Unread {
             place: self.place,
             needed: self.needed,
         };
-        self.bytes.extend_from_slice(bytes)?;
-        let Known { place, needed } = know_more(self.bytes.as_slice(), before);
+        let (store, fed) = mem::replace(&mut self.store, Store::new(alloc)).fed(alloc, bytes);
+        self.store = store;
+        fed?;
+        let Known { place, needed } = know_more(self.store.as_slice(), before);
         self.place = place;
         self.needed = needed;
+        if is_worth_sharing(self.store.as_slice(), place, bytes.len()) {
+            self.store = mem::replace(&mut self.store, Store::new(alloc)).shared();
+        }
         Ok(())
     }
 
@@ -111,19 +134,19 @@ impl Unread {
         requires { n ≤ length self.old }
         ensures { self.new ≡ drop n self.old }
     {
-        self.bytes.advance(n);
+        self.store.advance(n);
         self.needed = 0;
-        self.place = decode::clear_place(self.bytes.as_slice(), 0);
+        self.place = decode::clear_place(self.store.as_slice(), 0);
     }
 
     /// What stands at their front, where it is told without memory.
     pub fn sight(&self) -> Sight<'_>
         ensures { sight_view result ≡ sight self.now }
     {
-        if self.bytes.len() < self.needed {
+        if self.store.as_slice().len() < self.needed {
             return Sight::Unfinished;
         }
-        decode::sight_behind(self.bytes.as_slice(), self.place)
+        decode::sight_behind(self.store.as_slice(), self.place)
     }
 
     /// What stands at their front. It takes memory only where the text of an operation is there whole.
@@ -132,6 +155,6 @@ impl Unread {
         ensures fits { IfOk result (λ f. taken_by f ≤ length self.now) }
         ensures memory { OnErr result (IsTrue (takes_memory self.now)) }
     {
-        front_by(alloc, self.sight())
+        front_kept(alloc, &self.store, self.sight())
     }
 }
