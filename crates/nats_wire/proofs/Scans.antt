@@ -1,16 +1,16 @@
 -- What is remembered of unread bytes stays true as they grow, and a search that goes on from there cuts the whole text.
-use Rattle.std.proofs.Common.{◌≡◌, ℕ, zero, suc, ◌+◌, ◌-◌, ◌<◌, ◌≤◌, Bool, true, false, not, List, [], ◌∷◌, ◌++◌, length, take, drop, Option, Some, None, refl, ap, sym, ◌∙◌, arith, tests, length-append, length-drop, length-take-le, take-add, drop-drop, append_assoc, append-nil}
-use Rattle.std.specs.Prelude.{◌==◌, ◌&&◌, nat_lt, nat_eq, if◌then◌else◌, codes}
+use Rattle.std.proofs.Common.{◌≡◌, ℕ, zero, suc, ◌+◌, ◌-◌, ◌<◌, ◌≤◌, Bool, true, false, not, List, [], ◌∷◌, ◌++◌, length, take, drop, Option, Some, None, refl, ap, sym, ◌∙◌, arith, tests, lit<, length-append, length-drop, length-take-le, take-add, drop-drop, append_assoc, append-nil}
+use Rattle.std.specs.Prelude.{◌==◌, ◌&&◌, nat_lt, nat_eq, slice_index, if◌then◌else◌, codes}
 use Rattle.std.specs.Option.{option_map}
 use Rattle.std.specs.List.{starts_with}
 use Rattle.std.proofs.lemmas.Bool.{lt-ltb}
 use Rattle.std.proofs.lemmas.List.{length-take}
-use Rattle.memchr.specs.Find.{OccursAt, FindsNeedle}
+use Rattle.memchr.specs.Find.{OccursAt, FindsNeedle, IsFirstByte, is_byte}
 use Rattle.nats_wire.specs.Commands.{crlf}
 use Rattle.nats_wire.specs.Operations.{Cut, onto_line, cut_line, Head, HeaderHead, Sight, less, whole, plain, message, message_of, headed_text, message_or_bad, headed_or_bad, head_of, header_head_of, word_of, sight_of_word, sight_of_cut, sight}
 use Rattle.nats_wire.specs.declared.decode.Word.TheVariants as word
 use Rattle.nats_wire.specs.Scan.{is_crlf_at, clear_to, cut_at, Needs, Awaits}
-use Rattle.nats_wire.proofs.Lines.{cut_by_search}
+use Rattle.nats_wire.proofs.Lines.{cut_none, cut_by_search}
 use Rattle.nats_wire.proofs.Fronts.{grown, cut_more, cut_length}
 
 -- a text of some bytes and a text that is cut
@@ -144,6 +144,52 @@ clear_short [] none = refl
 clear_short (a ∷ rest) none =
     let e : length (a ∷ rest) - 1 ≡ length rest = omega arith in
     rw e (clear_none (length rest) (a ∷ rest) (omega arith) none)
+
+-- ---- by the first LF
+
+join_step : (test inner later : Bool) → (inner ≡ true → later ≡ true) → (not test && inner) ≡ true → (not test && later) ≡ true
+join_step true inner later goes_on is = cc
+join_step false inner later goes_on is = goes_on is
+
+-- a front that is clear, and a clear front behind it
+clear_join : (n m : ℕ) (bytes : List ℕ) → clear_to n bytes ≡ true → clear_to m (drop n bytes) ≡ true → clear_to (n + m) bytes ≡ true
+clear_join zero m bytes is later = let e : zero + m ≡ m = omega arith in rw e later
+clear_join (suc n) m [] is later = cc
+clear_join (suc n) m (a ∷ []) is later = cc
+clear_join (suc n) m (a ∷ b ∷ rest) is later =
+    let e : suc n + m ≡ suc (n + m) = omega arith in
+    rw e (join_step (a == 13 && b == 10) (clear_to n (b ∷ rest)) (clear_to (n + m) (b ∷ rest)) (λ inner. clear_join n m (b ∷ rest) inner later) is)
+
+lf_step : (test : Bool) (a b : ℕ) (inner : Bool) → (a == 13 && b == 10) ≡ test → (is_byte 10 b ≡ true → ⊥) → inner ≡ true → (not test && inner) ≡ true
+lf_step true a b inner is never ok = let q : b ≡ 10 = grind (arith, tests) in absurd (never (rw q refl))
+lf_step false a b inner is never ok = ok
+
+-- a text is clear up to the place before its first LF
+lf_clear : (n : ℕ) (bytes : List ℕ) → n < length bytes → ((k : ℕ) → k < suc n → is_byte 10 (slice_index bytes k) ≡ true → ⊥) → clear_to n bytes ≡ true
+lf_clear zero bytes within never = refl
+lf_clear (suc n) [] within never = absurd (omega arith)
+lf_clear (suc n) (a ∷ []) within never = absurd (omega arith)
+lf_clear (suc n) (a ∷ b ∷ rest) within never =
+    lf_step (a == 13 && b == 10) a b (clear_to n (b ∷ rest)) refl (never 1 (omega arith))
+    (lf_clear n (b ∷ rest) (omega arith) (λ k h. never (suc k) (omega arith)))
+
+before_lf : (i : ℕ) (bytes : List ℕ) → IsFirstByte (is_byte 10) bytes (Some i) → clear_to (i - 1) bytes ≡ true
+before_lf zero bytes found = refl
+before_lf (suc i) bytes found =
+    let e : suc i - 1 ≡ i = omega arith in
+    rw e (lf_clear i bytes (omega (arith, found.0.high)) (λ k h. found.0.before k (omega arith) h))
+
+-- the place before the first LF behind a clear front is clear
+pub clear_before : (n i : ℕ) (bytes : List ℕ) → clear_to n bytes ≡ true → IsFirstByte (is_byte 10) (drop n bytes) (Some i)
+    → clear_to (n + (i - 1)) bytes ≡ true
+clear_before n i bytes is found = clear_join n (i - 1) bytes is (before_lf i (drop n bytes) found)
+
+no_lf : (bytes : List ℕ) → IsFirstByte (is_byte 10) bytes None → cut_line bytes ≡ None
+no_lf bytes none = cut_none bytes (λ k occurs. none (k + 1) (omega arith) (omega (arith, occurs.fits)) (rw (occurs.reads 1 (lit< tt)) refl))
+
+-- a text without an LF behind a clear front isn't cut
+pub uncut : (n : ℕ) (bytes : List ℕ) → clear_to n bytes ≡ true → IsFirstByte (is_byte 10) (drop n bytes) None → cut_line bytes ≡ None
+uncut n bytes is none = cut_behind n bytes is ∙ ap (option_map (onto_front (take n bytes))) (no_lf (drop n bytes) none)
 
 -- ---- how many bytes are needed
 

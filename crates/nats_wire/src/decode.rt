@@ -6,7 +6,7 @@ ghost use Rattle.nats_wire.specs.Decoder.{word_len, sight_view, op_text_view, me
 
 use crate::error_line::{ErrorText, read_error};
 use crate::head::{Head, HeaderHead, read_head, read_header_head};
-use memchr::memmem;
+use memchr::{memchr, memmem};
 
 /// What stands at the front of a text: less than an operation, the text of one and the number of its bytes, or a fault that
 /// takes some bytes.
@@ -104,6 +104,11 @@ fn line_end(bytes: &[u8], from: usize) -> Option<usize>
 {
     if is_crlf_at(bytes, from) {
         return Some(from);
+    }
+    let lf = memchr(b'\n', &bytes[from..])?;
+    let before = lf.saturating_sub(1);
+    if is_crlf_at(bytes, from + before) {
+        return Some(from + before);
     }
     let behind = memmem::find(&bytes[from..], b"\r\n")?;
     Some(from + behind)
