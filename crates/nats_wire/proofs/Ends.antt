@@ -1,5 +1,5 @@
 -- Where the payload of a message stands in the text that it is read from.
-use Rattle.std.proofs.Common.{◌≡◌, ℕ, zero, suc, ◌+◌, ◌-◌, ◌<◌, ◌≤◌, Bool, true, false, List, [], ◌∷◌, length, take, drop, Option, Some, None, refl, ap, sym, subst, ◌∙◌, arith, length-drop, length-take-le, drop-drop}
+use Rattle.std.proofs.Common.{◌≡◌, ℕ, suc, ◌+◌, ◌-◌, ◌≤◌, Bool, true, false, List, [], ◌∷◌, length, take, drop, Option, Some, None, refl, ap, sym, subst, ◌∙◌, arith, length-drop, length-take-le, drop-drop}
 use Rattle.std.specs.Prelude.{◌==◌, ◌&&◌, nat_lt, nat_eq, slice_range, if◌then◌else◌}
 use Rattle.std.specs.Option.{option_map}
 use Rattle.std.proofs.lemmas.Bool.{ltb-false, eqb-true, and_parts}
@@ -8,10 +8,9 @@ use Rattle.std.specs.List.{starts_with}
 use Rattle.std.specs.Cmp.Lexicographic.{pointwise}
 use Rattle.bytes.proofs.Ranges.{drop-take_less}
 use Rattle.nats_names.specs.declared.server_error.ServerError.{ServerError}
-use Rattle.nats_wire.specs.declared.message.Message.{Message}
 use Rattle.nats_wire.specs.declared.decode.Word.{Word}
 use Rattle.nats_wire.specs.declared.decode.Word.TheVariants as word
-use Rattle.nats_wire.specs.Operations.{Operation, message, info_op, error_op, ok_op, ping_op, pong_op, Cut, onto_line, cut_line, word_of, Head, HeaderHead, message_of, OpText, plain, info_text, headed, Sight, less, whole, bad, headed_text, message_or_bad, headed_or_bad, error_or_bad, head_of, header_head_of, error_of, with_block_len, header_head_of_words, words_of, sight_of_word, sight_of_cut, sight}
+use Rattle.nats_wire.specs.Operations.{message, error_op, ok_op, ping_op, pong_op, Cut, onto_line, cut_line, word_of, Head, HeaderHead, message_of, OpText, plain, info_text, headed, less, whole, headed_text, message_or_bad, headed_or_bad, error_or_bad, head_of, header_head_of, error_of, sight_of_word, sight_of_cut, sight}
 use Rattle.nats_wire.specs.Store.{EndsAt}
 use Rattle.nats_wire.proofs.Fronts.{cut_length}
 use Rattle.nats_wire.proofs.Words.{header_within}

@@ -1,17 +1,15 @@
 -- What is remembered of unread bytes stays true as they grow, and a search that goes on from there cuts the whole text.
-use Rattle.std.proofs.Common.{◌≡◌, ℕ, zero, suc, ◌+◌, ◌-◌, ◌<◌, ◌≤◌, Bool, true, false, not, List, [], ◌∷◌, ◌++◌, length, take, drop, Option, Some, None, refl, ap, sym, ◌∙◌, arith, tests, lit<, length-append, length-drop, length-take-le, take-add, drop-drop, append_assoc, append-nil}
-use Rattle.std.specs.Prelude.{◌==◌, ◌&&◌, nat_lt, nat_eq, slice_index, if◌then◌else◌, codes}
+use Rattle.std.proofs.Common.{◌≡◌, ℕ, zero, suc, ◌+◌, ◌-◌, ◌<◌, ◌≤◌, Bool, true, false, not, List, [], ◌∷◌, ◌++◌, length, take, drop, Option, Some, None, refl, ap, sym, ◌∙◌, arith, tests, lit<, length-append, length-drop, length-take-le, take-add, drop-drop}
+use Rattle.std.specs.Prelude.{◌==◌, ◌&&◌, nat_eq, slice_index, if◌then◌else◌, codes}
 use Rattle.std.specs.Option.{option_map}
 use Rattle.std.specs.List.{starts_with}
-use Rattle.std.proofs.lemmas.Bool.{lt-ltb}
 use Rattle.std.proofs.lemmas.List.{length-take}
-use Rattle.memchr.specs.Find.{OccursAt, FindsNeedle, IsFirstByte, is_byte}
+use Rattle.memchr.specs.Find.{FindsNeedle, IsFirstByte, is_byte}
 use Rattle.nats_wire.specs.Commands.{crlf}
-use Rattle.nats_wire.specs.Operations.{Cut, onto_line, cut_line, Head, HeaderHead, Sight, less, whole, plain, message, message_of, headed_text, message_or_bad, headed_or_bad, head_of, header_head_of, word_of, sight_of_word, sight_of_cut, sight}
-use Rattle.nats_wire.specs.declared.decode.Word.TheVariants as word
+use Rattle.nats_wire.specs.Operations.{Cut, onto_line, cut_line, sight}
 use Rattle.nats_wire.specs.Scan.{is_crlf_at, clear_to, cut_at, Needs, Awaits}
 use Rattle.nats_wire.proofs.Lines.{cut_none, cut_by_search}
-use Rattle.nats_wire.proofs.Fronts.{grown, cut_more, cut_length}
+use Rattle.nats_wire.proofs.Fronts.{cut_more, cut_length}
 
 -- a text of some bytes and a text that is cut
 abbrev pub onto_front : List ℕ → Cut → Cut
@@ -27,17 +25,6 @@ clear_more (suc n) [] more is = cc
 clear_more (suc n) (a ∷ []) more is = cc
 clear_more (suc n) (a ∷ b ∷ rest) more is =
     more_step (a == 13 && b == 10) (clear_to n (b ∷ rest)) (clear_to n (b ∷ rest ++ more)) (clear_more n (b ∷ rest) more) is
-
-inner_step : (test inner : Bool) → (not test && inner) ≡ true → inner ≡ true
-inner_step true inner is = cc
-inner_step false inner is = is
-
-pub clear_within : (n : ℕ) (bytes : List ℕ) → clear_to n bytes ≡ true → n ≤ length bytes
-clear_within zero bytes is = omega arith
-clear_within (suc n) [] is = cc
-clear_within (suc n) (a ∷ []) is = cc
-clear_within (suc n) (a ∷ b ∷ rest) is =
-    omega (arith, clear_within n (b ∷ rest) (inner_step (a == 13 && b == 10) (clear_to n (b ∷ rest)) is))
 
 same_cut : (found : Option Cut) → found ≡ option_map (onto_front []) found
 same_cut None = refl
@@ -193,32 +180,9 @@ uncut n bytes is none = cut_behind n bytes is ∙ ap (option_map (onto_front (ta
 
 -- ---- how many bytes are needed
 
-pub needs_none : (bytes : List ℕ) → Needs bytes 0
-needs_none bytes = λ more h. absurd (omega (arith, h))
-
-pub needs_more : (bytes more : List ℕ) (size : ℕ) → Needs bytes size → Needs (bytes ++ more) size
-needs_more bytes more size needs = λ later h.
-    rw (append_assoc bytes more later) (needs (more ++ later) (rw (append_assoc bytes more later) at h))
-
--- fewer bytes than are needed are less than an operation
-pub needs_now : (bytes : List ℕ) (size : ℕ) → Needs bytes size → length bytes < size → sight bytes ≡ less
-needs_now bytes size needs h = rw (append-nil bytes) at (needs [] (rw (append-nil bytes) h))
-
 pub needs_line : (bytes : List ℕ) (cut : Cut) (count size : ℕ) → cut_line bytes ≡ Some cut → Awaits cut.line count
     → size ≤ length cut.line + count + 4 → Needs bytes size
 unfolding sight
 needs_line bytes cut count size is awaits fits = λ more h.
     rw (cut_more bytes more cut is)
     (awaits (cut.rest ++ more) (omega (arith, h, fits, cut_length bytes cut is, length-append bytes more, length-append cut.rest more)))
-
-short_less : (short : Bool) (other : Sight) → short ≡ true → (if short then less else other) ≡ less
-short_less true other is = refl
-short_less false other is = cc
-
-pub message_awaits : (line : List ℕ) (head : Head) → word_of line ≡ word.Message → head_of (drop 4 line) ≡ Some head → Awaits line head.count
-message_awaits line head begins is = λ rest h.
-    rw (begins, is) (short_less (nat_lt (length rest) (head.count + 2)) _ (lt-ltb (length rest) (head.count + 2) h))
-
-pub headed_awaits : (line : List ℕ) (h : HeaderHead) → word_of line ≡ word.HeaderMessage → header_head_of (drop 5 line) ≡ Some h → Awaits line h.head.count
-headed_awaits line head begins is = λ rest h.
-    rw (begins, is) (short_less (nat_lt (length rest) (head.head.count + 2)) _ (lt-ltb (length rest) (head.head.count + 2) h))

@@ -1,7 +1,7 @@
 -- What is remembered of unread bytes, so that none of them is searched again.
 use Rattle.std.specs.Prelude.{◌≡◌, ℕ, zero, suc, ◌+◌, ◌<◌, Bool, true, false, not, ◌&&◌, ◌==◌, nat_eq, List, [], ◌∷◌, ◌++◌, length, take, drop, codes}
 use Rattle.std.specs.List.{starts_with}
-use Rattle.nats_wire.specs.Operations.{Sight, less, Cut, word_of, sight_of_word, sight}
+use Rattle.nats_wire.specs.Operations.{less, Cut, word_of, sight_of_word, sight}
 
 -- the end of a line, CR LF, stands at a place
 abbrev pub is_crlf_at : List ℕ → ℕ → Bool

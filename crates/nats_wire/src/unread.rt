@@ -71,8 +71,8 @@ fn know_more(bytes: &[u8], before: Known) -> Known
     }
 }
 
-// Whether messages are to share some bytes: a whole line stands there, and what is left of the bytes at the next piece, which is
-// copied then, is at most twice what this piece had. A short text that begins with no message isn't worth it.
+// Whether messages are to share some bytes: a whole line stands there, and what is left of the bytes at the next piece,
+// which is copied then, is at most twice what this piece had. A short text that begins with no message isn't worth it.
 fn is_worth_sharing(bytes: &[u8], place: usize, last: usize) -> bool
     requires { place ≤ length bytes.now }
 {

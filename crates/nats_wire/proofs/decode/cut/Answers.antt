@@ -1,5 +1,5 @@
 -- The text is cut where its first line ends.
-use Rattle.std.proofs.Common.{◌+◌, Some, None, refl, arith, length-take-le, length-drop}
+use Rattle.std.proofs.Common.{◌+◌, arith, length-take-le, length-drop}
 use Rattle.std.proofs.lemmas.List.{take_rest}
 use Rattle.nats_wire.proofs.decode.cut.Goals as goal
 
