@@ -1,9 +1,11 @@
 pub mod Fronts
+mod Ends
 mod Lines
 mod Numbers
 mod Pieces
 mod Quotes
 pub mod Reading
+mod Scans
 mod Sights
 mod Texts
 mod Words

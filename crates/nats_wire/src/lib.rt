@@ -11,6 +11,8 @@ mod head;
 pub mod laws;
 mod message;
 mod op;
+mod store;
+mod unread;
 
 pub use connection::{Connection, Peeked, SOFT_WRITE_BUF_LIMIT};
 pub use message::{Message, OutboundMessage, PublishMessage, copy_headers, copy_subject};

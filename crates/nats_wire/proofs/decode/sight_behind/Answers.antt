@@ -2,7 +2,7 @@
 use Rattle.std.proofs.Common.{sym, Some, None}
 use Rattle.nats_wire.specs.Decoder.{line_view}
 use Rattle.nats_wire.proofs.Fronts.{sight_by_cut}
-use Rattle.nats_wire.proofs.decode.sight_of.Goals as goal
+use Rattle.nats_wire.proofs.decode.sight_behind.Goals as goal
 
 pub returns-in-Some : goal.returns-in-Some
 returns-in-Some c = rw (sight_by_cut c.args.bytes.now (Some (line_view c.in-Some.line)) c.in-Some.ensures.cut) c.sight_of_line.ensures
