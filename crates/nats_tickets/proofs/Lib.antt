@@ -1,2 +1,4 @@
+pub mod Asks
 pub mod Marks
 pub mod Places
+pub mod Sorts

@@ -1,9 +1,14 @@
 //! Requests that wait for their reply.
-ghost use Rattle.std.specs.Prelude.{◌≡◌, ◌++◌, [], ◌∷◌, drop, length, OnOk, OnErr, IfOk};
+ghost use Rattle.std.specs.Prelude.{◌≡◌, ◌++◌, [], ◌∷◌, cond, drop, length, Some, None, OnOk, OnErr, IfOk};
 ghost use Rattle.std.specs.Option.{option_map};
+ghost use Rattle.std.specs.Ordering.{nat_cmp};
+ghost use Rattle.std.specs.Map.{keys_of, remove_entry};
+ghost use Rattle.std.specs.BTreeMap.{is_at, insert_entry};
+ghost use Rattle.std.specs.List.Sorted.{IsStrictlySortedBy};
 ghost use Rattle.nats_history.specs.Queue.{first};
 ghost use Rattle.nats_history.specs.History.{request_at, requests_elsewhere, waits_for_reply, requests_but, ticket_in};
-ghost use Rattle.nats_tickets.specs.Asking.{AllBelow};
+ghost use Rattle.nats_tables.specs.Rows.{look, UpdatedAt};
+ghost use Rattle.nats_tickets.specs.Asking.{AllUnder, is_it, find, found_but, found_but_if, but_if, gone_at};
 
 use nats_history::{NoMemory, Subject};
 use std::alloc::Global;
@@ -54,22 +59,25 @@ impl Asking {
         ticket: u64,
         subject: &Subject,
     ) -> Result<Option<u64>, NoMemory>
-        requires { AllBelow ticket self.old }
+        requires { AllUnder ticket self.old }
         ensures displaced { IfOk result (λ displaced. displaced ≡ request_at subject.now self.old) }
         ensures ok { OnOk result (self.new ≡ requests_elsewhere subject.now self.old ++ (ticket, subject.now) ∷ []) }
         ensures err { OnErr result (self.new ≡ self.old) }
     {
         let kept = subject.copy(alloc)?;
         let key = subject.copy(alloc)?;
-        let Ok(_) = self.subjects.insert(ticket, kept) else {
-            return Err(NoMemory);
-        };
-        let Ok(displaced) = self.tickets.insert(key, ticket) else {
-            forget(&mut self.subjects, ticket);
-            return Err(NoMemory);
-        };
-        forget_if(&mut self.subjects, displaced);
-        Ok(displaced)
+        put_last(&mut self.subjects, ticket, kept)?;
+        let note = note(&mut self.tickets, key, ticket);
+        match note {
+            Ok(displaced) => {
+                forget_if(&mut self.subjects, displaced);
+                Ok(displaced)
+            }
+            Err(NoMemory) => {
+                forget(&mut self.subjects, ticket);
+                Err(NoMemory)
+            }
+        }
     }
 
     /// The one that waits for a subject waits no more: its ticket, if there is one. It takes no memory.
@@ -77,9 +85,10 @@ impl Asking {
         ensures ticket { result ≡ request_at subject.now self.old }
         ensures rest { self.new ≡ requests_elsewhere subject.now self.old }
     {
-        let ticket = self.tickets.remove(subject)?;
-        forget(&mut self.subjects, ticket);
-        Some(ticket)
+        ordered(&self.subjects);
+        let ticket = find_out(&mut self.tickets, subject);
+        forget_if(&mut self.subjects, ticket);
+        ticket
     }
 
     /// The one of a ticket waits no more: whether there is one. It takes no memory.
@@ -87,11 +96,9 @@ impl Asking {
         ensures asked { result ≡ waits_for_reply ticket self.old }
         ensures rest { self.new ≡ requests_but ticket self.old }
     {
-        let Some(subject) = self.subjects.remove(&ticket) else {
-            return false;
-        };
-        forget_subject(&mut self.tickets, &subject);
-        true
+        let subject = look_out(&mut self.subjects, ticket);
+        forget_subject_if(&mut self.tickets, &subject);
+        subject.is_some()
     }
 
     /// The oldest waits no more: its ticket. It takes no memory.
@@ -99,20 +106,80 @@ impl Asking {
         ensures ticket { result ≡ option_map ticket_in (first self.old) }
         ensures rest { self.new ≡ drop 1 self.old }
     {
-        let (ticket, subject) = self.subjects.pop_first()?;
-        forget_subject(&mut self.tickets, &subject);
-        Some(ticket)
+        match self.subjects.pop_first() {
+            Some((ticket, subject)) => {
+                forget_subject(&mut self.tickets, &subject);
+                Some(ticket)
+            }
+            None => None,
+        }
     }
 }
 
-fn forget(subjects: &mut BTreeMap<u64, Subject>, ticket: u64)
-    ensures { subjects.new.entries ≡ requests_but ticket subjects.old.entries }
+/// The tickets ascend, as those of each map do. It does nothing.
+fn ordered(subjects: &BTreeMap<u64, Subject>)
+    ensures { IsStrictlySortedBy nat_cmp (keys_of subjects.now.entries) }
 {
-    let _ = subjects.remove(&ticket);
+    let _count = subjects.len();
+}
+
+fn put_last(
+    subjects: &mut BTreeMap<u64, Subject>,
+    ticket: u64,
+    subject: Subject,
+) -> Result<(), NoMemory>
+    ensures ok { OnOk result (subjects.new.entries ≡ insert_entry nat_cmp subjects.old.entries ticket subject) }
+    ensures updated { OnOk result (UpdatedAt ticket (Some subject) subjects.old.entries subjects.new.entries) }
+    ensures err { OnErr result (subjects.new.entries ≡ subjects.old.entries) }
+    ensures sorted { IsStrictlySortedBy nat_cmp (keys_of subjects.old.entries) }
+{
+    let Ok(_) = subjects.insert(ticket, subject) else {
+        return Err(NoMemory);
+    };
+    Ok(())
+}
+
+fn note(
+    tickets: &mut BTreeMap<Subject, u64>,
+    subject: Subject,
+    ticket: u64,
+) -> Result<Option<u64>, NoMemory>
+    ensures earlier { IfOk result (λ earlier. earlier ≡ find subject tickets.old.entries) }
+    ensures ok { OnOk result ((other : _) → find other tickets.new.entries
+        ≡ cond (is_it subject other) (Some ticket) (find other tickets.old.entries)) }
+    ensures err { OnErr result (tickets.new.entries ≡ tickets.old.entries) }
+{
+    match tickets.insert(subject, ticket) {
+        Ok(earlier) => Ok(earlier),
+        Err(_) => Err(NoMemory),
+    }
+}
+
+fn find_out(tickets: &mut BTreeMap<Subject, u64>, subject: &Subject) -> Option<u64>
+    ensures ticket { result ≡ find subject.now tickets.old.entries }
+    ensures rest { (other : _) → find other tickets.new.entries ≡ found_but subject.now other tickets.old.entries }
+{
+    tickets.remove(subject)
+}
+
+fn look_out(subjects: &mut BTreeMap<u64, Subject>, ticket: u64) -> Option<Subject>
+    ensures subject { result ≡ look ticket subjects.old.entries }
+    ensures entries { subjects.new.entries ≡ remove_entry (is_at (nat_cmp ticket)) subjects.old.entries }
+    ensures updated { UpdatedAt ticket None subjects.old.entries subjects.new.entries }
+{
+    subjects.remove(&ticket)
+}
+
+fn forget(subjects: &mut BTreeMap<u64, Subject>, ticket: u64)
+    ensures entries { subjects.new.entries ≡ requests_but ticket subjects.old.entries }
+    ensures updated { UpdatedAt ticket None subjects.old.entries subjects.new.entries }
+{
+    let _subject = look_out(subjects, ticket);
 }
 
 fn forget_if(subjects: &mut BTreeMap<u64, Subject>, ticket: Option<u64>)
-    ensures { subjects.new.entries ≡ but_if ticket subjects.old.entries }
+    ensures entries { subjects.new.entries ≡ but_if ticket subjects.old.entries }
+    ensures updated { (k : _) → look k subjects.new.entries ≡ gone_at ticket k (look k subjects.old.entries) }
 {
     if let Some(ticket) = ticket {
         forget(subjects, ticket);
@@ -122,5 +189,13 @@ fn forget_if(subjects: &mut BTreeMap<u64, Subject>, ticket: Option<u64>)
 fn forget_subject(tickets: &mut BTreeMap<Subject, u64>, subject: &Subject)
     ensures { (other : _) → find other tickets.new.entries ≡ found_but subject.now other tickets.old.entries }
 {
-    let _ = tickets.remove(subject);
+    let _ticket = find_out(tickets, subject);
+}
+
+fn forget_subject_if(tickets: &mut BTreeMap<Subject, u64>, subject: &Option<Subject>)
+    ensures { (other : _) → find other tickets.new.entries ≡ found_but_if subject.now other tickets.old.entries }
+{
+    if let Some(subject) = subject {
+        forget_subject(tickets, subject);
+    }
 }

@@ -36,10 +36,11 @@ impl Model for Kinds {
 fn last_kind(runs: &[Run]) -> bool
     ensures { result ≡ last_kind runs.now }
 {
-    match runs.last() {
-        Some(run) => run.is_request,
-        None => false,
+    let count = runs.len();
+    if count == 0 {
+        return false;
     }
+    runs[count - 1].is_request
 }
 
 /// The last run goes on, or one begins.
@@ -95,7 +96,10 @@ impl Kinds {
     pub fn is_request(&self, ticket: u64) -> bool
         ensures { result ≡ is_of_request (item_of ticket self.now) }
     {
-        if ticket == 0 || ticket > self.given {
+        if ticket == 0 {
+            return false;
+        }
+        if ticket > self.given {
             return false;
         }
         kind_at(self.runs.as_slice(), ticket)

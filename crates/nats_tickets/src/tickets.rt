@@ -1,12 +1,13 @@
 //! How tickets are kept: this file and those of its fields alone know.
-ghost use Rattle.std.specs.Prelude.{◌≡◌, ◌≤◌, ◌+◌, ◌∷◌, [], ◌++◌, length, drop, map, Some, OnOk, OnErr};
+ghost use Rattle.std.specs.Prelude.{◌≡◌, ◌≤◌, ◌<◌, ◌+◌, ◌-◌, ◌^◌, suc, [], ◌∷◌, ◌++◌, length, drop, map, Some, OnOk, OnErr, if◌then◌else◌};
 ghost use Rattle.std.specs.VecDeque.{deque_len, deque_capacity};
 ghost use Rattle.nats_tables.specs.Numbers.{item_of, at_number};
 ghost use Rattle.nats_history.specs.declared.call.CallReply.TheVariants as replies;
-ghost use Rattle.nats_history.specs.History.{ticket_in, replied, queue_dropped, waits_late, is_waiting_request};
+ghost use Rattle.nats_history.specs.declared.waits.Waits.TheVariants as waits;
+ghost use Rattle.nats_history.specs.History.{ticket_in, replied, replied_if, waits_dropped, queue_dropped, waits_late, is_waiting_request, request_reply};
 ghost use Rattle.nats_history.specs.Queue.{first};
 ghost use Rattle.nats_history.specs.Schedule.{is_of_request};
-ghost use Rattle.nats_tickets.specs.Kept.{nothing_kept, given_one, renewed, flush_one, request_one, arrived, timed_out, passed, failed, dropped, reply_in, without, pending};
+ghost use Rattle.nats_tickets.specs.Kept.{nothing_kept, given_one, renewed, flush_one, request_one, arrived, timed_out, passed, failed, dropped, reply_in, without, one_if, bit, pending_of, pending};
 
 use crate::asking::Asking;
 use crate::flushes::{Mark, fail_all, settle_reached};
@@ -73,12 +74,17 @@ fn drop_asking(asking: &mut Asking, ready: &mut VecDeque<(u64, CallReply)>)
     }
 }
 
-/// How a ticket whose call waits settles at the close, if it is unsettled.
-fn dropped_reply(waits: Waits) -> Option<CallReply> {
+/// Settles a ticket whose call waits at the close, if it is unsettled.
+fn drop_next(ready: &mut VecDeque<(u64, CallReply)>, ticket: u64, waits: Waits)
+    requires { deque_len ready.old + pending_of waits ≤ deque_capacity ready.old }
+    ensures ready { ready.new.items ≡ ready.old.items ++ waits_dropped ticket waits }
+    ensures len { deque_len ready.new ≡ deque_len ready.old + pending_of waits }
+    ensures capacity { deque_capacity ready.new ≡ deque_capacity ready.old }
+{
     match waits {
-        Waits::Flush => Some(CallReply::FlushFailed),
-        Waits::Request => Some(CallReply::Dropped),
-        Waits::Late => None,
+        Waits::Flush => ready.push_back_reserved((ticket, CallReply::FlushFailed)),
+        Waits::Request => ready.push_back_reserved((ticket, CallReply::Dropped)),
+        Waits::Late => {}
     }
 }
 
@@ -93,9 +99,32 @@ fn drop_queued(queued: &mut VecDeque<Waits>, ready: &mut VecDeque<(u64, CallRepl
     let mut ticket = handled;
     'queued: while let Some(waits) = queued.pop_front() {
         ticket += 1;
-        if let Some(reply) = dropped_reply(waits) {
-            ready.push_back_reserved((ticket, reply));
+        drop_next(ready, ticket, waits);
+    }
+}
+
+/// A request waits no more as another waits for a reply to the same subject, if there is one.
+fn push_dropped(ready: &mut VecDeque<(u64, CallReply)>, ticket: Option<u64>)
+    requires { deque_len ready.old + one_if ticket ≤ deque_capacity ready.old }
+    ensures ready { ready.new.items ≡ ready.old.items ++ replied_if replies.Dropped ticket }
+    ensures len { deque_len ready.new ≡ deque_len ready.old + one_if ticket }
+    ensures capacity { deque_capacity ready.new ≡ deque_capacity ready.old }
+{
+    if let Some(ticket) = ticket {
+        ready.push_back_reserved((ticket, CallReply::Dropped));
+    }
+}
+
+fn time_out_one(waits: &mut Waits) -> bool
+    ensures asked { result ≡ is_waiting_request (Some waits.old) }
+    ensures rest { waits.new ≡ waits_late waits.old }
+{
+    match waits {
+        Waits::Request => {
+            *waits = Waits::Late;
+            true
         }
+        Waits::Flush | Waits::Late => false,
     }
 }
 
@@ -103,16 +132,48 @@ fn drop_queued(queued: &mut VecDeque<Waits>, ready: &mut VecDeque<(u64, CallRepl
 fn time_out_at(queued: &mut VecDeque<Waits>, place: u64) -> bool
     ensures asked { result ≡ is_waiting_request (item_of place queued.old.items) }
     ensures rest { queued.new.items ≡ at_number place waits_late queued.old.items }
+    ensures len { deque_len queued.new ≡ deque_len queued.old }
 {
-    if place == 0 || place > queued.len() as u64 {
+    if place == 0 {
         return false;
     }
-    let waits = &mut queued[(place - 1) as usize];
-    let asks = matches!(waits, Waits::Request);
-    if asks {
-        *waits = Waits::Late;
+    let index = (place - 1) as usize;
+    if index >= queued.len() {
+        return false;
     }
-    asks
+    time_out_one(&mut queued[index])
+}
+
+/// The oldest call that waits was handled.
+fn pass_call(queued: &mut VecDeque<Waits>)
+    ensures rest { queued.new.items ≡ drop 1 queued.old.items }
+    ensures len { deque_len queued.new ≡ deque_len queued.old - 1 }
+{
+    let _next = queued.pop_front();
+}
+
+/// A request that waits for a reply settles by a message, if there is one.
+fn push_replied(ready: &mut VecDeque<(u64, CallReply)>, ticket: Option<u64>, message: Message)
+    requires { deque_len ready.old + one_if ticket ≤ deque_capacity ready.old }
+    ensures ready { ready.new.items ≡ ready.old.items ++ replied_if (request_reply message) ticket }
+    ensures len { deque_len ready.new ≡ deque_len ready.old + one_if ticket }
+    ensures capacity { deque_capacity ready.new ≡ deque_capacity ready.old }
+{
+    if let Some(ticket) = ticket {
+        ready.push_back_reserved((ticket, request_reply(message)));
+    }
+}
+
+/// A request settles by its deadline, where it is unsettled.
+fn push_timed_out(ready: &mut VecDeque<(u64, CallReply)>, ticket: u64, is_unsettled: bool)
+    requires { deque_len ready.old + bit is_unsettled ≤ deque_capacity ready.old }
+    ensures ready { ready.new.items ≡ ready.old.items ++ (if is_unsettled then (ticket, replies.TimedOut) ∷ [] else []) }
+    ensures len { deque_len ready.new ≡ deque_len ready.old + bit is_unsettled }
+    ensures capacity { deque_capacity ready.new ≡ deque_capacity ready.old }
+{
+    if is_unsettled {
+        ready.push_back_reserved((ticket, CallReply::TimedOut));
+    }
 }
 
 /// How a request settles by a message that came to the subject of its reply.
@@ -199,15 +260,8 @@ impl Tickets {
             self.marks.push_back(Mark { ticket, end })?;
         }
         self.handled = ticket;
-        let _ = self.queued.pop_front();
+        pass_call(&mut self.queued);
         Ok(())
-    }
-
-    /// A ticket settles as dropped, if there is one.
-    fn drop_one(&mut self, ticket: Option<u64>) {
-        if let Some(ticket) = ticket {
-            self.ready.push_back_reserved((ticket, CallReply::Dropped));
-        }
     }
 
     /// The oldest call that waits is a request, and is handled: its reply is to come to `subject`. Only where its deadline did
@@ -216,25 +270,47 @@ impl Tickets {
         ensures ok { OnOk result (self.new ≡ request_one subject.now self.old) }
         ensures err { OnErr result (self.new ≡ self.old) }
     {
-        let displaced = match self.queued.front() {
-            Some(Waits::Request) => self.asking.ask(alloc, self.handled + 1, subject)?,
-            Some(Waits::Late) => self.asking.take_subject(subject),
-            Some(Waits::Flush) | None => return Ok(()),
-        };
-        self.drop_one(displaced);
-        self.handled += 1;
-        let _ = self.queued.pop_front();
+        match self.queued.front() {
+            Some(Waits::Request) => self.begin_asking(alloc, subject),
+            Some(Waits::Late) => {
+                self.end_late(subject);
+                Ok(())
+            }
+            Some(Waits::Flush) | None => Ok(()),
+        }
+    }
+
+    /// The oldest call that waits is a request, and from now on it waits for its reply.
+    fn begin_asking(&mut self, alloc: Global, subject: &Subject) -> Result<(), NoMemory>
+        requires { first self.old.tickets.queued ≡ Some waits.Request }
+        ensures ok { OnOk result (self.new ≡ request_one subject.now self.old) }
+        ensures err { OnErr result (self.new ≡ self.old) }
+    {
+        let ticket = self.handled + 1;
+        let displaced = self.asking.ask(alloc, ticket, subject)?;
+        push_dropped(&mut self.ready, displaced);
+        self.handled = ticket;
+        pass_call(&mut self.queued);
         Ok(())
+    }
+
+    /// The oldest call that waits is a request whose deadline came, and it waits no more.
+    fn end_late(&mut self, subject: &Subject)
+        requires { first self.old.tickets.queued ≡ Some waits.Late }
+        ensures { self.new ≡ request_one subject.now self.old }
+    {
+        let displaced = self.asking.take_subject(subject);
+        push_dropped(&mut self.ready, displaced);
+        self.handled += 1;
+        pass_call(&mut self.queued);
     }
 
     /// A message came to the inbox: where a request waits for a reply to its subject, it settles. It takes no memory.
     pub fn arrive(&mut self, message: Message)
         ensures { self.new ≡ arrived message self.old }
     {
-        if let Some(ticket) = self.asking.take_subject(&message.subject) {
-            self.ready
-                .push_back_reserved((ticket, request_reply(message)));
-        }
+        let ticket = self.asking.take_subject(&message.subject);
+        push_replied(&mut self.ready, ticket, message);
     }
 
     /// The deadline of a ticket came: its request settles, if it is unsettled. It takes no memory.
@@ -244,9 +320,7 @@ impl Tickets {
         let asked = self.asking.take_ticket(ticket);
         let place = ticket.saturating_sub(self.handled);
         let waited = time_out_at(&mut self.queued, place);
-        if asked || waited {
-            self.ready.push_back_reserved((ticket, CallReply::TimedOut));
-        }
+        push_timed_out(&mut self.ready, ticket, asked || waited);
     }
 
     /// A new link came up, and no flush awaits bytes of it. It takes no memory.

@@ -13,7 +13,7 @@ ghost use Rattle.nats_history.specs.Schedule.{due, due_chain, chain, read_end, p
 ghost use Rattle.nats_history.specs.After.{written, subs_after};
 ghost use Rattle.nats_subs.specs.Delivery.{with_rows, rows_with};
 ghost use Rattle.nats_tickets.specs.Kept.{kept_after};
-ghost use Rattle.nats_session.specs.Handler.{Advances, Sees, counted, read_past, command_end, seen_handled, is_nothing, handled_first, seen_all, name_of, delivery_of, delivery_name, unwanted_seen, after_message, pong_read, end_in, push_all};
+ghost use Rattle.nats_session.specs.Handler.{Advances, Sees, counted, read_past, command_end, seen_handled, is_nothing, handled_first, seen_all, name_of, delivery_of, delivery_name, unwanted_seen, after_message, arrived_seen, come_seen, pong_read, end_in, push_all};
 
 use super::ConnectionHandler;
 use super::drains::{
@@ -366,8 +366,32 @@ impl ConnectionHandler {
         Ok(())
     }
 
-    /// Brings a message to its subscription.
+    /// Brings a message to the request that waits for it, or to its subscription.
     fn read_message(
+        &mut self,
+        alloc: Global,
+        sid: u64,
+        message: Box<Message>,
+    ) -> Result<Due, NoMemory>
+        ensures ok { OnOk result (self.new ≡ come_seen sid message.value self.old) }
+        ensures name { IfOk result (λ name. name ≡ delivery_name sid message.value (delivery_of self.old.parts sid)) }
+        ensures err { OnErr result (self.new ≡ self.old) }
+    {
+        if sid == INBOX {
+            self.arrive(Box::into_inner(message));
+            return Ok(Due::Read);
+        }
+        self.bring_message(alloc, sid, message)
+    }
+
+    fn arrive(&mut self, message: Message)
+        ensures { self.new ≡ arrived_seen message self.old }
+    {
+        self.tickets.arrive(message);
+    }
+
+    /// Brings a message to its subscription.
+    fn bring_message(
         &mut self,
         alloc: Global,
         sid: u64,
@@ -377,10 +401,6 @@ impl ConnectionHandler {
         ensures name { IfOk result (λ name. name ≡ delivery_name sid message.value (delivery_of self.old.parts sid)) }
         ensures err { OnErr result (self.new ≡ self.old) }
     {
-        if sid == INBOX {
-            self.tickets.arrive(Box::into_inner(message));
-            return Ok(Due::Read);
-        }
         match self.delivery(sid) {
             Delivery::Put => {
                 self.subs.deliver(&self.config, sid, message)?;

@@ -1,7 +1,7 @@
 -- One settled ticket after another.
 use Rattle.std.proofs.Common.{◌<◌, length, sym, ◌∙◌, arith, add-one}
 use Rattle.nats_tickets.proofs.Places.{one_past, found, none_found}
-use Rattle.nats_tickets.proofs.flushes.place_in.Goals as goal
+use Rattle.nats_tickets.proofs.ready.place_in.Goals as goal
 
 pub returns-then-is_of : goal.returns-then-is_of
 returns-then-is_of c =

@@ -1,0 +1,8 @@
+-- Each unsettled ticket keeps its room.
+use Rattle.std.proofs.Common.{◌≡◌, ◌∙◌, ap, sym, arith, suc, ◌+◌, ◌∷◌, [], ◌++◌, subst, refl, length, drop}
+use Rattle.std.specs.VecDeque.{deque_len, deque_capacity}
+use Rattle.nats_tickets.specs.Kept.{pending}
+use Rattle.nats_tickets.proofs.tickets.Tickets.time_out.Goals as goal
+
+pub invariant_of-self : goal.invariant_of-self
+invariant_of-self c = ?
