@@ -1,9 +1,10 @@
 -- Marks that a write reaches, from the front on.
-use Rattle.std.proofs.Common.{◌≡◌, ℕ, suc, ◌+◌, ◌-◌, ◌<◌, true, false, cond, nat_le, List, [], ◌∷◌, ◌++◌, length, drop, get_or, map, refl, sym, ◌∙◌, ap, arith}
+use Rattle.std.proofs.Common.{◌≡◌, ℕ, suc, ◌+◌, ◌-◌, ◌<◌, ◌≤◌, true, false, cond, nat_le, List, [], ◌∷◌, ◌++◌, length, drop, get_or, map, refl, sym, ◌∙◌, ap, arith}
 use Rattle.std.proofs.lemmas.List.{append-nil, append_assoc}
 use Rattle.nats_history.specs.declared.call.CallReply.{CallReply}
 use Rattle.nats_history.specs.declared.call.CallReply.TheVariants.{Flushed, FlushFailed, Dropped}
 use Rattle.nats_history.specs.declared.waits.Waits.{Waits}
+use Rattle.nats_history.specs.declared.waits.Waits.TheVariants as waits
 use Rattle.nats_history.specs.History.{Awaits, Tickets, flushed_by, nearer, left_by, ticket_of, ticket_in, replied, waits_dropped, queue_dropped}
 use Rattle.nats_tickets.specs.declared.flushes.Mark.{Mark}
 use Rattle.nats_tickets.specs.Kept.{Kept, awaits, tickets_of, push_all, passed, failed, dropped, pending_of, pending}
@@ -121,3 +122,12 @@ pending_more (q ∷ qs) next = omega (arith, pending_more qs next)
 
 pub pending_drop : (qs rest : List Waits) (next : Waits) → qs ≡ next ∷ rest → pending qs ≡ pending_of next + pending rest
 pending_drop qs rest next is = ap pending is
+
+pub pending_most : (qs : List Waits) → pending qs ≤ length qs
+pending_most [] = omega arith
+pending_most (q ∷ qs) = omega (arith, one q, pending_most qs)
+  where
+    one : (q : Waits) → pending_of q ≤ 1
+    one waits.Flush = omega arith
+    one waits.Request = omega arith
+    one waits.Late = omega arith

@@ -1,7 +1,8 @@
 -- Kinds of tickets, told by runs.
 use Rattle.std.proofs.Common.{◌≡◌, map, ℕ, suc, ◌+◌, ◌<◌, ◌≤◌, ◌-◌, zero, Bool, true, false, cond, nat_lt, List, [], ◌∷◌, ◌++◌, length, Option, Some, None, refl, sym, ◌∙◌, ap, subst, arith, ◌⊎◌, inl, inr}
-use Rattle.std.proofs.lemmas.Bool.{lt-ltb, le-ltb}
+use Rattle.std.proofs.lemmas.Bool.{lt-ltb, le-ltb, ltb-true}
 use Rattle.std.specs.Prelude.{slice_index_or}
+use Rattle.std.specs.List.Sorted.{IsPartitionedBy, IsPartitionPoint}
 use Rattle.nats_tables.specs.Numbers.{count_from, item_of}
 use Rattle.nats_tables.proofs.Numbers.{one_more, same_up_to, item_there, item_missing}
 use Rattle.nats_history.specs.Schedule.{is_of_request}
@@ -69,3 +70,56 @@ last_at kind (r ∷ q ∷ rs) (suc n) d is = last_at r.is_request (q ∷ rs) n d
 pub last_none : (runs : List Run) → length runs ≡ 0 → false ≡ last_kind runs
 last_none [] none = refl
 last_none (r ∷ rs) none = absurd (omega (arith, none))
+
+low_at : (from given j : ℕ) (d : Run) (runs : List Run) → Runs from given runs → j < length runs → from ≤ (slice_index_or runs j d).before
+low_at from given j d [] sound less = absurd (omega (arith, less))
+low_at from given zero d (r ∷ rs) sound less = sound.0
+low_at from given (suc j) d (r ∷ rs) sound less =
+    omega (arith, sound.0, low_at r.before given j d rs sound.2 (omega (arith, less)))
+
+lower : (a b s : ℕ) → a ≤ b → nat_lt b s ≡ true → nat_lt a s ≡ true
+lower a b s fits less = let here = ltb-true b s less in lt-ltb a s (omega (arith, fits, here))
+
+-- a run that begins before a ticket comes before those that don't
+pub parted : (from given s : ℕ) (runs : List Run) → Runs from given runs → IsPartitionedBy (λ r. nat_lt r.before s) runs
+parted from given s [] sound i j d order less is = absurd (omega (arith, less))
+parted from given s (r ∷ rs) sound zero zero d order less is = is
+parted from given s (r ∷ rs) sound zero (suc j) d order less is =
+    lower r.before (slice_index_or rs j d).before s (low_at r.before given j d rs sound.2 (omega (arith, less))) is
+parted from given s (r ∷ rs) sound (suc i) zero d order less is = absurd (omega (arith, order))
+parted from given s (r ∷ rs) sound (suc i) (suc j) d order less is =
+    parted r.before given s rs sound.2 i j d (omega (arith, order)) (omega (arith, less)) is
+
+-- the kind is that of the last run before the point
+kind_or : Bool → ℕ → List Run → Run → Bool
+kind_or kind zero runs d = kind
+kind_or kind (suc j) runs d = (slice_index_or runs j d).is_request
+
+at_point : (kind : Bool) (i s : ℕ) (runs : List Run) (d : Run) → ((k : ℕ) → k < i → nat_lt (slice_index_or runs k d).before s ≡ true) → ((k : ℕ) → i ≤ k → k < length runs → nat_lt (slice_index_or runs k d).before s ≡ false)
+    → i ≤ length runs → kind_or kind i runs d ≡ kind_from kind runs s
+unfolding kind_or
+at_point kind zero s [] d before behind fits = refl
+at_point kind (suc i) s [] d before behind fits = absurd (omega (arith, fits))
+at_point kind zero s (r ∷ rs) d before behind fits =
+    sym (ap (λ b. cond b (kind_from r.is_request rs s) kind) (behind 0 (omega arith) (omega arith)))
+at_point kind (suc zero) s (r ∷ rs) d before behind fits =
+    at_point r.is_request 0 s rs d (λ k less. absurd (omega (arith, less))) (λ k low less. behind (suc k) (omega (arith, low)) (omega (arith, less))) (omega arith)
+    ∙ sym (ap (λ b. cond b (kind_from r.is_request rs s) kind) (before 0 (omega arith)))
+at_point kind (suc (suc i)) s (r ∷ rs) d before behind fits =
+    at_point r.is_request (suc i) s rs d (λ k less. before (suc k) (omega (arith, less))) (λ k low less. behind (suc k) (omega (arith, low)) (omega (arith, less))) (omega (arith, fits))
+    ∙ sym (ap (λ b. cond b (kind_from r.is_request rs s) kind) (before 0 (omega arith)))
+
+pub point_first : (i s : ℕ) (runs : List Run) → i ≡ 0 → i ≤ length runs → IsPartitionPoint (λ r. nat_lt r.before s ≡ true) (λ r. nat_lt r.before s ≡ false) runs i → false ≡ kind_in runs s
+unfolding kind_or
+point_first i s runs is fits point =
+    let d : Run = record { before = 0; is_request = false } in
+    at_point false 0 s runs d (λ k less. absurd (omega (arith, less))) (λ k low less. point.1 k d (omega (arith, is)) less) (omega arith)
+
+pub point_later : (i s : ℕ) (runs : List Run) (d : Run) → (i ≡ 0 → ⊥) → i ≤ length runs → IsPartitionPoint (λ r. nat_lt r.before s ≡ true) (λ r. nat_lt r.before s ≡ false) runs i
+    → (slice_index_or runs (i - 1) d).is_request ≡ kind_in runs s
+unfolding kind_or
+point_later zero s runs d some fits point = absurd (some refl)
+point_later (suc i) s runs d some fits point =
+    let same : suc i - 1 ≡ i = omega arith in
+    ap (λ n. (slice_index_or runs n d).is_request) same
+    ∙ at_point false (suc i) s runs d (λ k less. point.0 k d (omega arith) less) (λ k low less. point.1 k d low less) fits

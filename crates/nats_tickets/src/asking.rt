@@ -64,10 +64,9 @@ impl Asking {
         ensures ok { OnOk result (self.new ≡ requests_elsewhere subject.now self.old ++ (ticket, subject.now) ∷ []) }
         ensures err { OnErr result (self.new ≡ self.old) }
     {
-        let kept = subject.copy(alloc)?;
-        let key = subject.copy(alloc)?;
-        put_last(&mut self.subjects, ticket, kept)?;
-        let note = note(&mut self.tickets, key, ticket);
+        ordered(&self.subjects);
+        put_last(&mut self.subjects, alloc, ticket, subject)?;
+        let note = note(&mut self.tickets, alloc, subject, ticket);
         match note {
             Ok(displaced) => {
                 forget_if(&mut self.subjects, displaced);
@@ -125,15 +124,16 @@ fn ordered(subjects: &BTreeMap<u64, Subject>)
 
 fn put_last(
     subjects: &mut BTreeMap<u64, Subject>,
+    alloc: Global,
     ticket: u64,
-    subject: Subject,
+    subject: &Subject,
 ) -> Result<(), NoMemory>
-    ensures ok { OnOk result (subjects.new.entries ≡ insert_entry nat_cmp subjects.old.entries ticket subject) }
-    ensures updated { OnOk result (UpdatedAt ticket (Some subject) subjects.old.entries subjects.new.entries) }
+    ensures ok { OnOk result (subjects.new.entries ≡ insert_entry nat_cmp subjects.old.entries ticket subject.now) }
+    ensures updated { OnOk result (UpdatedAt ticket (Some subject.now) subjects.old.entries subjects.new.entries) }
     ensures err { OnErr result (subjects.new.entries ≡ subjects.old.entries) }
-    ensures sorted { IsStrictlySortedBy nat_cmp (keys_of subjects.old.entries) }
 {
-    let Ok(_) = subjects.insert(ticket, subject) else {
+    let kept = subject.copy(alloc)?;
+    let Ok(_) = subjects.insert(ticket, kept) else {
         return Err(NoMemory);
     };
     Ok(())
@@ -141,15 +141,17 @@ fn put_last(
 
 fn note(
     tickets: &mut BTreeMap<Subject, u64>,
-    subject: Subject,
+    alloc: Global,
+    subject: &Subject,
     ticket: u64,
 ) -> Result<Option<u64>, NoMemory>
-    ensures earlier { IfOk result (λ earlier. earlier ≡ find subject tickets.old.entries) }
+    ensures earlier { IfOk result (λ earlier. earlier ≡ find subject.now tickets.old.entries) }
     ensures ok { OnOk result ((other : _) → find other tickets.new.entries
-        ≡ cond (is_it subject other) (Some ticket) (find other tickets.old.entries)) }
+        ≡ cond (is_it subject.now other) (Some ticket) (find other tickets.old.entries)) }
     ensures err { OnErr result (tickets.new.entries ≡ tickets.old.entries) }
 {
-    match tickets.insert(subject, ticket) {
+    let key = subject.copy(alloc)?;
+    match tickets.insert(key, ticket) {
         Ok(earlier) => Ok(earlier),
         Err(_) => Err(NoMemory),
     }

@@ -1,11 +1,11 @@
 //! Flushes that were handled, in the order of the places that settle them.
-ghost use Rattle.std.specs.Prelude.{◌≡◌, ◌≤◌, ◌+◌, [], ◌++◌, map};
+ghost use Rattle.std.specs.Prelude.{◌≡◌, ◌≤◌, ◌+◌, suc, [], ◌++◌, map, OnOk, OnErr};
 ghost use Rattle.std.specs.VecDeque.{deque_len, deque_capacity};
 ghost use Rattle.nats_history.specs.declared.call.CallReply.TheVariants as replies;
-ghost use Rattle.nats_history.specs.History.{flushed_by, left_by, replied};
+ghost use Rattle.nats_history.specs.History.{awaiting, flushed_at_once, flushed_by, left_by, replied};
 ghost use Rattle.nats_tickets.specs.Kept.{awaits, tickets_of};
 
-use nats_history::CallReply;
+use nats_history::{CallReply, NoMemory};
 use std::collections::VecDeque;
 
 /// A flush that was handled: its ticket, and the place in what its link takes that settles it.
@@ -63,3 +63,33 @@ pub fn fail_all(marks: &mut VecDeque<Mark>, ready: &mut VecDeque<(u64, CallReply
     }
 }
 
+
+/// A flush that is handled while `waiting` bytes wait awaits them, or settles where none does.
+pub fn await_bytes(
+    marks: &mut VecDeque<Mark>,
+    ready: &mut VecDeque<(u64, CallReply)>,
+    taken: u64,
+    ticket: u64,
+    waiting: u64,
+) -> Result<(), NoMemory>
+    requires { deque_len ready.old + 1 ≤ deque_capacity ready.old }
+    ensures marks { OnOk result
+        (map (awaits taken) marks.new.items ≡ map (awaits taken) marks.old.items ++ awaiting ticket waiting) }
+    ensures ready { OnOk result
+        (ready.new.items ≡ ready.old.items ++ replied replies.Flushed (flushed_at_once ticket waiting)) }
+    ensures room { OnOk result ((deque_len ready.new + deque_len marks.new ≡ suc (deque_len ready.old + deque_len marks.old))
+        × (deque_capacity ready.new ≡ deque_capacity ready.old)) }
+    ensures err { OnErr result ((marks.new.items ≡ marks.old.items) × (ready.new.items ≡ ready.old.items)
+        × (deque_len marks.new ≡ deque_len marks.old) × (deque_len ready.new ≡ deque_len ready.old)
+        × (deque_capacity ready.new ≡ deque_capacity ready.old)) }
+{
+    if waiting == 0 {
+        ready.push_back_reserved((ticket, CallReply::Flushed));
+        return Ok(());
+    }
+    let Some(end) = taken.checked_add(waiting) else {
+        return Err(NoMemory);
+    };
+    marks.push_back(Mark { ticket, end })?;
+    Ok(())
+}

@@ -58,9 +58,11 @@ fn extend(runs: &mut Vec<Run>, given: u64, is_request: bool) -> Result<(), NoMem
     Ok(())
 }
 
-fn kind_at(runs: &[Run], ticket: u64) -> bool
+fn kind_at(runs: &[Run], given: u64, ticket: u64) -> bool
+    requires { Runs 0 given runs.now }
     ensures { result ≡ kind_in runs.now ticket }
 {
+    let _given = given;
     let behind = runs.partition_point(|run| run.before < ticket);
     if behind == 0 {
         return false;
@@ -102,6 +104,6 @@ impl Kinds {
         if ticket > self.given {
             return false;
         }
-        kind_at(self.runs.as_slice(), ticket)
+        kind_at(self.runs.as_slice(), self.given, ticket)
     }
 }

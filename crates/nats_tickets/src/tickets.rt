@@ -1,5 +1,5 @@
 //! How tickets are kept: this file and those of its fields alone know.
-ghost use Rattle.std.specs.Prelude.{◌≡◌, ◌≤◌, ◌<◌, ◌+◌, ◌-◌, ◌^◌, suc, [], ◌∷◌, ◌++◌, length, drop, map, Some, OnOk, OnErr, if◌then◌else◌};
+ghost use Rattle.std.specs.Prelude.{◌≡◌, ◌≤◌, ◌+◌, ◌-◌, ◌||◌, suc, [], ◌∷◌, ◌++◌, length, drop, map, Some, OnOk, OnErr, if◌then◌else◌};
 ghost use Rattle.std.specs.VecDeque.{deque_len, deque_capacity};
 ghost use Rattle.nats_tables.specs.Numbers.{item_of, at_number};
 ghost use Rattle.nats_history.specs.declared.call.CallReply.TheVariants as replies;
@@ -10,7 +10,7 @@ ghost use Rattle.nats_history.specs.Schedule.{is_of_request};
 ghost use Rattle.nats_tickets.specs.Kept.{nothing_kept, given_one, renewed, flush_one, request_one, arrived, timed_out, passed, failed, dropped, reply_in, without, one_if, bit, pending_of, pending};
 
 use crate::asking::Asking;
-use crate::flushes::{Mark, fail_all, settle_reached};
+use crate::flushes::{Mark, await_bytes, fail_all, settle_reached};
 use crate::kinds::Kinds;
 use crate::ready::place_in;
 use nats_history::{CallReply, Message, NoMemory, Subject, Waits};
@@ -89,13 +89,21 @@ fn drop_next(ready: &mut VecDeque<(u64, CallReply)>, ticket: u64, waits: Waits)
 }
 
 /// Settles the tickets whose call waits, which follow the first ones.
-fn drop_queued(queued: &mut VecDeque<Waits>, ready: &mut VecDeque<(u64, CallReply)>, handled: u64)
-    requires numbers { handled + deque_len queued.old < 2 ^ 64 }
+fn drop_queued(
+    queued: &mut VecDeque<Waits>,
+    ready: &mut VecDeque<(u64, CallReply)>,
+    handled: u64,
+    given: u64,
+)
+    requires numbers { handled + deque_len queued.old ≡ given }
     requires room { deque_len ready.old + pending queued.old.items ≤ deque_capacity ready.old }
     ensures none { queued.new.items ≡ [] }
     ensures ready { ready.new.items ≡ ready.old.items ++ queue_dropped (suc handled) queued.old.items }
-    ensures room { deque_len ready.new ≤ deque_capacity ready.new }
+    ensures len { deque_len queued.new ≡ 0 }
+    ensures room { (others : _) → deque_len ready.old + (others + pending queued.old.items) ≤ deque_capacity ready.old
+        → deque_len ready.new + others ≤ deque_capacity ready.new }
 {
+    let _given = given;
     let mut ticket = handled;
     'queued: while let Some(waits) = queued.pop_front() {
         ticket += 1;
@@ -142,6 +150,12 @@ fn time_out_at(queued: &mut VecDeque<Waits>, place: u64) -> bool
         return false;
     }
     time_out_one(&mut queued[index])
+}
+
+fn is_either(asked: bool, waited: bool) -> bool
+    ensures { result ≡ (asked || waited) }
+{
+    asked || waited
 }
 
 /// The oldest call that waits was handled.
@@ -247,18 +261,19 @@ impl Tickets {
         ensures ok { OnOk result (self.new ≡ flush_one waiting self.old) }
         ensures err { OnErr result (self.new ≡ self.old) }
     {
-        let Some(Waits::Flush) = self.queued.front() else {
-            return Ok(());
-        };
-        let ticket = self.handled + 1;
-        if waiting == 0 {
-            self.ready.push_back_reserved((ticket, CallReply::Flushed));
-        } else {
-            let Some(end) = self.taken.checked_add(waiting) else {
-                return Err(NoMemory);
-            };
-            self.marks.push_back(Mark { ticket, end })?;
+        match self.queued.front() {
+            Some(Waits::Flush) => self.begin_flush(waiting),
+            Some(Waits::Request | Waits::Late) | None => Ok(()),
         }
+    }
+
+    fn begin_flush(&mut self, waiting: u64) -> Result<(), NoMemory>
+        requires { first self.old.tickets.queued ≡ Some waits.Flush }
+        ensures ok { OnOk result (self.new ≡ flush_one waiting self.old) }
+        ensures err { OnErr result (self.new ≡ self.old) }
+    {
+        let ticket = self.handled + 1;
+        await_bytes(&mut self.marks, &mut self.ready, self.taken, ticket, waiting)?;
         self.handled = ticket;
         pass_call(&mut self.queued);
         Ok(())
@@ -320,7 +335,8 @@ impl Tickets {
         let asked = self.asking.take_ticket(ticket);
         let place = ticket.saturating_sub(self.handled);
         let waited = time_out_at(&mut self.queued, place);
-        push_timed_out(&mut self.ready, ticket, asked || waited);
+        let unsettled = is_either(asked, waited);
+        push_timed_out(&mut self.ready, ticket, unsettled);
     }
 
     /// A new link came up, and no flush awaits bytes of it. It takes no memory.
@@ -353,7 +369,12 @@ impl Tickets {
     {
         fail_all(&mut self.marks, &mut self.ready);
         drop_asking(&mut self.asking, &mut self.ready);
-        drop_queued(&mut self.queued, &mut self.ready, self.handled);
+        drop_queued(
+            &mut self.queued,
+            &mut self.ready,
+            self.handled,
+            self.given,
+        );
         self.taken = 0;
         self.handled = self.given;
     }

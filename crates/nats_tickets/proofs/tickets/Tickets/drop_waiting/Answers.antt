@@ -10,15 +10,23 @@ use Rattle.nats_tickets.proofs.tickets.Tickets.drop_waiting.Goals as goal
 pub drop_asking-requires : goal.drop_asking-requires
 drop_asking-requires c = omega (arith, c.fail_all.ensures.room _ c.self.invariant.2)
 
-pub drop_queued-requires-clause-numbers : goal.drop_queued-requires-clause-numbers
-drop_queued-requires-clause-numbers c = ?
-
 pub drop_queued-requires-clause-room : goal.drop_queued-requires-clause-room
 drop_queued-requires-clause-room c =
-    omega (arith, c.drop_asking.ensures.room (pending c.self.inside.queued.items) (omega (arith, c.fail_all.ensures.room _ c.self.invariant.2)))
+    let pend = pending c.self.inside.queued.items in
+    let failed_room = c.fail_all.ensures.room (length c.self.inside.asking + pend) c.self.invariant.2 in
+    omega (arith, c.drop_asking.ensures.room pend (omega (arith, failed_room)))
 
 pub invariant_of-self : goal.invariant_of-self
-invariant_of-self c = ?
+invariant_of-self c =
+    let pend = pending c.self.inside.queued.items in
+    let marks = deque_len c.fail_all.new.marks in
+    let failed_room = c.fail_all.ensures.room (length c.self.inside.asking + pend) c.self.invariant.2 in
+    let asked_room = c.drop_asking.ensures.room (marks + pend) (omega (arith, failed_room)) in
+    let room = c.drop_queued.ensures.room marks asked_room in (
+      omega (arith, c.drop_queued.ensures.len),
+      subst (AllBelow c.self.inside.given) (sym c.drop_asking.ensures.none) tt,
+      omega (arith, room, ap length c.drop_asking.ensures.none, ap pending c.drop_queued.ensures.none),
+    )
 
 pub returns : goal.returns
 returns c =
