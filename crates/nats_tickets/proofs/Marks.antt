@@ -123,11 +123,11 @@ pending_more (q ∷ qs) next = omega (arith, pending_more qs next)
 pub pending_drop : (qs rest : List Waits) (next : Waits) → qs ≡ next ∷ rest → pending qs ≡ pending_of next + pending rest
 pending_drop qs rest next is = ap pending is
 
+pub pending_one : (next : Waits) → pending_of next ≤ 1
+pending_one waits.Flush = omega arith
+pending_one waits.Request = omega arith
+pending_one waits.Late = omega arith
+
 pub pending_most : (qs : List Waits) → pending qs ≤ length qs
 pending_most [] = omega arith
-pending_most (q ∷ qs) = omega (arith, one q, pending_most qs)
-  where
-    one : (q : Waits) → pending_of q ≤ 1
-    one waits.Flush = omega arith
-    one waits.Request = omega arith
-    one waits.Late = omega arith
+pending_most (q ∷ qs) = omega (arith, pending_one q, pending_most qs)

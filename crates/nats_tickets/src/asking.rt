@@ -151,10 +151,10 @@ fn note(
     ensures err { OnErr result (tickets.new.entries ≡ tickets.old.entries) }
 {
     let key = subject.copy(alloc)?;
-    match tickets.insert(key, ticket) {
-        Ok(earlier) => Ok(earlier),
-        Err(_) => Err(NoMemory),
-    }
+    let Ok(earlier) = tickets.insert(key, ticket) else {
+        return Err(NoMemory);
+    };
+    Ok(earlier)
 }
 
 fn find_out(tickets: &mut BTreeMap<Subject, u64>, subject: &Subject) -> Option<u64>
