@@ -5,7 +5,6 @@ use Rattle.std.proofs.lemmas.Bool.{false≢true}
 use Rattle.std.proofs.lemmas.Option.{none-some, same_Some}
 use Rattle.std.proofs.lemmas.Result.{on_ok_weaker}
 use Rattle.nats_names.specs.declared.event.Event.{Event}
-use Rattle.nats_header.specs.Headers.{Headers}
 use Rattle.nats_wire.specs.declared.message.Message.{Message}
 use Rattle.nats_history.specs.declared.config.Config.{Config}
 use Rattle.nats_history.specs.declared.call.Call.{Call}
@@ -384,17 +383,14 @@ flush_taken old calls kept number free a b d = (
       ∙ (ap (λ k. with_kept (old.parts.calls ++ Flush ∷ []) k old) b ∙ sym (ap (λ r. seen_all old (accepted_step r Flush)) free)),
 )
 
-request_taken : (subject payload : List ℕ) (headers : Option Headers) (token : List ℕ) → Tickets (Request subject payload headers token) waits.Request
-request_taken subject payload headers token old calls kept number free a b d = (
-  ap Numbered (d ∙ ap (λ (k : Kept). k.tickets.given) b) ∙ sym (ap (λ r. reply_by r (Numbered (suc old.parts.tickets.given))) free),
-  ap (λ cs. with_kept cs kept old) a
-      ∙ (ap (λ k. with_kept (old.parts.calls ++ Request subject payload headers token ∷ []) k old) b ∙ sym (ap (λ r. seen_all old (accepted_step r (Request subject payload headers token))) free)),
-)
-
 tickets_by : (call : Call) (next : Waits) → waits_as call ≡ Some next → Tickets call next
 tickets_by Flush next is = subst (Tickets Flush) (same_Some waits.Flush next is) flush_taken
 tickets_by (Request subject payload headers token) next is =
-    subst (Tickets (Request subject payload headers token)) (same_Some waits.Request next is) (request_taken subject payload headers token)
+    subst (Tickets (Request subject payload headers token)) (same_Some waits.Request next is) (λ old calls kept number free a b d. (
+      ap Numbered (d ∙ ap (λ (k : Kept). k.tickets.given) b) ∙ sym (ap (λ r. reply_by r (Numbered (suc old.parts.tickets.given))) free),
+      ap (λ cs. with_kept cs kept old) a
+          ∙ (ap (λ k. with_kept (old.parts.calls ++ Request subject payload headers token ∷ []) k old) b ∙ sym (ap (λ r. seen_all old (accepted_step r (Request subject payload headers token))) free)),
+    ))
 tickets_by call next is = absurd (none-some next is)
 
 -- one more call waits, and one more ticket was given

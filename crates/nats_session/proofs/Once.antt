@@ -1,7 +1,7 @@
 -- A ticket settles once, so its reply is handed out once.
 use Rattle.std.specs.Str.{bytes_eq}
 use Rattle.std.specs.Prelude.{slice_get}
-use Rattle.std.proofs.Common.{◌≡◌, ℕ, zero, suc, ◌+◌, ◌-◌, ◌≤◌, ◌<◌, Bool, true, false, cond, not, ◌&&◌, ◌||◌, ◌==◌, List, [], ◌∷◌, ◌++◌, length, map, Option, Some, None, is_some, refl, sym, ◌∙◌, ap, arith}
+use Rattle.std.proofs.Common.{◌≡◌, ℕ, zero, suc, ◌+◌, ◌-◌, ◌≤◌, ◌<◌, Bool, true, false, cond, not, ◌&&◌, ◌||◌, ◌==◌, List, [], ◌∷◌, ◌++◌, length, map, Option, Some, None, is_some, refl, sym, ◌∙◌, ap, arith, zero-add}
 use Rattle.std.proofs.lemmas.List.{append-nil, length-append, map-append}
 use Rattle.std.proofs.lemmas.Bool.{false≢true, eqb-true, eqb-false}
 use Rattle.nats_wire.specs.Operations.{Operation, message}
@@ -30,7 +30,7 @@ count k [] = 0
 count k (x ∷ xs) = cond (k == x) (suc (count k xs)) (count k xs)
 
 count_append : (k : ℕ) (xs ys : List ℕ) → count k (xs ++ ys) ≡ count k xs + count k ys
-count_append k [] ys = refl
+count_append k [] ys = sym (zero-add (count k ys))
 count_append k (x ∷ xs) ys = by (k == x) (count_append k xs ys)
   where
     by : (b : Bool) → count k (xs ++ ys) ≡ count k xs + count k ys → cond b (suc (count k (xs ++ ys))) (count k (xs ++ ys)) ≡ cond b (suc (count k xs)) (count k xs) + count k ys
@@ -76,7 +76,7 @@ count_without k ticket (x ∷ xs) e = by (ticket == x.0) refl e (count_without k
         omega (arith, one_more k x.0 (numbers_of (without ticket xs)), one_more k x.0 (numbers_of xs), later e)
 
 count_left : (k : ℕ) (out : List ℕ) (xs : Settled) → StoodThere out xs → count k out + count k (numbers_of (without_all out xs)) ≡ count k (numbers_of xs)
-count_left k [] xs there = refl
+count_left k [] xs there = zero-add (count k (numbers_of xs))
 count_left k (ticket ∷ out) xs there =
     omega (arith, one_more k ticket out, count_without k ticket (without_all out xs) there.0, count_left k out xs there.1)
 
@@ -98,12 +98,12 @@ count_taken k n (f ∷ fs) = by (reaches n f) (count_taken k n fs)
     by : (b : Bool) → count k (flushed_by n fs) + count k (map ticket_of (left_by n fs)) ≡ count k (map ticket_of fs)
         → count k (cond b (f.ticket ∷ flushed_by n fs) []) + count k (map ticket_of (cond b (left_by n fs) (map (nearer n) (f ∷ fs)))) ≡ count k (f.ticket ∷ map ticket_of fs)
     by true e = omega (arith, one_more k f.ticket (flushed_by n fs), one_more k f.ticket (map ticket_of fs), e)
-    by false e = ap (λ ts. count k (f.ticket ∷ ts)) (same_nearer n fs)
+    by false e = zero-add (count k (map ticket_of (map (nearer n) (f ∷ fs)))) ∙ ap (λ ts. count k (f.ticket ∷ ts)) (same_nearer n fs)
 
 -- a flush that is handled settles at once or awaits bytes
 count_handled : (k ticket waiting : ℕ) → count k (flushed_at_once ticket waiting) + count k (map ticket_of (awaiting ticket waiting)) ≡ count k (ticket ∷ [])
 count_handled k ticket zero = omega arith
-count_handled k ticket (suc n) = refl
+count_handled k ticket (suc n) = zero-add (count k (ticket ∷ []))
 
 -- the tickets whose call waits and that are unsettled, from a number on
 abbrev open_of : ℕ → Waits → List ℕ
@@ -164,17 +164,17 @@ late_one k n (suc i) (q ∷ qs) is =
     let further : n + suc i ≡ suc n + i = omega arith in
     omega (arith, count_append k (open_of n q) (open_from (suc n) (at_index i waits_late qs)), count_append k (open_of n q) (open_from (suc n) qs), late_one k (suc n) i qs is, ap (λ m. count k (m ∷ [])) further)
 
--- by the ticket, where so many were handled
-late_at : (k handled ticket : ℕ) (qs : List Waits) → is_waiting_request (item_of (ticket - handled) qs) ≡ true
-    → count k (open_from (suc handled) (at_number (ticket - handled) waits_late qs)) + count k (ticket ∷ []) ≡ count k (open_from (suc handled) qs)
-late_at k handled ticket qs is = by (ticket - handled) refl is
+-- by the ticket, where so many were done
+late_at : (k done ticket : ℕ) (qs : List Waits) → is_waiting_request (item_of (ticket - done) qs) ≡ true
+    → count k (open_from (suc done) (at_number (ticket - done) waits_late qs)) + count k (ticket ∷ []) ≡ count k (open_from (suc done) qs)
+late_at k done ticket qs is = by (ticket - done) refl is
   where
-    by : (d : ℕ) → ticket - handled ≡ d → is_waiting_request (item_of d qs) ≡ true
-        → count k (open_from (suc handled) (at_number d waits_late qs)) + count k (ticket ∷ []) ≡ count k (open_from (suc handled) qs)
+    by : (d : ℕ) → ticket - done ≡ d → is_waiting_request (item_of d qs) ≡ true
+        → count k (open_from (suc done) (at_number d waits_late qs)) + count k (ticket ∷ []) ≡ count k (open_from (suc done) qs)
     by zero e here = absurd (false≢true here)
     by (suc i) e here =
-        let same : suc handled + i ≡ ticket = omega (arith, e) in
-        omega (arith, late_one k (suc handled) i qs here, ap (λ m. count k (m ∷ [])) same)
+        let same : suc done + i ≡ ticket = omega (arith, e) in
+        omega (arith, late_one k (suc done) i qs here, ap (λ m. count k (m ∷ [])) same)
 
 late_at_fewer : (k n d : ℕ) (qs : List Waits) → count k (open_from n (at_number d waits_late qs)) ≤ count k (open_from n qs)
 late_at_fewer k n zero qs = omega arith
@@ -271,41 +271,41 @@ count_settled k settled reply ts =
 -- ---- a call that is handled
 
 abbrev tickets_with : ℕ → ℕ → List Bool → List Waits → List Awaits → List (ℕ × List ℕ) → Tickets
-tickets_with given handled kinds queued flushing asking =
-    record { given = given; handled = handled; of_request = kinds; queued = queued; flushing = flushing; asking = asking }
+tickets_with given done kinds queued flushing asking =
+    record { given = given; handled = done; of_request = kinds; queued = queued; flushing = flushing; asking = asking }
 
-once_flush : (k waiting : ℕ) (settled : List ℕ) (given handled : ℕ) (kinds : List Bool) (queued : List Waits) (flushing : List Awaits) (asking : List (ℕ × List ℕ))
-    → Once k settled (tickets_with given handled kinds queued flushing asking)
-    → Once k (settled ++ numbers_of (replied Flushed (flush_settled waiting (first queued) (tickets_with given handled kinds queued flushing asking)))) (flush_handled waiting (first queued) (tickets_with given handled kinds queued flushing asking))
-once_flush k waiting settled given handled kinds [] flushing asking once =
+once_flush : (k waiting : ℕ) (settled : List ℕ) (given done : ℕ) (kinds : List Bool) (queued : List Waits) (flushing : List Awaits) (asking : List (ℕ × List ℕ))
+    → Once k settled (tickets_with given done kinds queued flushing asking)
+    → Once k (settled ++ numbers_of (replied Flushed (flush_settled waiting (first queued) (tickets_with given done kinds queued flushing asking)))) (flush_handled waiting (first queued) (tickets_with given done kinds queued flushing asking))
+once_flush k waiting settled given done kinds [] flushing asking once =
     once_fewer k settled (settled ++ []) _ _ once (omega (arith, count_same k settled)) refl once.order
-once_flush k waiting settled given handled kinds (waits.Request ∷ qs) flushing asking once =
+once_flush k waiting settled given done kinds (waits.Request ∷ qs) flushing asking once =
     once_fewer k settled (settled ++ []) _ _ once (omega (arith, count_same k settled)) refl once.order
-once_flush k waiting settled given handled kinds (waits.Late ∷ qs) flushing asking once =
+once_flush k waiting settled given done kinds (waits.Late ∷ qs) flushing asking once =
     once_fewer k settled (settled ++ []) _ _ once (omega (arith, count_same k settled)) refl once.order
-once_flush k waiting settled given handled kinds (waits.Flush ∷ qs) flushing asking once =
-    let ticket = suc handled in
+once_flush k waiting settled given done kinds (waits.Flush ∷ qs) flushing asking once =
+    let ticket = suc done in
     once_fewer k settled (settled ++ numbers_of (replied Flushed (flushed_at_once ticket waiting))) _ _ once
     (omega (arith, count_settled k settled Flushed (flushed_at_once ticket waiting), ap (count k) (map-append ticket_of flushing (awaiting ticket waiting)), count_append k (map ticket_of flushing) (map ticket_of (awaiting ticket waiting)), count_handled k ticket waiting, count_next k ticket waits.Flush qs))
     refl (omega (arith, once.order))
 
-once_request : (k : ℕ) (subject settled : List ℕ) (given handled : ℕ) (kinds : List Bool) (queued : List Waits) (flushing : List Awaits) (asking : List (ℕ × List ℕ))
-    → Once k settled (tickets_with given handled kinds queued flushing asking)
-    → Once k (settled ++ numbers_of (replied_if Dropped (displaced subject (first queued) (tickets_with given handled kinds queued flushing asking)))) (request_handled subject (first queued) (tickets_with given handled kinds queued flushing asking))
-once_request k subject settled given handled kinds [] flushing asking once =
+once_request : (k : ℕ) (subject settled : List ℕ) (given done : ℕ) (kinds : List Bool) (queued : List Waits) (flushing : List Awaits) (asking : List (ℕ × List ℕ))
+    → Once k settled (tickets_with given done kinds queued flushing asking)
+    → Once k (settled ++ numbers_of (replied_if Dropped (displaced subject (first queued) (tickets_with given done kinds queued flushing asking)))) (request_handled subject (first queued) (tickets_with given done kinds queued flushing asking))
+once_request k subject settled given done kinds [] flushing asking once =
     once_fewer k settled (settled ++ []) _ _ once (omega (arith, count_same k settled)) refl once.order
-once_request k subject settled given handled kinds (waits.Flush ∷ qs) flushing asking once =
+once_request k subject settled given done kinds (waits.Flush ∷ qs) flushing asking once =
     once_fewer k settled (settled ++ []) _ _ once (omega (arith, count_same k settled)) refl once.order
-once_request k subject settled given handled kinds (waits.Late ∷ qs) flushing asking once =
+once_request k subject settled given done kinds (waits.Late ∷ qs) flushing asking once =
     let gone = numbers_of (replied_if Dropped (request_at subject asking)) in
     once_fewer k settled (settled ++ gone) _ _ once
-    (omega (arith, count_append k settled gone, count_elsewhere k Dropped subject asking, count_next k (suc handled) waits.Late qs))
+    (omega (arith, count_append k settled gone, count_elsewhere k Dropped subject asking, count_next k (suc done) waits.Late qs))
     refl (omega (arith, once.order))
-once_request k subject settled given handled kinds (waits.Request ∷ qs) flushing asking once =
+once_request k subject settled given done kinds (waits.Request ∷ qs) flushing asking once =
     let gone = numbers_of (replied_if Dropped (request_at subject asking)) in
     let rest = requests_elsewhere subject asking in
     once_fewer k settled (settled ++ gone) _ _ once
-    (omega (arith, count_append k settled gone, count_elsewhere k Dropped subject asking, count_next k (suc handled) waits.Request qs, ap (count k) (map-append ticket_in rest ((suc handled, subject) ∷ [])), count_append k (map ticket_in rest) (suc handled ∷ [])))
+    (omega (arith, count_append k settled gone, count_elsewhere k Dropped subject asking, count_next k (suc done) waits.Request qs, ap (count k) (map-append ticket_in rest ((suc done, subject) ∷ [])), count_append k (map ticket_in rest) (suc done ∷ [])))
     refl (omega (arith, once.order))
 
 once_handled : (c : Config) (k waiting : ℕ) (call : Call) (settled : List ℕ) (t : Tickets) → Once k settled t

@@ -378,16 +378,16 @@ impl ConnectionHandler {
         ensures err { OnErr result (self.new ≡ self.old) }
     {
         if sid == INBOX {
-            self.arrive(Box::into_inner(message));
+            self.arrive(message);
             return Ok(Due::Read);
         }
         self.bring_message(alloc, sid, message)
     }
 
-    fn arrive(&mut self, message: Message)
-        ensures { self.new ≡ arrived_seen message self.old }
+    fn arrive(&mut self, message: Box<Message>)
+        ensures { self.new ≡ arrived_seen message.value self.old }
     {
-        self.tickets.arrive(message);
+        self.tickets.arrive(Box::into_inner(message));
     }
 
     /// Brings a message to its subscription.
