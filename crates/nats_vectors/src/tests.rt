@@ -281,6 +281,61 @@ ticket 1 5 flush-failed
 ticket 2 waiting
 |config 2048 65536 check _INBOX MUX1
 up 1048576
+request svc T1 hi
+piece MSG%20_INBOX.MUX1.T1%200%202%0D%0Aok%0D%0A
+piece MSG%20_INBOX.MUX1.T1%200%202%0D%0Aok%0D%0A
+request svc T2 hi
+piece HMSG%20_INBOX.MUX1.T2%200%2016%2016%0D%0ANATS/1.0%20503%0D%0A%0D%0A%0D%0A
+request svc T3 hi
+request svc T3 hi
+deadline 4
+piece MSG%20_INBOX.MUX1.T3%200%202%0D%0Aok%0D%0A
+write 52
+lost
+up 1048576
+=link 1 lost
+out SUB%20_INBOX.MUX1.*%200%0D%0APUB%20svc%20_INBOX.MUX1.T1%202%0D%0Ahi%0D%0AP
+left UB%20svc%20_INBOX.MUX1.T2%202%0D%0Ahi%0D%0APUB%20svc%20_INBOX.MUX1.T3%202%0D%0Ahi%0D%0A\
+PUB%20svc%20_INBOX.MUX1.T3%202%0D%0Ahi%0D%0A
+link 2 up
+out %
+left SUB%20_INBOX.MUX1.*%200%0D%0A
+event 1 connected
+event 12 disconnected
+event 13 connected
+call 2 numbered 1
+call 5 numbered 2
+call 7 numbered 3
+call 8 numbered 4
+ticket 1 3 replied _INBOX.MUX1.T1 ~ ok ~ ~ 16 ~
+ticket 2 6 no-responders
+ticket 3 8 dropped
+ticket 4 9 timed-out
+|config 2048 65536 check _INBOX MUX1
+request svc T1 hi
+deadline 1
+up 1048576
+deadline 1
+=link 1 up
+out %
+left SUB%20_INBOX.MUX1.*%200%0D%0APUB%20svc%20_INBOX.MUX1.T1%202%0D%0Ahi%0D%0A
+event 3 connected
+call 1 numbered 1
+ticket 1 2 timed-out
+|config 2048 65536 skip a%20b M1
+up 1048576
+request svc T1 hi
+=link 1 up
+out %
+left %
+event 1 connected
+call 2 invalid-subject
+|config 2048 65536 check _INBOX MUX1
+flush
+deadline 1
+=turn 2 may not come there
+|config 2048 65536 check _INBOX MUX1
+up 1048576
 up 1048576
 =turn 2 may not come there";
 

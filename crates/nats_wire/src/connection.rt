@@ -1,5 +1,5 @@
 //! A connection to a server: bytes in, operations out; commands in, bytes out. It reads and writes nothing itself.
-ghost use Rattle.std.specs.Prelude.{◌≡◌, ◌<◌, ◌≤◌, ◌++◌, [], length, drop, OnOk, OnErr, IfOk, IfSome, nat_le};
+ghost use Rattle.std.specs.Prelude.{◌≡◌, ◌<◌, ◌≤◌, ◌++◌, [], length, take, drop, OnOk, OnErr, IfOk, IfSome, nat_le};
 ghost use Rattle.nats_wire.specs.Wire.{fresh};
 ghost use Rattle.nats_wire.specs.Operations.{front, takes_memory, is_unfinished};
 ghost use Rattle.nats_wire.specs.Commands.{command_text, command_texts, one_piece};
@@ -172,6 +172,14 @@ impl Connection {
         ensures { self.new ≡ record self.old { waiting = drop n self.old.waiting } }
     {
         self.write_buf.advance(n);
+    }
+
+    /// Takes back what was put behind the first `n` waiting bytes. It takes no memory. Own call.
+    pub fn cut(&mut self, n: usize)
+        requires { n ≤ length self.old.waiting }
+        ensures { self.new ≡ record self.old { waiting = take n self.old.waiting } }
+    {
+        self.write_buf.truncate(n);
     }
 
     /// The waiting bytes as pieces to be written in order: one, or none where nothing waits. They stay until `written`
