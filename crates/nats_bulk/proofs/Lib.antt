@@ -1,1 +1,4 @@
+mod Messages
 pub mod OneMore
+mod Opening
+mod Turns

@@ -3,9 +3,11 @@
 #![tactic(auto)]
 
 mod generated;
+mod laws;
 mod sums;
 
 pub use generated::{bulk_config, bulk_turns};
+pub use laws::in_turn;
 pub use nats_history::{Config, NoMemory, Transcript, Turn};
 pub use sums::summary;
 

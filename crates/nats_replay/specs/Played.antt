@@ -4,10 +4,9 @@ use Rattle.nats_replay.specs.declared.top.Ending.{Ending}
 use Rattle.nats_replay.specs.declared.top.Ending.TheVariants.{Transcript, Unreadable, OutOfTurn}
 use Rattle.nats_replay.specs.declared.top.Output.{Output}
 use Rattle.nats_replay.specs.declared.top.Refusal.{Refusal}
-use Rattle.nats_names.specs.declared.failed.NoMemory as wanting
 use Rattle.nats_replay.specs.declared.top.Refusal.TheVariants.{ReadFault, NoMemory, TooLong}
 use Rattle.nats_replay.specs.Outside.{Rose, RoseBy, Tally}
-use Rattle.nats_replay.specs.Words.{Prints, PrintsBulk}
+use Rattle.nats_replay.specs.Words.{Prints}
 use Rattle.nats_replay.specs.declared.whole.TheConstants.{SCRIPT_LIMIT}
 
 -- what the bytes of a script print, or why they print nothing
@@ -16,11 +15,6 @@ Comes bytes (Ok output) = Prints output.ending bytes output.text.items
 Comes bytes (Err NoMemory) = Unit {0}
 Comes bytes (Err ReadFault) = ⊥
 Comes bytes (Err TooLong) = ⊥
-
--- what so many turns that are made by a rule print, or why they print nothing
-abbrev pub BulkComes : ℕ → Result Output wanting.NoMemory → Type 0
-BulkComes n (Ok output) = PrintsBulk output.ending n output.text.items
-BulkComes n (Err e) = Unit {0}
 
 -- a source was read to its end, and what it held is short enough and is so
 abbrev pub Whole : Option (List ℕ) → Tally → Tally → (List ℕ → Type 0) → Type 0

@@ -46,13 +46,13 @@ is_status n = list_any (λ status. status == n) (0 ∷ 2 ∷ 3 ∷ 4 ∷ 5 ∷ 6
 
 -- those that come to scripts alone, those that come to lists that are made by a rule, and those to words but `run`
 abbrev pub is_status_of_run : ℕ → Bool
-is_status_of_run n = list_any (λ status. status == n) (3 ∷ 5 ∷ 8 ∷ [])
+is_status_of_run n = list_any (λ status. status == n) (3 ∷ 5 ∷ 6 ∷ 8 ∷ [])
 
 abbrev pub is_status_of_bulk : ℕ → Bool
-is_status_of_bulk n = list_any (λ status. status == n) (0 ∷ 4 ∷ 6 ∷ 7 ∷ [])
+is_status_of_bulk n = list_any (λ status. status == n) (0 ∷ 4 ∷ 7 ∷ [])
 
 abbrev pub is_status_of_others : ℕ → Bool
-is_status_of_others n = list_any (λ status. status == n) (0 ∷ 2 ∷ 4 ∷ 6 ∷ 7 ∷ [])
+is_status_of_others n = list_any (λ status. status == n) (0 ∷ 2 ∷ 4 ∷ 7 ∷ [])
 
 -- what is printed of a script whose first line that cannot be read is line k
 abbrev pub unreadable_text : ℕ → List ℕ
@@ -80,16 +80,6 @@ IsOutOfTurn bytes text = (config : Config) × (turns : List Turn) × (place : �
 abbrev pub IsSummary : ℕ → List ℕ → Type 0
 IsSummary n text = (out_of_turn bulk_config (generated n) ≡ None)
     × (text ≡ summary (n + 3) (transcript bulk_config (generated n)))
-
--- the text names the first of these turns that may not come where it stands
-abbrev pub IsBulkOutOfTurn : ℕ → List ℕ → Type 0
-IsBulkOutOfTurn n text = (place : ℕ) × (out_of_turn bulk_config (generated n) ≡ Some place) × (text ≡ out_of_turn_text place)
-
--- the text is what so many of these turns with this ending print
-abbrev pub PrintsBulk : Ending → ℕ → List ℕ → Type 0
-PrintsBulk Transcript n text = IsSummary n text
-PrintsBulk Unreadable n text = ⊥
-PrintsBulk OutOfTurn n text = IsBulkOutOfTurn n text
 
 -- the text is what a script with this ending prints
 abbrev pub Prints : Ending → List ℕ → List ℕ → Type 0

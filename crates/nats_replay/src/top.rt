@@ -13,12 +13,12 @@ ghost use Rattle.nats_script.specs.Script.{script};
 ghost use Rattle.nats_script.specs.Spelling.{field_number};
 ghost use Rattle.nats_script.specs.Printed.{printed};
 ghost use Rattle.nats_replay.specs.Outside.{Rose, RoseBy, Still, AppendsFront};
-ghost use Rattle.nats_replay.specs.Words.{run_words, in_bulk, bulk_count, IsUnknown, unknown_command, unreadable_text, out_of_turn_text, is_status, is_status_of_run, is_status_of_bulk, is_status_of_others, IsUnreadable, IsOutOfTurn, IsSummary, IsBulkOutOfTurn, Prints, PrintsBulk, IsPlayable};
-ghost use Rattle.nats_replay.specs.Played.{Comes, BulkComes, Played, status_of_ending, status_of};
+ghost use Rattle.nats_replay.specs.Words.{run_words, in_bulk, bulk_count, IsUnknown, unknown_command, unreadable_text, out_of_turn_text, is_status, is_status_of_run, is_status_of_bulk, is_status_of_others, IsUnreadable, IsOutOfTurn, IsSummary, Prints, IsPlayable};
+ghost use Rattle.nats_replay.specs.Played.{Comes, Played, status_of_ending, status_of};
 
 use crate::outside::{Sink, Source};
 use crate::whole::{ReadRefusal, SCRIPT_LIMIT, read_all, write_all};
-use nats_bulk::{bulk_config, bulk_turns, summary};
+use nats_bulk::{bulk_config, bulk_turns, in_turn, summary};
 use nats_names::NoMemory;
 use nats_script::{Script, field_number, print_transcript, push_number, read_script};
 use nats_session::{Config, RunError, Seq, Turn, run};
@@ -133,15 +133,17 @@ fn play_turns(alloc: Global, config: Config, turns: &[Turn]) -> Result<Output, R
     }
 }
 
-fn play_bulk(alloc: Global, count: u64) -> Result<Output, NoMemory>
+// Each turn of the list may come where it stands, so the list is played to its end.
+fn play_bulk(alloc: Global, count: u64) -> Result<Vec<u8>, NoMemory>
     requires { count ≤ BULK_LIMIT }
-    ensures { BulkComes count result }
+    ensures { IfOk result (λ text. IsSummary count text.items) }
 {
+    in_turn();
     let config = bulk_config(alloc)?;
     let turns = bulk_turns(alloc, count)?;
     match run(alloc, config, turns.as_slice()) {
-        Ok(transcript) => Ok(played(summary(alloc, count + 3, &transcript)?.into_bytes())),
-        Err(RunError::OutOfTurn { place }) => out_of_turn(alloc, place),
+        Ok(transcript) => Ok(summary(alloc, count + 3, &transcript)?.into_bytes()),
+        Err(RunError::OutOfTurn { place: _ }) => unreachable!(),
         Err(RunError::NoMemory) => Err(NoMemory),
     }
 }
@@ -235,10 +237,9 @@ fn answer_others<K: Sink>(alloc: Global, words: &[String], sink: &mut K) -> u8
         (text : List _) × IsSummary n text × Appends (K.written sink.old) (K.written sink.new) text }
     ensures bulk { (n : _) → bulk_count (map string_bytes words.now) ≡ Some n → IsTrue (is_status_of_bulk result) }
     ensures bulk_cut_short { (n : _) → bulk_count (map string_bytes words.now) ≡ Some n → result ≡ 4 →
-        (ending : Ending) × (text : List _) × PrintsBulk ending n text
-        × AppendsFront (K.written sink.old) (K.written sink.new) text }
-    ensures bulk_out_of_turn { (n : _) → bulk_count (map string_bytes words.now) ≡ Some n → result ≡ 6 →
-        (text : List _) × IsBulkOutOfTurn n text × Appends (K.written sink.old) (K.written sink.new) text }
+        (text : List _) × IsSummary n text × AppendsFront (K.written sink.old) (K.written sink.new) text }
+    ensures bulk_complete { (n : _) → bulk_count (map string_bytes words.now) ≡ Some n →
+        Still (K.faults sink.old) (K.faults sink.new) → (result ≡ 0) ⊎ (result ≡ 7) }
     ensures unknown { bulk_count (map string_bytes words.now) ≡ None → (result ≡ 2) ⊎ (result ≡ 4) }
     ensures unknown_only { result ≡ 2 → bulk_count (map string_bytes words.now) ≡ None }
     ensures unknown_text { result ≡ 2 → Appends (K.written sink.old) (K.written sink.new) unknown_command }
@@ -249,8 +250,8 @@ fn answer_others<K: Sink>(alloc: Global, words: &[String], sink: &mut K) -> u8
 {
     match bulk_count(words) {
         Some(count) => match play_bulk(alloc, count) {
-            Ok(Output { ending, text }) => match write_all(text.as_slice(), sink) {
-                Ok(()) => status_of_ending(ending),
+            Ok(text) => match write_all(text.as_slice(), sink) {
+                Ok(()) => DONE,
                 Err(_) => WRITE_FAULT,
             },
             Err(NoMemory) => NO_MEMORY,
@@ -265,10 +266,11 @@ fn answer_others<K: Sink>(alloc: Global, words: &[String], sink: &mut K) -> u8
 /// What the program does: where the words are the one word `run`, it reads the source whole as a script, plays its turns
 /// and prints their transcript into the sink; where they are `bulk N`, N from 1 to 1,000,000 in decimal, it plays a list of N
 /// turns that is made by a rule, behind the opening of that list, and prints what its transcript comes to in eight lines. It
-/// answers the status to exit with: 0, the transcript or the lines are printed; 2, other words, which are called unknown; 3, the source failed; 4, the sink failed; 5, a line of the script cannot be read, and
-/// `script line k` says which is the first; 6, a turn may not come where it stands, and `turn k out of turn` says which is the
-/// first; 7, want of memory; 8, more than 16,777,216 bytes. With 3, 7 and 8 nothing is printed. The words, the statuses and
-/// their order are our own choice.
+/// answers the status to exit with: 0, the transcript or the lines are printed; 2, other words, which are called unknown; 3,
+/// the source failed; 4, the sink failed; 5, a line of the script cannot be read, and `script line k` says which is the first;
+/// 6, a turn of the script may not come where it stands, and `turn k out of turn` says which is the first; 7, want of memory;
+/// 8, more than 16,777,216 bytes. With 3, 7 and 8 nothing is printed. The words, the statuses and their order are our own
+/// choice.
 pub fn replay<S: Source, K: Sink>(
     alloc: Global,
     words: &[String],
@@ -287,16 +289,15 @@ pub fn replay<S: Source, K: Sink>(
         (text : List _) × IsSummary n text × Appends (K.written sink.old) (K.written sink.new) text }
     ensures bulk { (n : _) → bulk_count (map string_bytes words.now) ≡ Some n → IsTrue (is_status_of_bulk result) }
     ensures bulk_cut_short { (n : _) → bulk_count (map string_bytes words.now) ≡ Some n → result ≡ 4 →
-        (ending : Ending) × (text : List _) × PrintsBulk ending n text
-        × AppendsFront (K.written sink.old) (K.written sink.new) text }
-    ensures bulk_out_of_turn { (n : _) → bulk_count (map string_bytes words.now) ≡ Some n → result ≡ 6 →
-        (text : List _) × IsBulkOutOfTurn n text × Appends (K.written sink.old) (K.written sink.new) text }
+        (text : List _) × IsSummary n text × AppendsFront (K.written sink.old) (K.written sink.new) text }
+    ensures bulk_complete { (n : _) → bulk_count (map string_bytes words.now) ≡ Some n →
+        Still (K.faults sink.old) (K.faults sink.new) → (result ≡ 0) ⊎ (result ≡ 7) }
     // 2: the words are no command.
     ensures unknown { IsUnknown (map string_bytes words.now) → (result ≡ 2) ⊎ (result ≡ 4) }
     ensures unknown_only { result ≡ 2 → IsUnknown (map string_bytes words.now) }
     ensures unknown_text { result ≡ 2 → Appends (K.written sink.old) (K.written sink.new) unknown_command }
     ensures unread { map string_bytes words.now ≢ run_words → source.new ≡ source.old }
-    // These come to `run` alone: 3, 5 and 8.
+    // These come to `run` alone: 3, 5, 6 and 8.
     ensures run_only { IsTrue (is_status_of_run result) → map string_bytes words.now ≡ run_words }
     // 3: the source failed.
     ensures read_fault { result ≡ 3 → Rose (S.faults source.old) (S.faults source.new) }
@@ -311,8 +312,8 @@ pub fn replay<S: Source, K: Sink>(
     ensures unreadable { result ≡ 5 → IfSome (S.left source.old) (λ bytes. (text : List _) × IsUnreadable bytes text
         × Appends (K.written sink.old) (K.written sink.new) text) }
     // 6: every line can be read, a turn may not come where it stands, and the text says which is the first.
-    ensures out_of_turn { result ≡ 6 → map string_bytes words.now ≡ run_words → IfSome (S.left source.old) (λ bytes.
-        (text : List _) × IsOutOfTurn bytes text × Appends (K.written sink.old) (K.written sink.new) text) }
+    ensures out_of_turn { result ≡ 6 → IfSome (S.left source.old) (λ bytes. (text : List _) × IsOutOfTurn bytes text
+        × Appends (K.written sink.old) (K.written sink.new) text) }
     // 8: the source held more than a script may have, and gave more.
     ensures too_long { result ≡ 8 → IfSome (S.left source.old) (λ bytes. SCRIPT_LIMIT < length bytes) }
     ensures too_much { result ≡ 8 → RoseBy (suc SCRIPT_LIMIT) (S.given source.old) (S.given source.new) }
