@@ -1,4 +1,5 @@
 pub mod Fronts
+mod JsonBack
 mod Lines
 mod Numbers
 mod Pieces
