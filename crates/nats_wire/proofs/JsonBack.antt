@@ -1,7 +1,7 @@
 -- A message is read back from its JSON.
-use Rattle.std.proofs.Common.{◌≡◌, ℕ, List, [], ◌∷◌, ◌++◌, map, fold, Option, Some, None, option_map, refl, ap, sym, subst, ◌∙◌, append_assoc, append-nil, Err}
+use Rattle.std.proofs.Common.{◌≡◌, ℕ, List, [], ◌∷◌, ◌++◌, map, Option, Some, None, option_map, refl, ap, sym, subst, ◌∙◌, append_assoc, append-nil}
 use Rattle.std.specs.Prelude.{option_and_then}
-use Rattle.serde_json.specs.Data.{Data, number, unsigned, string, array, Items}
+use Rattle.serde_json.specs.Data.{Data, number, unsigned, string}
 use Rattle.serde_json.specs.View.{items_of}
 use Rattle.nats_header.specs.Headers.{Headers}
 use Rattle.nats_header.specs.Json.{headers_in, headers_json}
