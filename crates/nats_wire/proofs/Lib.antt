@@ -1,5 +1,6 @@
 pub mod Fronts
 mod Ends
+mod JsonBack
 mod Lines
 mod Numbers
 mod Pieces
