@@ -70,5 +70,174 @@ less_room p step true is e room =
     lt-ltb (length p.link.wire.waiting) write_limit (omega (arith, more, below))
 less_room p step false is e room = absurd (false≢true e)
 
+-- ---- the link stays up
+
+-- the link is up behind all steps that are due
+abbrev StaysUp : Parts → Type 0
+StaysUp p = (after_all p (due_steps p)).link.is_up ≡ true
+
+down_due : (q : Parts) → q.link.is_up ≡ false → due q ≡ None
+down_due q e = ap (λ up. cond up (due_by (front q.link.wire.unread) q) None) e
+
+down_stays : (q : Parts) → q.link.is_up ≡ false → StaysUp q → ⊥
+down_stays q e stays =
+    false≢true (sym e ∙ (ap (λ steps. (after_all q steps).link.is_up) (sym (none_due q (down_due q e))) ∙ stays))
+
+ends_down : (q : Parts) (end : LinkWord) (b : Bool) → (after_all q (link_end end ∷ closing b)).link.is_up ≡ false
+ends_down q end true = refl
+ends_down q end false = refl
+
+stays_next : (p : Parts) (step : Step) → due p ≡ Some step → StaysUp p → StaysUp (after_all p (chain p step))
+stays_next p step e stays =
+    let q = after_all p (chain p step) in
+    ap (λ (r : Parts). r.link.is_up) (sym (after_append (chain p step) (due_steps q) p))
+    ∙ (ap (λ steps. (after_all p steps).link.is_up) (sym (one_due p step e)) ∙ stays)
+
+-- ---- the steps that are due when more bytes joined
+
+-- the steps that are due come with more bytes too, and then those that are due behind them with more bytes
+abbrev JoinsBy : List ℕ → Parts → List Step → Type 0
+JoinsBy more p steps =
+    (due_steps (joined_by more p) ≡ steps ++ due_steps (joined_by more (after_all p steps)))
+    × (after_all (joined_by more p) steps ≡ joined_by more (after_all p steps))
+
+abbrev Joins : List ℕ → Parts → Type 0
+Joins more p = JoinsBy more p (due_steps p)
+
+none_joins : (more : List ℕ) (p : Parts) → due p ≡ None → Joins more p
+none_joins more p e = subst (JoinsBy more p) (sym (none_due p e)) (refl, refl)
+
+-- an operation stands there while a link is up
+due_read : (p : Parts) (operation : Operation) (n : ℕ) → p.link.is_up ≡ true → front p.link.wire.unread ≡ got operation n → due p ≡ Some (read operation)
+due_read p operation n up is = ap (λ u. cond u (due_by (front p.link.wire.unread) p) None) up ∙ ap (λ f. due_by f p) is
+
+-- a read that does not end the link
+read_due : (p : Parts) (operation : Operation) (n : ℕ) → p.link.is_up ≡ true → front p.link.wire.unread ≡ got operation n → read_end p.link.pings operation ≡ None
+    → due_steps p ≡ read operation ∷ due_steps (after p (read operation))
+read_due p operation n up is goes =
+    one_due p (read operation) (due_read p operation n up is)
+    ∙ ap (λ end. (read operation ∷ ending p.drain.is_handled end) ++ due_steps (after_all (after p (read operation)) (ending p.drain.is_handled end))) goes
+
+module _ (more : List ℕ) where
+  read_goes_on : (p : Parts) (operation : Operation) (n : ℕ) → p.link.is_up ≡ true → front p.link.wire.unread ≡ got operation n → read_end p.link.pings operation ≡ None
+      → Joins more (after p (read operation)) → Joins more p
+  read_goes_on p operation n up is goes later =
+      let q = after p (read operation) in
+      let same = read_joins p operation n more is in
+      let longer = read_due (joined_by more p) operation n up (front_more p.link.wire.unread more operation n is) goes in
+      subst (JoinsBy more p) (sym (read_due p operation n up is goes)) (
+        longer ∙ (ap (λ r. read operation ∷ due_steps r) same ∙ ap (λ steps. read operation ∷ steps) later.0),
+        ap (λ r. after_all r (due_steps q)) same ∙ later.1,
+      )
+
+  joins_by : (p : Parts) → ((q : Parts) → most_due q < most_due p → NoCall q → StaysUp q → Joins more q) → NoCall p → StaysUp p → Joins more p
+  joins_by p smaller none stays = by_up p.link.is_up refl
+    where
+      by_end : (operation : Operation) (n : ℕ) (end : Option LinkWord) → p.link.is_up ≡ true → front p.link.wire.unread ≡ got operation n
+          → read_end p.link.pings operation ≡ end → Joins more p
+      by_end operation n None up is goes =
+          let d = due_read p operation n up is in
+          let q = after p (read operation) in
+          let alone : chain p (read operation) ≡ read operation ∷ [] = ap (λ end. read operation ∷ ending p.drain.is_handled end) goes in
+          let falls : most_due q < most_due p = subst (λ steps. most_due (after_all p steps) < most_due p) alone (bound_falls p (read operation) d) in
+          let waits : NoCall q = calls_wait _ _ p.calls (less_room p (read operation) p.link.is_up refl up) none in
+          let up_later : StaysUp q = subst (λ steps. StaysUp (after_all p steps)) alone (stays_next p (read operation) d stays) in
+          read_goes_on p operation n up is goes (smaller q falls waits up_later)
+      by_end operation n (Some end) up is goes =
+          let d = due_read p operation n up is in
+          let drained = p.drain.is_handled in
+          let q = after p (read operation) in
+          let last : chain p (read operation) ≡ read operation ∷ link_end end ∷ closing (closes drained end) =
+          ap (λ end. read operation ∷ ending drained end) goes
+          in
+          let up_later : StaysUp (after_all q (link_end end ∷ closing (closes drained end))) =
+          subst (λ steps. StaysUp (after_all p steps)) last (stays_next p (read operation) d stays)
+          in
+          absurd (down_stays (after_all q (link_end end ∷ closing (closes drained end))) (ends_down q end (closes drained end)) up_later)
+
+      by_front : (f : Front) → p.link.is_up ≡ true → front p.link.wire.unread ≡ f → Joins more p
+      by_front (got operation n) up is = by_end operation n (read_end p.link.pings operation) up is refl
+      by_front (fault n) up is =
+          let d : due p ≡ Some (link_end word.Fault) =
+          ap (λ u. cond u (due_by (front p.link.wire.unread) p) None) up ∙ ap (λ f. due_by f p) is
+          in
+          let closes_too = closes p.drain.is_handled word.Fault in
+          absurd (down_stays (after_all p (link_end word.Fault ∷ closing closes_too)) (ends_down p word.Fault closes_too) (stays_next p (link_end word.Fault) d stays))
+      by_front unfinished up is =
+          none_joins more p (ap (λ u. cond u (due_by (front p.link.wire.unread) p) None) up ∙ (ap (λ f. due_by f p) is ∙ none))
+
+      by_up : (up : Bool) → p.link.is_up ≡ up → Joins more p
+      by_up true e = by_front (front p.link.wire.unread) e refl
+      by_up false e = none_joins more p (down_due p e)
+
+  joins_within : (most : ℕ) (p : Parts) → most_due p ≤ most → NoCall p → StaysUp p → Joins more p
+  joins_within zero p fits none stays = joins_by p (λ q less n s. absurd (omega (arith, less, fits))) none stays
+  joins_within (suc most) p fits none stays = joins_by p (λ q less n s. joins_within most q (omega (arith, less, fits)) n s) none stays
+
+  joins : (p : Parts) → NoCall p → StaysUp p → Joins more p
+  joins p none stays = joins_within (most_due p) p (omega arith) none stays
+
+-- ---- turns over parts
+
+-- all steps of a turn
+abbrev turn_steps : Parts → Turn → List Step
+turn_steps p turn = own_steps p turn ++ due_steps (after_all p (own_steps p turn))
+
+abbrev after_steps : Parts → Turn → Parts
+after_steps p turn = after_all p (turn_steps p turn)
+
+-- all steps of some turns
+abbrev all_steps : Parts → List Turn → List Step
+all_steps p [] = []
+all_steps p (turn ∷ turns) = turn_steps p turn ++ all_steps (after_steps p turn) turns
+
+-- each turn may come where it stands
+abbrev Fit : Parts → List Turn → Type 0
+Fit p [] = Unit {0}
+Fit p (turn ∷ turns) = (is_valid_turn p turn ≡ true) × Fit (after_steps p turn) turns
+
+settled_turn : (p : Parts) (turn : Turn) → due (after_steps p turn) ≡ None
+settled_turn p turn =
+    let q = after_all p (own_steps p turn) in
+    ap due (after_append (own_steps p turn) (due_steps q) p) ∙ none_left q
+
+-- ---- what is told of steps
+
+abbrev told_on : List Step → List Step → List Step
+told_on [] told = told
+told_on (step ∷ steps) told = told_on steps (onto_unfed step told)
+
+told_append : (xs ys told : List Step) → told_on (xs ++ ys) told ≡ told_on ys (told_on xs told)
+told_append [] ys told = refl
+told_append (x ∷ xs) ys told = told_append xs ys (onto_unfed x told)
+
+unfed_put : (place : ℕ) (steps : List Step) (h : History) → unfed (put_steps place steps h) ≡ told_on steps (unfed h)
+unfed_put place [] h = refl
+unfed_put place (step ∷ steps) h = unfed_put place steps ((place, step) ∷ h)
+
+-- a turn over histories puts the steps of the turn over parts
+turn_put : (c : Config) (place : ℕ) (turn : Turn) (h : History) → after_turn c place turn h ≡ put_steps place (turn_steps (parts_of c h) turn) h
+turn_put c place turn h =
+    let own = own_steps (parts_of c h) turn in
+    same_turn c place turn h ∙ sym (put_append place own (due_steps (after_all (parts_of c h) own)) h)
+
+turn_parts : (c : Config) (place : ℕ) (turn : Turn) (h : History) → parts_of c (after_turn c place turn h) ≡ after_steps (parts_of c h) turn
+turn_parts c place turn h = ap (parts_of c) (turn_put c place turn h) ∙ parts_after_all c h place (turn_steps (parts_of c h) turn)
+
+unfed_steps : (c : Config) (place : ℕ) (turns : List Turn) (h : History) → unfed (steps_from c place turns h) ≡ told_on (all_steps (parts_of c h) turns) (unfed h)
+unfed_steps c place [] h = refl
+unfed_steps c place (turn ∷ turns) h =
+    let p = parts_of c h in
+    let more = after_turn c place turn h in
+    let here : unfed more ≡ told_on (turn_steps p turn) (unfed h) = ap unfed (turn_put c place turn h) ∙ unfed_put place (turn_steps p turn) h in
+    unfed_steps c (suc place) turns more
+    ∙ (ap (λ q. told_on (all_steps q turns) (unfed more)) (turn_parts c place turn h)
+    ∙ (ap (told_on (all_steps (after_steps p turn) turns)) here
+    ∙ sym (told_append (turn_steps p turn) (all_steps (after_steps p turn) turns) (unfed h))))
+
+valid_fit : (c : Config) (place : ℕ) (turns : List Turn) (h : History) → out_of_turn_from c place turns h ≡ None → Fit (parts_of c h) turns
+valid_fit c place [] h e = tt
+valid_fit c place (turn ∷ turns) h e = ?
+
 pub cut_anyhow : CutAnyhow
 cut_anyhow = ?
