@@ -16,7 +16,7 @@ use Rattle.nats_history.specs.declared.transcript.LinkWord.{LinkWord}
 use Rattle.nats_history.specs.declared.transcript.LinkWord.TheVariants as word
 use Rattle.nats_history.specs.History.{Step, fed, read, handled, link_end, History, texts}
 use Rattle.nats_history.specs.Parts.{Parts, parts_of}
-use Rattle.nats_history.specs.Schedule.{is_valid_turn, closes, closing, ending, read_end, chain, own_steps, due_call, due_by, due, most_due, write_limit, put_steps, after_turn, steps_from, out_of_turn_from}
+use Rattle.nats_history.specs.Schedule.{is_valid_turn, closes, closing, ending, read_end, chain, own_steps, due_call, due_by, due, most_due, write_limit, put_steps, after_turn, steps_from, steps, out_of_turn_from, out_of_turn}
 use Rattle.nats_history.specs.After.{write_all, written, commands_of, after, after_all, due_steps}
 use Rattle.nats_history.specs.Laws.{onto_piece, uncut, CutAlike, onto_unfed, unfed, CutAnyhow}
 use Rattle.nats_history.proofs.Dues.{bound_falls, none_due, one_due, after_append, none_left}
@@ -235,9 +235,118 @@ unfed_steps c place (turn ∷ turns) h =
     ∙ (ap (told_on (all_steps (after_steps p turn) turns)) here
     ∙ sym (told_append (turn_steps p turn) (all_steps (after_steps p turn) turns) (unfed h))))
 
+valid_both : (b : Bool) (later : Option ℕ) (place : ℕ) → cond b later (Some place) ≡ None → (b ≡ true) × (later ≡ None)
+valid_both true later place e = (refl, e)
+valid_both false later place e = absurd (none-some place (sym e))
+
+-- each turn of a valid list fits
 valid_fit : (c : Config) (place : ℕ) (turns : List Turn) (h : History) → out_of_turn_from c place turns h ≡ None → Fit (parts_of c h) turns
 valid_fit c place [] h e = tt
-valid_fit c place (turn ∷ turns) h e = ?
+valid_fit c place (turn ∷ turns) h e =
+    let more = after_turn c place turn h in
+    let both = valid_both (is_valid_turn (parts_of c h) turn) (out_of_turn_from c (suc place) turns more) place e in
+    (both.0, subst (λ q. Fit q turns) (turn_parts c place turn h) (valid_fit c (suc place) turns more both.1))
+
+-- ---- one cut
+
+-- where no step is due while a link is up, no call is
+no_call : (p : Parts) → p.link.is_up ≡ true → due p ≡ None → NoCall p
+no_call p up e =
+    by_front (front p.link.wire.unread) (sym (ap (λ u. cond u (due_by (front p.link.wire.unread) p) None) up) ∙ e)
+  where
+    by_front : (f : Front) → due_by f p ≡ None → NoCall p
+    by_front (got operation n) is = absurd (none-some (read operation) (sym is))
+    by_front (fault n) is = absurd (none-some (link_end word.Fault) (sym is))
+    by_front unfinished is = is
+
+-- the parts behind all steps that are due
+abbrev played : Parts → Parts
+played p = after_all p (due_steps p)
+
+-- two pieces, one after another, behind which no step is due
+module _ (p : Parts) (a b : List ℕ) (nothing : due p ≡ None) (up : p.link.is_up ≡ true) (up_later : (after_steps p (Piece a)).link.is_up ≡ true) where
+  abbrev begun : Parts
+  begun = joined_by a p
+
+  abbrev later_on : Parts
+  later_on = joined_by b (played begun)
+
+  begins : after p (fed a) ≡ begun
+  begins = fed_joins p a up
+
+  both_join : Joins b begun
+  both_join = joins b begun (no_call p up nothing) (subst StaysUp begins up_later)
+
+  whole : after p (fed (a ++ b)) ≡ joined_by b begun
+  whole = fed_joins p (a ++ b) up ∙ sym (joined_twice p a b)
+
+  then : after (after_steps p (Piece a)) (fed b) ≡ later_on
+  then = fed_joins (after_steps p (Piece a)) b up_later ∙ ap (λ q. joined_by b (played q)) begins
+
+  cut_parts : after_steps p (Piece (a ++ b)) ≡ after_steps (after_steps p (Piece a)) (Piece b)
+  cut_parts =
+      ap played whole
+      ∙ (ap (after_all (joined_by b begun)) both_join.0
+      ∙ (after_append (due_steps begun) (due_steps later_on) (joined_by b begun)
+      ∙ (ap (λ q. after_all q (due_steps later_on)) both_join.1
+      ∙ sym (ap played then))))
+
+  cut_told : (told : List Step)
+      → told_on (turn_steps p (Piece (a ++ b))) told ≡ told_on (turn_steps (after_steps p (Piece a)) (Piece b)) (told_on (turn_steps p (Piece a)) told)
+  cut_told told =
+      ap (λ q. told_on (due_steps q) told) whole
+      ∙ (ap (λ steps. told_on steps told) both_join.0
+      ∙ (told_append (due_steps begun) (due_steps later_on) told
+      ∙ (ap (λ q. told_on (due_steps later_on) (told_on (due_steps q) told)) (sym begins)
+      ∙ ap (λ q. told_on (due_steps q) (told_on (turn_steps p (Piece a)) told)) (sym then))))
+
+-- ---- any cuts
+
+-- the other turns fit there, and tell the same
+abbrev Alike : Parts → List Turn → List Turn → Type 0
+Alike p turns others = Fit p others × ((told : List Step) → told_on (all_steps p others) told ≡ told_on (all_steps p turns) told)
+
+-- turns behind one that are alike
+alike_behind : (p : Parts) (turn : Turn) (turns others : List Turn) → is_valid_turn p turn ≡ true → Alike (after_steps p turn) turns others → Alike p (turn ∷ turns) (turn ∷ others)
+alike_behind p turn turns others valid alike =
+    let q = after_steps p turn in (
+      (valid, alike.0),
+      λ told.
+          told_append (turn_steps p turn) (all_steps q others) told
+          ∙ (alike.1 (told_on (turn_steps p turn) told) ∙ sym (told_append (turn_steps p turn) (all_steps q turns) told)),
+    )
+
+onto_alike : (p : Parts) (bytes : List ℕ) (turns : List Turn) → due p ≡ None → Fit p (Piece bytes ∷ turns) → Alike p (Piece bytes ∷ turns) (onto_piece bytes turns)
+onto_alike p bytes (Piece more ∷ turns) nothing fit =
+    let first = after_steps p (Piece bytes) in
+    let q = after_steps first (Piece more) in
+    let same = cut_parts p bytes more nothing fit.0 fit.1.0 in (
+      (fit.0, subst (λ r. Fit r turns) (sym same) fit.1.1),
+      λ told.
+          told_append (turn_steps p (Piece (bytes ++ more))) (all_steps (after_steps p (Piece (bytes ++ more))) turns) told
+          ∙ (ap (λ r. told_on (all_steps r turns) (told_on (turn_steps p (Piece (bytes ++ more))) told)) same
+          ∙ (ap (told_on (all_steps q turns)) (cut_told p bytes more nothing fit.0 fit.1.0 told)
+          ∙ (sym (told_append (turn_steps first (Piece more)) (all_steps q turns) (told_on (turn_steps p (Piece bytes)) told))
+          ∙ sym (told_append (turn_steps p (Piece bytes)) (turn_steps first (Piece more) ++ all_steps q turns) told)))),
+    )
+onto_alike p bytes turns nothing fit = (fit, λ told. refl)
+
+uncut_alike : (p : Parts) (turns : List Turn) → due p ≡ None → Fit p turns → Alike p turns (uncut turns)
+uncut_alike p [] nothing fit = (tt, λ told. refl)
+uncut_alike p (Piece bytes ∷ turns) nothing fit =
+    let later = uncut_alike (after_steps p (Piece bytes)) turns (settled_turn p (Piece bytes)) fit.1 in
+    let kept = alike_behind p (Piece bytes) turns (uncut turns) fit.0 later in
+    let first = onto_alike p bytes (uncut turns) nothing kept.0 in
+    (first.0, λ told. first.1 told ∙ kept.1 told)
+uncut_alike p (turn ∷ turns) nothing fit =
+    alike_behind p turn turns (uncut turns) fit.0 (uncut_alike (after_steps p turn) turns (settled_turn p turn) fit.1)
+
+-- a valid list tells what it tells uncut
+uncut_told : (c : Config) (turns : List Turn) → out_of_turn c turns ≡ None → unfed (steps c turns) ≡ told_on (all_steps (parts_of c []) (uncut turns)) []
+uncut_told c turns valid =
+    unfed_steps c 1 turns [] ∙ sym ((uncut_alike (parts_of c []) turns refl (valid_fit c 1 turns [] valid)).1 [])
 
 pub cut_anyhow : CutAnyhow
-cut_anyhow = ?
+cut_anyhow c turns others valid valid_too alike =
+    uncut_told c turns valid
+    ∙ (ap (λ list. told_on (all_steps (parts_of c []) list) []) alike ∙ sym (uncut_told c others valid_too))
