@@ -1,12 +1,12 @@
 -- How pieces cut the bytes of a link makes no difference: what is read stays read when bytes join, and behind a turn no call is
 -- due that reading could make wait.
-use Rattle.std.proofs.Common.{◌≡◌, ℕ, zero, suc, ◌+◌, ◌≤◌, ◌<◌, Bool, true, false, cond, List, [], ◌∷◌, ◌++◌, length, nat_lt, Option, Some, None, refl, sym, ◌∙◌, ap, subst, arith}
+use Rattle.std.proofs.Common.{◌≡◌, ℕ, zero, suc, ◌≤◌, ◌<◌, Bool, true, false, cond, List, [], ◌∷◌, ◌++◌, length, nat_lt, Option, Some, None, refl, sym, ◌∙◌, ap, subst, arith}
 use Rattle.std.proofs.lemmas.Bool.{false≢true, ltb-true, lt-ltb}
-use Rattle.std.proofs.lemmas.List.{append_assoc, append-nil, length-append}
-use Rattle.std.proofs.lemmas.Option.{none-some, same_Some}
+use Rattle.std.proofs.lemmas.List.{append_assoc, length-append}
+use Rattle.std.proofs.lemmas.Option.{none-some}
 use Rattle.nats_wire.specs.declared.op.ClientOp.{ClientOp}
 use Rattle.nats_wire.specs.Laws.{IsGot}
-use Rattle.nats_wire.specs.Operations.{Operation, Front, got, unfinished, fault, front, past}
+use Rattle.nats_wire.specs.Operations.{Operation, Front, got, unfinished, fault, front}
 use Rattle.nats_wire.proofs.Fronts.{front_more, past_more}
 use Rattle.nats_history.specs.declared.config.Config.{Config}
 use Rattle.nats_history.specs.declared.call.Call.{Call}
@@ -14,11 +14,11 @@ use Rattle.nats_history.specs.declared.turn.Turn.{Turn}
 use Rattle.nats_history.specs.declared.turn.Turn.TheVariants.{Piece}
 use Rattle.nats_history.specs.declared.transcript.LinkWord.{LinkWord}
 use Rattle.nats_history.specs.declared.transcript.LinkWord.TheVariants as word
-use Rattle.nats_history.specs.History.{Step, fed, read, handled, link_end, History, texts}
+use Rattle.nats_history.specs.History.{Step, fed, read, link_end, History, texts}
 use Rattle.nats_history.specs.Parts.{Parts, parts_of}
 use Rattle.nats_history.specs.Schedule.{is_valid_turn, closes, closing, ending, read_end, chain, own_steps, due_call, due_by, due, most_due, write_limit, put_steps, after_turn, steps_from, steps, out_of_turn_from, out_of_turn}
-use Rattle.nats_history.specs.After.{write_all, written, commands_of, after, after_all, due_steps}
-use Rattle.nats_history.specs.Laws.{onto_piece, uncut, CutAlike, onto_unfed, unfed, CutAnyhow}
+use Rattle.nats_history.specs.After.{written, commands_of, after, after_all, due_steps}
+use Rattle.nats_history.specs.Laws.{onto_piece, uncut, onto_unfed, unfed, CutAnyhow}
 use Rattle.nats_history.proofs.Dues.{bound_falls, none_due, one_due, after_append, none_left}
 use Rattle.nats_history.proofs.Plays.{parts_after_all, put_append, same_turn}
 use Rattle.nats_history.proofs.Words.{written_all}
