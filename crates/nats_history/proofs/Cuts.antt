@@ -1,5 +1,5 @@
--- How pieces cut the bytes of a link makes no difference: what is read stays read when bytes join, and behind a turn no call is
--- due that reading could make wait.
+-- How pieces cut the bytes of a link makes no difference: what is read stays read when bytes join, and behind a turn no call
+-- is due that reading could make wait.
 use Rattle.std.proofs.Common.{◌≡◌, ℕ, zero, suc, ◌≤◌, ◌<◌, Bool, true, false, cond, List, [], ◌∷◌, ◌++◌, length, nat_lt, Option, Some, None, refl, sym, ◌∙◌, ap, subst, arith}
 use Rattle.std.proofs.lemmas.Bool.{false≢true, ltb-true, lt-ltb}
 use Rattle.std.proofs.lemmas.List.{append_assoc, length-append}
@@ -42,7 +42,8 @@ joined_twice p a b = ap (λ bytes. with_unread bytes p) (append_assoc p.link.wir
 read_joins : (p : Parts) (operation : Operation) (n : ℕ) (more : List ℕ) → front p.link.wire.unread ≡ got operation n
     → after (joined_by more p) (read operation) ≡ joined_by more (after p (read operation))
 read_joins p operation n more e =
-    ap (λ bytes. with_unread bytes (after p (read operation))) (past_more p.link.wire.unread more (subst IsGot (sym e) tt))
+    let stays = past_more p.link.wire.unread more (subst IsGot (sym e) tt) in
+    ap (λ bytes. with_unread bytes (after p (read operation))) stays
 
 -- ---- no call is due
 
@@ -50,7 +51,8 @@ read_joins p operation n more e =
 abbrev NoCall : Parts → Type 0
 NoCall p = due_call (nat_lt (length p.link.wire.waiting) write_limit) p.calls ≡ None
 
-calls_wait : (room less : Bool) (calls : List Call) → (less ≡ true → room ≡ true) → due_call room calls ≡ None → due_call less calls ≡ None
+calls_wait : (room less : Bool) (calls : List Call) → (less ≡ true → room ≡ true) → due_call room calls ≡ None
+    → due_call less calls ≡ None
 calls_wait room false calls imply none = refl
 calls_wait room true [] imply none = refl
 calls_wait true true (call ∷ more) imply none = none
@@ -63,7 +65,8 @@ writes_more (command ∷ more) waiting =
     omega (arith, length-append waiting (texts (command ∷ more)), ap length (written_all (command ∷ more) waiting))
 
 less_room : (p : Parts) (step : Step) (up : Bool) → p.link.is_up ≡ up → up ≡ true
-    → nat_lt (length (written up (commands_of p step) p.link.wire.waiting)) write_limit ≡ true → nat_lt (length p.link.wire.waiting) write_limit ≡ true
+    → nat_lt (length (written up (commands_of p step) p.link.wire.waiting)) write_limit ≡ true
+    → nat_lt (length p.link.wire.waiting) write_limit ≡ true
 less_room p step true is e room =
     let more = writes_more (commands_of p step) p.link.wire.waiting in
     let below = ltb-true (length (written true (commands_of p step) p.link.wire.waiting)) write_limit room in
@@ -75,6 +78,10 @@ less_room p step false is e room = absurd (false≢true e)
 -- the link is up behind all steps that are due
 abbrev StaysUp : Parts → Type 0
 StaysUp p = (after_all p (due_steps p)).link.is_up ≡ true
+
+-- what is due while a link is up
+due_up : (p : Parts) → p.link.is_up ≡ true → due p ≡ due_by (front p.link.wire.unread) p
+due_up p up = ap (λ u. cond u (due_by (front p.link.wire.unread) p) None) up
 
 down_due : (q : Parts) → q.link.is_up ≡ false → due q ≡ None
 down_due q e = ap (λ up. cond up (due_by (front q.link.wire.unread) q) None) e
@@ -108,63 +115,73 @@ none_joins : (more : List ℕ) (p : Parts) → due p ≡ None → Joins more p
 none_joins more p e = subst (JoinsBy more p) (sym (none_due p e)) (refl, refl)
 
 -- an operation stands there while a link is up
-due_read : (p : Parts) (operation : Operation) (n : ℕ) → p.link.is_up ≡ true → front p.link.wire.unread ≡ got operation n → due p ≡ Some (read operation)
-due_read p operation n up is = ap (λ u. cond u (due_by (front p.link.wire.unread) p) None) up ∙ ap (λ f. due_by f p) is
+due_read : (p : Parts) (operation : Operation) (n : ℕ) → p.link.is_up ≡ true
+    → front p.link.wire.unread ≡ got operation n → due p ≡ Some (read operation)
+due_read p operation n up is = due_up p up ∙ ap (λ f. due_by f p) is
 
 -- a read that does not end the link
-read_due : (p : Parts) (operation : Operation) (n : ℕ) → p.link.is_up ≡ true → front p.link.wire.unread ≡ got operation n → read_end p.link.pings operation ≡ None
+read_due : (p : Parts) (operation : Operation) (n : ℕ) → p.link.is_up ≡ true
+    → front p.link.wire.unread ≡ got operation n → read_end p.link.pings operation ≡ None
     → due_steps p ≡ read operation ∷ due_steps (after p (read operation))
 read_due p operation n up is goes =
+    let after_end = ending p.drain.is_handled in
     one_due p (read operation) (due_read p operation n up is)
-    ∙ ap (λ end. (read operation ∷ ending p.drain.is_handled end) ++ due_steps (after_all (after p (read operation)) (ending p.drain.is_handled end))) goes
+    ∙ ap (λ end. (read operation ∷ after_end end) ++ due_steps (after_all (after p (read operation)) (after_end end))) goes
 
 module _ (more : List ℕ) where
-  read_goes_on : (p : Parts) (operation : Operation) (n : ℕ) → p.link.is_up ≡ true → front p.link.wire.unread ≡ got operation n → read_end p.link.pings operation ≡ None
+  read_goes_on : (p : Parts) (operation : Operation) (n : ℕ) → p.link.is_up ≡ true
+      → front p.link.wire.unread ≡ got operation n → read_end p.link.pings operation ≡ None
       → Joins more (after p (read operation)) → Joins more p
   read_goes_on p operation n up is goes later =
       let q = after p (read operation) in
       let same = read_joins p operation n more is in
-      let longer = read_due (joined_by more p) operation n up (front_more p.link.wire.unread more operation n is) goes in
+      let stays = front_more p.link.wire.unread more operation n is in
+      let longer = read_due (joined_by more p) operation n up stays goes in
       subst (JoinsBy more p) (sym (read_due p operation n up is goes)) (
         longer ∙ (ap (λ r. read operation ∷ due_steps r) same ∙ ap (λ steps. read operation ∷ steps) later.0),
         ap (λ r. after_all r (due_steps q)) same ∙ later.1,
       )
 
-  joins_by : (p : Parts) → ((q : Parts) → most_due q < most_due p → NoCall q → StaysUp q → Joins more q) → NoCall p → StaysUp p → Joins more p
+  joins_by : (p : Parts) → ((q : Parts) → most_due q < most_due p → NoCall q → StaysUp q → Joins more q)
+      → NoCall p → StaysUp p → Joins more p
   joins_by p smaller none stays = by_up p.link.is_up refl
     where
-      by_end : (operation : Operation) (n : ℕ) (end : Option LinkWord) → p.link.is_up ≡ true → front p.link.wire.unread ≡ got operation n
+      by_end : (operation : Operation) (n : ℕ) (end : Option LinkWord) → p.link.is_up ≡ true
+          → front p.link.wire.unread ≡ got operation n
           → read_end p.link.pings operation ≡ end → Joins more p
       by_end operation n None up is goes =
           let d = due_read p operation n up is in
           let q = after p (read operation) in
-          let alone : chain p (read operation) ≡ read operation ∷ [] = ap (λ end. read operation ∷ ending p.drain.is_handled end) goes in
-          let falls : most_due q < most_due p = subst (λ steps. most_due (after_all p steps) < most_due p) alone (bound_falls p (read operation) d) in
+          let alone : chain p (read operation) ≡ read operation ∷ [] =
+          ap (λ end. read operation ∷ ending p.drain.is_handled end) goes
+          in
+          let falls : most_due q < most_due p =
+          subst (λ steps. most_due (after_all p steps) < most_due p) alone (bound_falls p (read operation) d)
+          in
           let waits : NoCall q = calls_wait _ _ p.calls (less_room p (read operation) p.link.is_up refl up) none in
-          let up_later : StaysUp q = subst (λ steps. StaysUp (after_all p steps)) alone (stays_next p (read operation) d stays) in
+          let up_later : StaysUp q =
+          subst (λ steps. StaysUp (after_all p steps)) alone (stays_next p (read operation) d stays)
+          in
           read_goes_on p operation n up is goes (smaller q falls waits up_later)
       by_end operation n (Some end) up is goes =
           let d = due_read p operation n up is in
           let drained = p.drain.is_handled in
           let q = after p (read operation) in
-          let last : chain p (read operation) ≡ read operation ∷ link_end end ∷ closing (closes drained end) =
-          ap (λ end. read operation ∷ ending drained end) goes
-          in
-          let up_later : StaysUp (after_all q (link_end end ∷ closing (closes drained end))) =
+          let rest = link_end end ∷ closing (closes drained end) in
+          let last : chain p (read operation) ≡ read operation ∷ rest = ap (λ end. read operation ∷ ending drained end) goes in
+          let up_later : StaysUp (after_all q rest) =
           subst (λ steps. StaysUp (after_all p steps)) last (stays_next p (read operation) d stays)
           in
-          absurd (down_stays (after_all q (link_end end ∷ closing (closes drained end))) (ends_down q end (closes drained end)) up_later)
+          absurd (down_stays (after_all q rest) (ends_down q end (closes drained end)) up_later)
 
       by_front : (f : Front) → p.link.is_up ≡ true → front p.link.wire.unread ≡ f → Joins more p
       by_front (got operation n) up is = by_end operation n (read_end p.link.pings operation) up is refl
       by_front (fault n) up is =
-          let d : due p ≡ Some (link_end word.Fault) =
-          ap (λ u. cond u (due_by (front p.link.wire.unread) p) None) up ∙ ap (λ f. due_by f p) is
-          in
-          let closes_too = closes p.drain.is_handled word.Fault in
-          absurd (down_stays (after_all p (link_end word.Fault ∷ closing closes_too)) (ends_down p word.Fault closes_too) (stays_next p (link_end word.Fault) d stays))
-      by_front unfinished up is =
-          none_joins more p (ap (λ u. cond u (due_by (front p.link.wire.unread) p) None) up ∙ (ap (λ f. due_by f p) is ∙ none))
+          let d : due p ≡ Some (link_end word.Fault) = due_up p up ∙ ap (λ f. due_by f p) is in
+          let closed_too = closes p.drain.is_handled word.Fault in
+          let rest = link_end word.Fault ∷ closing closed_too in
+          absurd (down_stays (after_all p rest) (ends_down p word.Fault closed_too) (stays_next p (link_end word.Fault) d stays))
+      by_front unfinished up is = none_joins more p (due_up p up ∙ (ap (λ f. due_by f p) is ∙ none))
 
       by_up : (up : Bool) → p.link.is_up ≡ up → Joins more p
       by_up true e = by_front (front p.link.wire.unread) e refl
@@ -172,7 +189,8 @@ module _ (more : List ℕ) where
 
   joins_within : (most : ℕ) (p : Parts) → most_due p ≤ most → NoCall p → StaysUp p → Joins more p
   joins_within zero p fits none stays = joins_by p (λ q less n s. absurd (omega (arith, less, fits))) none stays
-  joins_within (suc most) p fits none stays = joins_by p (λ q less n s. joins_within most q (omega (arith, less, fits)) n s) none stays
+  joins_within (suc most) p fits none stays =
+      joins_by p (λ q less n s. joins_within most q (omega (arith, less, fits)) n s) none stays
 
   joins : (p : Parts) → NoCall p → StaysUp p → Joins more p
   joins p none stays = joins_within (most_due p) p (omega arith) none stays
@@ -216,31 +234,39 @@ unfed_put place [] h = refl
 unfed_put place (step ∷ steps) h = unfed_put place steps ((place, step) ∷ h)
 
 -- a turn over histories puts the steps of the turn over parts
-turn_put : (c : Config) (place : ℕ) (turn : Turn) (h : History) → after_turn c place turn h ≡ put_steps place (turn_steps (parts_of c h) turn) h
+turn_put : (c : Config) (place : ℕ) (turn : Turn) (h : History)
+    → after_turn c place turn h ≡ put_steps place (turn_steps (parts_of c h) turn) h
 turn_put c place turn h =
     let own = own_steps (parts_of c h) turn in
     same_turn c place turn h ∙ sym (put_append place own (due_steps (after_all (parts_of c h) own)) h)
 
-turn_parts : (c : Config) (place : ℕ) (turn : Turn) (h : History) → parts_of c (after_turn c place turn h) ≡ after_steps (parts_of c h) turn
-turn_parts c place turn h = ap (parts_of c) (turn_put c place turn h) ∙ parts_after_all c h place (turn_steps (parts_of c h) turn)
+turn_parts : (c : Config) (place : ℕ) (turn : Turn) (h : History)
+    → parts_of c (after_turn c place turn h) ≡ after_steps (parts_of c h) turn
+turn_parts c place turn h =
+    ap (parts_of c) (turn_put c place turn h) ∙ parts_after_all c h place (turn_steps (parts_of c h) turn)
 
-unfed_steps : (c : Config) (place : ℕ) (turns : List Turn) (h : History) → unfed (steps_from c place turns h) ≡ told_on (all_steps (parts_of c h) turns) (unfed h)
+unfed_steps : (c : Config) (place : ℕ) (turns : List Turn) (h : History)
+    → unfed (steps_from c place turns h) ≡ told_on (all_steps (parts_of c h) turns) (unfed h)
 unfed_steps c place [] h = refl
 unfed_steps c place (turn ∷ turns) h =
     let p = parts_of c h in
     let more = after_turn c place turn h in
-    let here : unfed more ≡ told_on (turn_steps p turn) (unfed h) = ap unfed (turn_put c place turn h) ∙ unfed_put place (turn_steps p turn) h in
+    let here : unfed more ≡ told_on (turn_steps p turn) (unfed h) =
+    ap unfed (turn_put c place turn h) ∙ unfed_put place (turn_steps p turn) h
+    in
     unfed_steps c (suc place) turns more
     ∙ (ap (λ q. told_on (all_steps q turns) (unfed more)) (turn_parts c place turn h)
     ∙ (ap (told_on (all_steps (after_steps p turn) turns)) here
     ∙ sym (told_append (turn_steps p turn) (all_steps (after_steps p turn) turns) (unfed h))))
 
-valid_both : (b : Bool) (later : Option ℕ) (place : ℕ) → cond b later (Some place) ≡ None → (b ≡ true) × (later ≡ None)
+valid_both : (b : Bool) (later : Option ℕ) (place : ℕ) → cond b later (Some place) ≡ None
+    → (b ≡ true) × (later ≡ None)
 valid_both true later place e = (refl, e)
 valid_both false later place e = absurd (none-some place (sym e))
 
 -- each turn of a valid list fits
-valid_fit : (c : Config) (place : ℕ) (turns : List Turn) (h : History) → out_of_turn_from c place turns h ≡ None → Fit (parts_of c h) turns
+valid_fit : (c : Config) (place : ℕ) (turns : List Turn) (h : History) → out_of_turn_from c place turns h ≡ None
+    → Fit (parts_of c h) turns
 valid_fit c place [] h e = tt
 valid_fit c place (turn ∷ turns) h e =
     let more = after_turn c place turn h in
@@ -252,7 +278,7 @@ valid_fit c place (turn ∷ turns) h e =
 -- where no step is due while a link is up, no call is
 no_call : (p : Parts) → p.link.is_up ≡ true → due p ≡ None → NoCall p
 no_call p up e =
-    by_front (front p.link.wire.unread) (sym (ap (λ u. cond u (due_by (front p.link.wire.unread) p) None) up) ∙ e)
+    by_front (front p.link.wire.unread) (sym (due_up p up) ∙ e)
   where
     by_front : (f : Front) → due_by f p ≡ None → NoCall p
     by_front (got operation n) is = absurd (none-some (read operation) (sym is))
@@ -264,7 +290,8 @@ abbrev played : Parts → Parts
 played p = after_all p (due_steps p)
 
 -- two pieces, one after another, behind which no step is due
-module _ (p : Parts) (a b : List ℕ) (nothing : due p ≡ None) (up : p.link.is_up ≡ true) (up_later : (after_steps p (Piece a)).link.is_up ≡ true) where
+module _ (p : Parts) (a b : List ℕ) (nothing : due p ≡ None) (up : p.link.is_up ≡ true)
+    (up_later : (after_steps p (Piece a)).link.is_up ≡ true) where
   abbrev begun : Parts
   begun = joined_by a p
 
@@ -277,28 +304,28 @@ module _ (p : Parts) (a b : List ℕ) (nothing : due p ≡ None) (up : p.link.is
   both_join : Joins b begun
   both_join = joins b begun (no_call p up nothing) (subst StaysUp begins up_later)
 
-  whole : after p (fed (a ++ b)) ≡ joined_by b begun
-  whole = fed_joins p (a ++ b) up ∙ sym (joined_twice p a b)
+  begins_whole : after p (fed (a ++ b)) ≡ joined_by b begun
+  begins_whole = fed_joins p (a ++ b) up ∙ sym (joined_twice p a b)
 
-  then : after (after_steps p (Piece a)) (fed b) ≡ later_on
-  then = fed_joins (after_steps p (Piece a)) b up_later ∙ ap (λ q. joined_by b (played q)) begins
+  goes_on : after (after_steps p (Piece a)) (fed b) ≡ later_on
+  goes_on = fed_joins (after_steps p (Piece a)) b up_later ∙ ap (λ q. joined_by b (played q)) begins
 
   cut_parts : after_steps p (Piece (a ++ b)) ≡ after_steps (after_steps p (Piece a)) (Piece b)
   cut_parts =
-      ap played whole
+      ap played begins_whole
       ∙ (ap (after_all (joined_by b begun)) both_join.0
       ∙ (after_append (due_steps begun) (due_steps later_on) (joined_by b begun)
       ∙ (ap (λ q. after_all q (due_steps later_on)) both_join.1
-      ∙ sym (ap played then))))
+      ∙ sym (ap played goes_on))))
 
-  cut_told : (told : List Step)
-      → told_on (turn_steps p (Piece (a ++ b))) told ≡ told_on (turn_steps (after_steps p (Piece a)) (Piece b)) (told_on (turn_steps p (Piece a)) told)
+  cut_told : (told : List Step) → told_on (turn_steps p (Piece (a ++ b))) told
+      ≡ told_on (turn_steps (after_steps p (Piece a)) (Piece b)) (told_on (turn_steps p (Piece a)) told)
   cut_told told =
-      ap (λ q. told_on (due_steps q) told) whole
+      ap (λ q. told_on (due_steps q) told) begins_whole
       ∙ (ap (λ steps. told_on steps told) both_join.0
       ∙ (told_append (due_steps begun) (due_steps later_on) told
       ∙ (ap (λ q. told_on (due_steps later_on) (told_on (due_steps q) told)) (sym begins)
-      ∙ ap (λ q. told_on (due_steps q) (told_on (turn_steps p (Piece a)) told)) (sym then))))
+      ∙ ap (λ q. told_on (due_steps q) (told_on (turn_steps p (Piece a)) told)) (sym goes_on))))
 
 -- ---- any cuts
 
@@ -307,7 +334,8 @@ abbrev Alike : Parts → List Turn → List Turn → Type 0
 Alike p turns others = Fit p others × ((told : List Step) → told_on (all_steps p others) told ≡ told_on (all_steps p turns) told)
 
 -- turns behind one that are alike
-alike_behind : (p : Parts) (turn : Turn) (turns others : List Turn) → is_valid_turn p turn ≡ true → Alike (after_steps p turn) turns others → Alike p (turn ∷ turns) (turn ∷ others)
+alike_behind : (p : Parts) (turn : Turn) (turns others : List Turn) → is_valid_turn p turn ≡ true
+    → Alike (after_steps p turn) turns others → Alike p (turn ∷ turns) (turn ∷ others)
 alike_behind p turn turns others valid alike =
     let q = after_steps p turn in (
       (valid, alike.0),
@@ -316,18 +344,21 @@ alike_behind p turn turns others valid alike =
           ∙ (alike.1 (told_on (turn_steps p turn) told) ∙ sym (told_append (turn_steps p turn) (all_steps q turns) told)),
     )
 
-onto_alike : (p : Parts) (bytes : List ℕ) (turns : List Turn) → due p ≡ None → Fit p (Piece bytes ∷ turns) → Alike p (Piece bytes ∷ turns) (onto_piece bytes turns)
+onto_alike : (p : Parts) (bytes : List ℕ) (turns : List Turn) → due p ≡ None → Fit p (Piece bytes ∷ turns)
+    → Alike p (Piece bytes ∷ turns) (onto_piece bytes turns)
 onto_alike p bytes (Piece more ∷ turns) nothing fit =
     let first = after_steps p (Piece bytes) in
     let q = after_steps first (Piece more) in
+    let whole = turn_steps p (Piece (bytes ++ more)) in
+    let then = turn_steps first (Piece more) in
     let same = cut_parts p bytes more nothing fit.0 fit.1.0 in (
       (fit.0, subst (λ r. Fit r turns) (sym same) fit.1.1),
       λ told.
-          told_append (turn_steps p (Piece (bytes ++ more))) (all_steps (after_steps p (Piece (bytes ++ more))) turns) told
-          ∙ (ap (λ r. told_on (all_steps r turns) (told_on (turn_steps p (Piece (bytes ++ more))) told)) same
+          told_append whole (all_steps (after_steps p (Piece (bytes ++ more))) turns) told
+          ∙ (ap (λ r. told_on (all_steps r turns) (told_on whole told)) same
           ∙ (ap (told_on (all_steps q turns)) (cut_told p bytes more nothing fit.0 fit.1.0 told)
-          ∙ (sym (told_append (turn_steps first (Piece more)) (all_steps q turns) (told_on (turn_steps p (Piece bytes)) told))
-          ∙ sym (told_append (turn_steps p (Piece bytes)) (turn_steps first (Piece more) ++ all_steps q turns) told)))),
+          ∙ (sym (told_append then (all_steps q turns) (told_on (turn_steps p (Piece bytes)) told))
+          ∙ sym (told_append (turn_steps p (Piece bytes)) (then ++ all_steps q turns) told)))),
     )
 onto_alike p bytes turns nothing fit = (fit, λ told. refl)
 
@@ -342,7 +373,8 @@ uncut_alike p (turn ∷ turns) nothing fit =
     alike_behind p turn turns (uncut turns) fit.0 (uncut_alike (after_steps p turn) turns (settled_turn p turn) fit.1)
 
 -- a valid list tells what it tells uncut
-uncut_told : (c : Config) (turns : List Turn) → out_of_turn c turns ≡ None → unfed (steps c turns) ≡ told_on (all_steps (parts_of c []) (uncut turns)) []
+uncut_told : (c : Config) (turns : List Turn) → out_of_turn c turns ≡ None
+    → unfed (steps c turns) ≡ told_on (all_steps (parts_of c []) (uncut turns)) []
 uncut_told c turns valid =
     unfed_steps c 1 turns [] ∙ sym ((uncut_alike (parts_of c []) turns refl (valid_fit c 1 turns [] valid)).1 [])
 
