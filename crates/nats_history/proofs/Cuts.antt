@@ -1,5 +1,5 @@
--- How pieces cut the bytes of a link makes no difference: what is read stays read when bytes join, and behind a turn no call
--- is due that reading could make wait.
+-- How pieces cut the bytes of a link makes no difference: what is read stays read when bytes join, and behind a turn no
+-- call is due that reading could make wait.
 use Rattle.std.proofs.Common.{◌≡◌, ℕ, zero, suc, ◌≤◌, ◌<◌, Bool, true, false, cond, List, [], ◌∷◌, ◌++◌, length, nat_lt, Option, Some, None, refl, sym, ◌∙◌, ap, subst, arith}
 use Rattle.std.proofs.lemmas.Bool.{false≢true, ltb-true, lt-ltb}
 use Rattle.std.proofs.lemmas.List.{append_assoc, length-append}
@@ -18,7 +18,7 @@ use Rattle.nats_history.specs.History.{Step, fed, read, link_end, History, texts
 use Rattle.nats_history.specs.Parts.{Parts, parts_of}
 use Rattle.nats_history.specs.Schedule.{is_valid_turn, closes, closing, ending, read_end, chain, own_steps, due_call, due_by, due, most_due, write_limit, put_steps, after_turn, steps_from, steps, out_of_turn_from, out_of_turn}
 use Rattle.nats_history.specs.After.{written, commands_of, after, after_all, due_steps}
-use Rattle.nats_history.specs.Laws.{onto_piece, uncut, onto_unfed, unfed, CutAnyhow}
+use Rattle.nats_history.specs.Laws.{onto_piece, uncut, onto_unfed, unfed, CutAnyhow, UncutInTurn}
 use Rattle.nats_history.proofs.Dues.{bound_falls, none_due, one_due, after_append, none_left}
 use Rattle.nats_history.proofs.Plays.{parts_after_all, put_append, same_turn}
 use Rattle.nats_history.proofs.Words.{written_all}
@@ -124,9 +124,10 @@ read_due : (p : Parts) (operation : Operation) (n : ℕ) → p.link.is_up ≡ tr
     → front p.link.wire.unread ≡ got operation n → read_end p.link.pings operation ≡ None
     → due_steps p ≡ read operation ∷ due_steps (after p (read operation))
 read_due p operation n up is goes =
+    let q = after p (read operation) in
     let after_end = ending p.drain.is_handled in
     one_due p (read operation) (due_read p operation n up is)
-    ∙ ap (λ end. (read operation ∷ after_end end) ++ due_steps (after_all (after p (read operation)) (after_end end))) goes
+    ∙ ap (λ end. (read operation ∷ after_end end) ++ due_steps (after_all q (after_end end))) goes
 
 module _ (more : List ℕ) where
   read_goes_on : (p : Parts) (operation : Operation) (n : ℕ) → p.link.is_up ≡ true
@@ -168,7 +169,9 @@ module _ (more : List ℕ) where
           let drained = p.drain.is_handled in
           let q = after p (read operation) in
           let rest = link_end end ∷ closing (closes drained end) in
-          let last : chain p (read operation) ≡ read operation ∷ rest = ap (λ end. read operation ∷ ending drained end) goes in
+          let last : chain p (read operation) ≡ read operation ∷ rest =
+          ap (λ end. read operation ∷ ending drained end) goes
+          in
           let up_later : StaysUp (after_all q rest) =
           subst (λ steps. StaysUp (after_all p steps)) last (stays_next p (read operation) d stays)
           in
@@ -180,7 +183,8 @@ module _ (more : List ℕ) where
           let d : due p ≡ Some (link_end word.Fault) = due_up p up ∙ ap (λ f. due_by f p) is in
           let closed_too = closes p.drain.is_handled word.Fault in
           let rest = link_end word.Fault ∷ closing closed_too in
-          absurd (down_stays (after_all p rest) (ends_down p word.Fault closed_too) (stays_next p (link_end word.Fault) d stays))
+          let up_later : StaysUp (after_all p rest) = stays_next p (link_end word.Fault) d stays in
+          absurd (down_stays (after_all p rest) (ends_down p word.Fault closed_too) up_later)
       by_front unfinished up is = none_joins more p (due_up p up ∙ (ap (λ f. due_by f p) is ∙ none))
 
       by_up : (up : Bool) → p.link.is_up ≡ up → Joins more p
@@ -273,6 +277,15 @@ valid_fit c place (turn ∷ turns) h e =
     let both = valid_both (is_valid_turn (parts_of c h) turn) (out_of_turn_from c (suc place) turns more) place e in
     (both.0, subst (λ q. Fit q turns) (turn_parts c place turn h) (valid_fit c (suc place) turns more both.1))
 
+-- and turns that fit are a valid list
+fit_valid : (c : Config) (place : ℕ) (turns : List Turn) (h : History) → Fit (parts_of c h) turns
+    → out_of_turn_from c place turns h ≡ None
+fit_valid c place [] h fit = refl
+fit_valid c place (turn ∷ turns) h fit =
+    let more = after_turn c place turn h in
+    ap (λ b. cond b (out_of_turn_from c (suc place) turns more) (Some place)) fit.0
+    ∙ fit_valid c (suc place) turns more (subst (λ q. Fit q turns) (sym (turn_parts c place turn h)) fit.1)
+
 -- ---- one cut
 
 -- where no step is due while a link is up, no call is
@@ -331,7 +344,8 @@ module _ (p : Parts) (a b : List ℕ) (nothing : due p ≡ None) (up : p.link.is
 
 -- the other turns fit there, and tell the same
 abbrev Alike : Parts → List Turn → List Turn → Type 0
-Alike p turns others = Fit p others × ((told : List Step) → told_on (all_steps p others) told ≡ told_on (all_steps p turns) told)
+Alike p turns others =
+    Fit p others × ((told : List Step) → told_on (all_steps p others) told ≡ told_on (all_steps p turns) told)
 
 -- turns behind one that are alike
 alike_behind : (p : Parts) (turn : Turn) (turns others : List Turn) → is_valid_turn p turn ≡ true
@@ -341,7 +355,8 @@ alike_behind p turn turns others valid alike =
       (valid, alike.0),
       λ told.
           told_append (turn_steps p turn) (all_steps q others) told
-          ∙ (alike.1 (told_on (turn_steps p turn) told) ∙ sym (told_append (turn_steps p turn) (all_steps q turns) told)),
+          ∙ (alike.1 (told_on (turn_steps p turn) told)
+          ∙ sym (told_append (turn_steps p turn) (all_steps q turns) told)),
     )
 
 onto_alike : (p : Parts) (bytes : List ℕ) (turns : List Turn) → due p ≡ None → Fit p (Piece bytes ∷ turns)
@@ -382,3 +397,7 @@ pub cut_anyhow : CutAnyhow
 cut_anyhow c turns others valid valid_too alike =
     uncut_told c turns valid
     ∙ (ap (λ list. told_on (all_steps (parts_of c []) list) []) alike ∙ sym (uncut_told c others valid_too))
+
+pub uncut_in_turn : UncutInTurn
+uncut_in_turn c turns valid =
+    fit_valid c 1 (uncut turns) [] (uncut_alike (parts_of c []) turns refl (valid_fit c 1 turns [] valid)).0

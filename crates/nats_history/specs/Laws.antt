@@ -102,3 +102,7 @@ abbrev pub CutAnyhow : Type 0
 CutAnyhow =
     (c : Config) (turns others : List Turn) → out_of_turn c turns ≡ None → out_of_turn c others ≡ None → CutAlike turns others
     → unfed (steps c turns) ≡ unfed (steps c others)
+
+-- a valid list is valid uncut
+abbrev pub UncutInTurn : Type 0
+UncutInTurn = (c : Config) (turns : List Turn) → out_of_turn c turns ≡ None → out_of_turn c (uncut turns) ≡ None
