@@ -1,0 +1,5 @@
+pub mod Names
+pub mod Sound
+pub mod Sendable
+pub mod Steps
+pub mod Carried

@@ -25,7 +25,7 @@ abbrev pub IsTypedCall : Call → Type 0
 IsTypedCall (Publish m) = IsText m.subject × IsTextOrNone m.reply × AreHeadersOrNone m.headers
 IsTypedCall (Subscribe subject group) = IsText subject × IsTextOrNone group
 IsTypedCall (Limit s n) = n < 2 ^ 64
-IsTypedCall (Request subject payload headers token) = IsText subject × AreHeadersOrNone headers × IsToken token
+IsTypedCall (Request subject payload headers token) = IsText subject × IsToken token × AreHeadersOrNone headers
 IsTypedCall call = Unit {0}
 
 abbrev pub IsTypedTurn : Turn → Type 0
@@ -38,4 +38,4 @@ AreTypedTurns [] = Unit {0}
 AreTypedTurns (turn ∷ turns) = IsTypedTurn turn × AreTypedTurns turns
 
 abbrev pub IsTypedConfig : Config → Type 0
-IsTypedConfig c = IsText c.inbox_prefix × IsToken c.mux_id
+IsTypedConfig c = IsToken c.mux_id × IsText c.inbox_prefix

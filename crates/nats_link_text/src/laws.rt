@@ -2,6 +2,8 @@
 //! the law is proved where the function is.
 ghost use Rattle.nats_link_text.specs.Law.{CarriesTexts, NoSmuggling};
 
+use nats_client_text::laws::read_back;
+
 /// Each link of a transcript carries the texts of the commands of its part of the history, and nothing else, whatever the
 /// settings. With `skip_subject_validation` such a text may be read as other commands than it was written for.
 pub fn carries_texts()
@@ -14,4 +16,6 @@ pub fn carries_texts()
 /// carries another command, whoever chose it.
 pub fn no_smuggling()
     ensures { NoSmuggling }
-{}
+{
+    read_back();
+}

@@ -3,6 +3,7 @@ ghost use Rattle.std.specs.Prelude.{◌≡◌, false, IfOk};
 ghost use Rattle.nats_history.specs.Transcripts.{Plays};
 ghost use Rattle.nats_link_text.specs.Law.{ReadsSent};
 
+use crate::laws::no_smuggling;
 use crate::told::{tell_config, tell_turns};
 use nats_session::{Config, RunError, Transcript, Turn, run};
 use std::alloc::Global;
@@ -19,6 +20,7 @@ pub fn checked_run(alloc: Global, config: Config, turns: &[Turn]) -> Result<Tran
     ensures plays { Plays config turns.now result }
     ensures carries { IfOk result (λ t. config.skip_subject_validation ≡ false → ReadsSent config turns.now t) }
 {
+    no_smuggling();
     tell_config(&config);
     tell_turns(turns);
     run(alloc, config, turns)
