@@ -3,3 +3,4 @@ pub mod Sound
 pub mod Sendable
 pub mod Steps
 pub mod Carried
+pub mod Told

@@ -8,10 +8,14 @@ use nats_header::{HeaderMap, HeaderValue};
 use nats_names::{Subject, Token};
 use nats_session::{Call, Config, Turn};
 
+fn tell_text(text: &str)
+    ensures { IsText text.now }
+{}
+
 fn tell_subject(subject: &Subject)
     ensures { IsText subject.now }
 {
-    let _text = subject.as_str();
+    tell_text(subject.as_str());
 }
 
 fn tell_subject_or_none(subject: &Option<Subject>)
@@ -26,19 +30,19 @@ fn tell_subject_or_none(subject: &Option<Subject>)
 fn tell_token(token: &Token)
     ensures { IsToken token.now }
 {
-    let _text = token.as_str();
+    tell_text(token.as_str());
 }
 
 fn tell_value(value: &HeaderValue)
     ensures { IsText value.now }
 {
-    let _text = value.as_str();
+    tell_text(value.as_str());
 }
 
 fn tell_values(values: &[HeaderValue])
     ensures { AreTexts values.now }
 {
-    'value: for value in values {
+    for value in values {
         tell_value(value);
     }
 }
@@ -46,7 +50,7 @@ fn tell_values(values: &[HeaderValue])
 fn tell_headers(headers: &HeaderMap)
     ensures { AreHeaders headers.now }
 {
-    'field: for (_, values) in headers.iter() {
+    for (_, values) in headers.iter() {
         tell_values(values);
     }
 }
@@ -121,7 +125,7 @@ fn tell_turn(turn: &Turn)
 pub(crate) fn tell_turns(turns: &[Turn])
     ensures { AreTypedTurns turns.now }
 {
-    'turn: for turn in turns {
+    for turn in turns {
         tell_turn(turn);
     }
 }
