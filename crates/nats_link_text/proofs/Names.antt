@@ -1,9 +1,10 @@
 -- Names that are put together: the subjects of replies to requests may be published to where their prefix may.
-use Rattle.std.proofs.Common.{◌≡◌, ℕ, Bool, true, false, not, List, [], ◌∷◌, ◌++◌, length, refl, sym, ap, ◌∙◌, arith}
+use Rattle.std.proofs.Common.{◌≡◌, ℕ, zero, suc, ◌<◌, Bool, true, false, not, List, [], ◌∷◌, ◌++◌, length, refl, sym, ap, ◌∙◌, arith, lit<}
 use Rattle.std.specs.Prelude.{◌==◌, ◌&&◌, ◌||◌, nat_le, codes}
 use Rattle.std.specs.List.{list_all}
-use Rattle.std.specs.Str.{is_utf8, chars}
-use Rattle.std.proofs.lemmas.Str.{IsUtf8-from_is_utf8, is_utf8-from_IsUtf8, IsUtf8-append}
+use Rattle.std.specs.Str.{is_utf8, IsAscii}
+use Rattle.std.proofs.lemmas.Str.{IsUtf8-from_is_utf8, is_utf8-from_IsUtf8, IsUtf8-append, IsUtf8-from_ascii}
+use Rattle.std.proofs.lemmas.Str.Ascii.{IsAscii-nil}
 use Rattle.std.proofs.lemmas.Bool.{false≢true, eqb-true, ne_eqb}
 use Rattle.std.proofs.lemmas.List.Folds.{list_all-append}
 use Rattle.nats_names.specs.Names.{is_separator, is_nonempty, is_publishable, is_letter_or_digit, is_token}
@@ -91,13 +92,18 @@ token_part text is =
 
 -- ---- inboxes
 
+one_ascii : (b : ℕ) → b < 128 → IsAscii (b ∷ [])
+one_ascii b less zero = less
+one_ascii b less (suc i) = IsAscii-nil i
+
+one_utf8 : (b : ℕ) → b < 128 → is_utf8 (b ∷ []) ≡ true
+one_utf8 b less = is_utf8-from_IsUtf8 (b ∷ []) (IsUtf8-from_ascii (b ∷ []) (one_ascii b less))
+
 dot_part : IsPart (codes ".")
-unfolding is_utf8 chars
-dot_part = (refl, refl)
+dot_part = (one_utf8 46 (lit< tt), refl)
 
 star_part : IsPart (codes "*")
-unfolding is_utf8 chars
-star_part = (refl, refl)
+star_part = (one_utf8 42 (lit< tt), refl)
 
 inbox_name : (c : Config) → IsName c.inbox_prefix → IsToken c.mux_id → IsName (inbox c)
 inbox_name c prefix mux =

@@ -61,12 +61,9 @@ rows_fit c h sound = omega (arith, length-rows c h, given_fits c h sound)
 number_fits : (c : Config) (h : History) (s : ℕ) (test : Option Sub → Bool) → test None ≡ false → SoundHistory c h → test (item_of s (rows_of c h)) ≡ true → s < 2 ^ 64
 number_fits c h s test none sound is = by (nat_lt (given h) s) refl
   where
-    row : ℕ → Sub
-    row k = kept (sub_of (told c k h))
-
     by : (b : Bool) → nat_lt (given h) s ≡ b → s < 2 ^ 64
     by true past =
-        absurd (false≢true (sym none ∙ (ap test (sym (item_missing row (given h) s (ltb-true (given h) s past))) ∙ is)))
+        absurd (false≢true (sym none ∙ (ap test (sym (item_missing (λ k. kept (sub_of (told c k h))) (given h) s (ltb-true (given h) s past))) ∙ is)))
     by false low = omega (arith, ltb-false (given h) s low, given_fits c h sound)
 
 -- ---- calls

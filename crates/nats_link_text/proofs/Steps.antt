@@ -88,11 +88,11 @@ accepted_sound c h call tested config typed sound none =
     let subjects = goes_on (not (has_subjects c call)) _ _ none in
     let groups = goes_on (not (has_group call)) _ _ subjects.1 in
     let sizes = goes_on (nat_lt (max_payload h) (size_of call)) _ _ groups.1 in
-    let closes = goes_on (takes_no_call p) _ _ sizes.1 in
-    let numbers = goes_on (has_no_number p call) _ _ closes.1 in
+    let taken_in = goes_on (takes_no_call p) _ _ sizes.1 in
+    let room = goes_on (has_no_number p call) _ _ taken_in.1 in
     let small : size_of call < 2 ^ 64 = omega (arith, ltb-false (max_payload h) (size_of call) sizes.0, payload_fits c h sound) in
     (call_sound c call tested config typed (holds (has_subjects c call) subjects.0) (holds (has_group call) groups.0) small,
-     λ is. number_left (given h) (none_full (subscribes call) (nat_le (2 ^ 64 - 1) (given h)) (takes_ticket call) (nat_le (2 ^ 64 - 1) p.tickets.given) numbers.0 is))
+     λ is. number_left (given h) (none_full (subscribes call) (nat_le (2 ^ 64 - 1) (given h)) (takes_ticket call) (nat_le (2 ^ 64 - 1) p.tickets.given) room.0 is))
 
 -- ---- steps that follow others
 
