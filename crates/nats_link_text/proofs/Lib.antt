@@ -1,6 +1,6 @@
-pub mod Names
-pub mod Sound
-pub mod Sendable
-pub mod Steps
-pub mod Carried
-pub mod Told
+mod Names
+mod Sound
+mod Sendable
+mod Steps
+mod Carried
+mod Listed

@@ -38,9 +38,6 @@ utf8_append one other p q =
 plain_append : (one other : List ℕ) → list_all plain one ≡ true → list_all plain other ≡ true → list_all plain (one ++ other) ≡ true
 plain_append one other p q = list_all-append plain one other ∙ together (list_all plain one) (list_all plain other) p q
 
-part_append : (one other : List ℕ) → IsPart one → IsPart other → IsPart (one ++ other)
-part_append one other p q = (utf8_append one other p.0 q.0, plain_append one other p.1 q.1)
-
 off_zero : (n : ℕ) → (n ≡ 0 → ⊥) → not (n == 0) ≡ true
 off_zero n some = ap not (ne_eqb n 0 some)
 
@@ -107,8 +104,9 @@ star_part = (one_utf8 42 (lit< tt), refl)
 
 inbox_name : (c : Config) → IsName c.inbox_prefix → IsToken c.mux_id → IsName (inbox c)
 inbox_name c prefix mux =
-    name_append c.inbox_prefix (codes "." ++ c.mux_id ++ codes ".") prefix
-    (part_append (codes ".") (c.mux_id ++ codes ".") dot_part (part_append c.mux_id (codes ".") (token_part c.mux_id mux) dot_part))
+    let dotted : IsName (c.inbox_prefix ++ codes ".") = name_append c.inbox_prefix (codes ".") prefix dot_part in
+    let with_mux : IsName ((c.inbox_prefix ++ codes ".") ++ c.mux_id) = name_append (c.inbox_prefix ++ codes ".") c.mux_id dotted (token_part c.mux_id mux) in
+    name_append ((c.inbox_prefix ++ codes ".") ++ c.mux_id) (codes ".") with_mux dot_part
 
 pub reply_name : (c : Config) (token : List ℕ) → IsName c.inbox_prefix → IsToken c.mux_id → IsToken token → IsName (inbox_of c token)
 reply_name c token prefix mux is = name_append (inbox c) token (inbox_name c prefix mux) (token_part token is)

@@ -1,12 +1,15 @@
 //! What the types of settings and turns keep, told to the proof. Each function only looks.
-ghost use Rattle.std.specs.Prelude.{◌≡◌, true};
+ghost use Rattle.std.specs.Prelude.{◌<◌, ◌^◌};
 ghost use Rattle.nats_client_text.specs.Law.{AreTexts, AreHeaders, AreHeadersOrNone};
-ghost use Rattle.nats_history.specs.declared.call.Call.TheVariants as calls;
 ghost use Rattle.nats_link_text.specs.Typed.{IsText, IsTextOrNone, IsToken, IsTypedCall, IsTypedTurn, AreTypedTurns, IsTypedConfig};
 
 use nats_header::{HeaderMap, HeaderValue};
 use nats_names::{Subject, Token};
 use nats_session::{Call, Config, Turn};
+
+fn tell_number(n: u64)
+    ensures { n < 2 ^ 64 }
+{}
 
 fn tell_text(text: &str)
     ensures { IsText text.now }
@@ -80,9 +83,7 @@ fn tell_call(call: &Call)
             tell_subject(subject);
             tell_subject_or_none(queue_group);
         }
-        Call::Limit(_, n) => {
-            let _n = *n;
-        }
+        Call::Limit(_, n) => tell_number(*n),
         Call::Request {
             subject,
             headers,
@@ -106,9 +107,7 @@ fn tell_turn(turn: &Turn)
     ensures { IsTypedTurn turn.now }
 {
     match turn {
-        Turn::Up(info) => {
-            let _limit = info.max_payload;
-        }
+        Turn::Up(info) => tell_number(info.max_payload),
         Turn::Do(call) => tell_call(call),
         Turn::Piece(_)
         | Turn::Write(_)

@@ -2,11 +2,11 @@
 use Rattle.std.proofs.Common.{sym, subst, arith}
 use Rattle.std.proofs.lemmas.List.{drop_all}
 use Rattle.nats_link_text.specs.Typed.{AreTypedTurns}
-use Rattle.nats_link_text.proofs.Told.{turns_on}
+use Rattle.nats_link_text.proofs.Listed.{turns_on}
 use Rattle.nats_link_text.proofs.told.tell_turns.Goals as goal
 
-pub loop-turn-entry : goal.loop-turn-entry
-loop-turn-entry c = λ all. all
+pub loop-turn-init : goal.loop-turn-entry
+loop-turn-init c = λ all. all
 
 pub loop-turn-preserved : goal.loop-turn-preserved
 loop-turn-preserved c =

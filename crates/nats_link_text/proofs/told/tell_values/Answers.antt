@@ -2,11 +2,11 @@
 use Rattle.std.proofs.Common.{sym, subst, arith}
 use Rattle.std.proofs.lemmas.List.{drop_all}
 use Rattle.nats_client_text.specs.Law.{AreTexts}
-use Rattle.nats_link_text.proofs.Told.{values_on}
+use Rattle.nats_link_text.proofs.Listed.{values_on}
 use Rattle.nats_link_text.proofs.told.tell_values.Goals as goal
 
-pub loop-value-entry : goal.loop-value-entry
-loop-value-entry c = λ all. all
+pub loop-value-init : goal.loop-value-entry
+loop-value-init c = λ all. all
 
 pub loop-value-preserved : goal.loop-value-preserved
 loop-value-preserved c =
