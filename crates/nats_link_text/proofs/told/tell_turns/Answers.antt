@@ -5,7 +5,7 @@ use Rattle.nats_link_text.specs.Typed.{AreTypedTurns}
 use Rattle.nats_link_text.proofs.Listed.{turns_on}
 use Rattle.nats_link_text.proofs.told.tell_turns.Goals as goal
 
-pub loop-turn-init : goal.loop-turn-entry
+pub loop-turn-init : goal.loop-turn-init
 loop-turn-init c = λ all. all
 
 pub loop-turn-preserved : goal.loop-turn-preserved

@@ -5,7 +5,7 @@ use Rattle.nats_client_text.specs.Law.{AreTexts}
 use Rattle.nats_link_text.proofs.Listed.{values_on}
 use Rattle.nats_link_text.proofs.told.tell_values.Goals as goal
 
-pub loop-value-init : goal.loop-value-entry
+pub loop-value-init : goal.loop-value-init
 loop-value-init c = λ all. all
 
 pub loop-value-preserved : goal.loop-value-preserved
