@@ -1,11 +1,10 @@
 -- What links carry: the texts of their commands, which are read back.
-use Rattle.std.proofs.Common.{◌≡◌, ℕ, Bool, true, false, cond, List, [], ◌∷◌, ◌++◌, take, drop, map, Result, Ok, Err, IfOk, refl, sym, ap, ap₂, ◌∙◌, subst, take-append-drop, append_assoc}
-use Rattle.std.proofs.lemmas.List.{append-nil, map-append}
+use Rattle.std.proofs.Common.{◌≡◌, Bool, true, false, cond, List, [], ◌∷◌, ◌++◌, map, Result, Ok, Err, IfOk, refl, sym, ap, ap₂, ◌∙◌, subst, take-append-drop, append_assoc}
+use Rattle.std.proofs.lemmas.List.{map-append}
 use Rattle.nats_wire.specs.declared.op.ClientOp.{ClientOp}
 use Rattle.nats_wire.specs.Commands.{command_text, command_texts}
 use Rattle.nats_client_text.specs.Grammar.{read_of}
 use Rattle.nats_client_text.specs.Law.{ReadBack}
-use Rattle.nats_client_text.specs.declared.read.ClientRead.{ClientRead}
 use Rattle.nats_history.specs.declared.config.Config.{Config}
 use Rattle.nats_history.specs.declared.turn.Turn.{Turn}
 use Rattle.nats_history.specs.declared.transcript.LinkWord.{LinkWord}
@@ -13,7 +12,7 @@ use Rattle.nats_history.specs.declared.transcript.LinkWord.TheVariants as word
 use Rattle.nats_history.specs.declared.transcript.LinkRow.{LinkRow}
 use Rattle.nats_history.specs.declared.transcript.Transcript.{Transcript}
 use Rattle.nats_history.specs.declared.transcript.RunError.{RunError}
-use Rattle.nats_history.specs.History.{Step, opened, link_end, History, is_up, texts, text_by, link_text, taken_count}
+use Rattle.nats_history.specs.History.{opened, link_end, History, is_up, texts, text_by, link_text, taken_count}
 use Rattle.nats_history.specs.Schedule.{steps}
 use Rattle.nats_history.specs.Transcripts.{link_row, ended_links, up_link, transcript, Plays}
 use Rattle.nats_link_text.specs.Law.{carried_read, read_whole, CarriesTexts, ReadsSent, NoSmuggling}

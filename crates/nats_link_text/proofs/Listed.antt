@@ -1,5 +1,5 @@
 -- Lists whose items are told one by one.
-use Rattle.std.proofs.Common.{◌≡◌, ℕ, suc, ◌+◌, ◌<◌, List, [], ◌∷◌, length, get_or, drop, sym, ap, ◌∙◌, subst, add-one, drop-cons}
+use Rattle.std.proofs.Common.{◌≡◌, ℕ, suc, ◌+◌, ◌<◌, List, ◌∷◌, length, get_or, drop, sym, ap, ◌∙◌, subst, add-one, drop-cons}
 use Rattle.nats_header.specs.Headers.{Field, Headers}
 use Rattle.nats_client_text.specs.Law.{AreTexts, HaveTexts}
 use Rattle.nats_history.specs.declared.turn.Turn.{Turn}

@@ -7,7 +7,7 @@ use Rattle.std.proofs.lemmas.Str.{IsUtf8-from_is_utf8, is_utf8-from_IsUtf8, IsUt
 use Rattle.std.proofs.lemmas.Str.Ascii.{IsAscii-nil}
 use Rattle.std.proofs.lemmas.Bool.{false≢true, eqb-true, ne_eqb}
 use Rattle.std.proofs.lemmas.List.Folds.{list_all-append}
-use Rattle.nats_names.specs.Names.{is_separator, is_nonempty, is_publishable, is_letter_or_digit, is_token}
+use Rattle.nats_names.specs.Names.{is_separator, is_nonempty, is_letter_or_digit}
 use Rattle.nats_client_text.specs.Law.{IsName}
 use Rattle.nats_history.specs.declared.config.Config.{Config}
 use Rattle.nats_history.specs.History.{inbox, inbox_of}
@@ -47,9 +47,10 @@ nonempty_append (b ∷ bytes) other is = off_zero (length ((b ∷ bytes) ++ othe
 
 name_append : (one other : List ℕ) → IsName one → IsPart other → IsName (one ++ other)
 name_append one other p q =
-    let parts = both (is_nonempty one) (list_all plain one) p.1 in
-    (utf8_append one other p.0 q.0,
-     together (is_nonempty (one ++ other)) (list_all plain (one ++ other)) (nonempty_append one other parts.0) (plain_append one other parts.1 q.1))
+    let parts = both (is_nonempty one) (list_all plain one) p.1 in (
+      utf8_append one other p.0 q.0,
+      together (is_nonempty (one ++ other)) (list_all plain (one ++ other)) (nonempty_append one other parts.0) (plain_append one other parts.1 q.1),
+    )
 
 -- ---- tokens
 

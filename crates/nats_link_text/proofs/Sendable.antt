@@ -1,10 +1,9 @@
 -- The commands that are written after such a history may be read back.
-use Rattle.std.proofs.Common.{◌≡◌, ℕ, zero, suc, ◌+◌, ◌-◌, ◌≤◌, ◌<◌, ◌^◌, Bool, true, false, not, cond, List, [], ◌∷◌, ◌++◌, length, Option, Some, None, refl, sym, ap, ◌∙◌, arith, lit<}
-use Rattle.std.specs.Prelude.{nat_lt, codes}
+use Rattle.std.proofs.Common.{◌≡◌, ℕ, suc, ◌+◌, ◌-◌, ◌≤◌, ◌<◌, ◌^◌, Bool, true, false, not, cond, List, [], ◌∷◌, ◌++◌, length, Option, Some, None, refl, sym, ap, ◌∙◌, arith, lit<}
+use Rattle.std.specs.Prelude.{nat_lt}
 use Rattle.std.proofs.lemmas.Bool.{false≢true, ltb-true, ltb-false}
 use Rattle.nats_tables.specs.Numbers.{item_of}
 use Rattle.nats_tables.proofs.Numbers.{item_missing}
-use Rattle.nats_wire.specs.declared.message.Message.{Message}
 use Rattle.nats_wire.specs.declared.op.ClientOp.{ClientOp}
 use Rattle.nats_wire.specs.declared.op.ClientOp.TheVariants as client
 use Rattle.nats_wire.specs.Operations.{message, ping_op}
@@ -13,7 +12,7 @@ use Rattle.nats_history.specs.declared.config.Config.{Config}
 use Rattle.nats_history.specs.declared.call.Call.{Call}
 use Rattle.nats_history.specs.declared.call.Call.TheVariants.{Publish, Subscribe, Unsubscribe, Limit, Drain, DrainAll, Request, DropSub}
 use Rattle.nats_history.specs.declared.call.Interest.{Interest}
-use Rattle.nats_history.specs.History.{Step, opened, handled, read, ticked, link_end, History, is_up, requested, at_of, given, next_number, told, Sub, sub_of, is_open, listens, kept, rows_of, subscribe_command, unsubscribe_command, is_open_at, is_closing_at, commands_from, unsubscribed, inbox, inbox_of, inbox_commands, call_commands, limit_commands, subscribed_again, again, all_again}
+use Rattle.nats_history.specs.History.{Step, opened, handled, read, ticked, link_end, History, is_up, requested, at_of, given, next_number, told, Sub, sub_of, is_open, listens, kept, rows_of, subscribe_command, unsubscribe_command, is_open_at, is_closing_at, commands_from, unsubscribed, inbox_of, inbox_commands, call_commands, limit_commands, subscribed_again, again, all_again}
 use Rattle.nats_history.proofs.Refines.{length-rows}
 use Rattle.nats_link_text.specs.Sent.{commands_by, link_commands, ended_commands, up_commands, sent_commands}
 use Rattle.nats_link_text.specs.Typed.{IsTypedConfig}

@@ -1,5 +1,5 @@
 -- The steps of a list of turns: calls that were tested and accepted, and those that are handled after them.
-use Rattle.std.proofs.Common.{◌≡◌, ℕ, zero, suc, ◌+◌, ◌≤◌, ◌<◌, ◌^◌, Bool, true, false, not, cond, ◌||◌, List, [], ◌∷◌, ◌++◌, length, Option, Some, None, refl, sym, ap, subst, arith}
+use Rattle.std.proofs.Common.{◌≡◌, ℕ, zero, suc, ◌+◌, ◌<◌, ◌^◌, Bool, true, false, not, cond, ◌||◌, List, [], ◌∷◌, ◌++◌, length, Option, Some, None, refl, sym, subst, arith}
 use Rattle.std.specs.Prelude.{◌-◌, ◌&&◌, nat_lt, nat_le, min}
 use Rattle.std.specs.List.{list_all, slice_split}
 use Rattle.std.proofs.lemmas.Bool.{false≢true, ltb-false, leb-false}
@@ -22,7 +22,7 @@ use Rattle.nats_history.specs.declared.transcript.LinkWord.TheVariants as word
 use Rattle.nats_history.specs.History.{Step, opened, fed, read, ticked, taken, accepted, handled, passed, link_end, closed, History, is_up, unread, max_payload, waiting_calls, subscribes, takes_ticket, lets_go, given, ticks, is_unsettled, waiting_bytes}
 use Rattle.nats_history.specs.Parts.{Parts, parts_of}
 use Rattle.nats_history.specs.Schedule.{may_publish_to, passes, has_subjects, has_group, size_of, has_no_number, takes_no_call, refusal, take_reply, closes, closing, ending, end_after, followers, chain, accepted_step, took_step, gone_step, tick_limit, own_steps, due_call, due_by, due, most_due, put_steps, settled_within, after_turn, steps_from, steps}
-use Rattle.nats_link_text.specs.Typed.{IsText, IsTextOrNone, IsTypedCall, IsTypedTurn, AreTypedTurns, IsTypedConfig}
+use Rattle.nats_link_text.specs.Typed.{IsTextOrNone, IsTypedCall, IsTypedTurn, AreTypedTurns, IsTypedConfig}
 use Rattle.nats_link_text.proofs.Names.{both}
 use Rattle.nats_link_text.proofs.Sound.{SoundCall, AreSoundCalls, SoundStep, SoundHistory, payload_fits, waiting_sound}
 
@@ -90,9 +90,10 @@ accepted_sound c h call tested config typed sound none =
     let sizes = goes_on (nat_lt (max_payload h) (size_of call)) _ _ groups.1 in
     let taken_in = goes_on (takes_no_call p) _ _ sizes.1 in
     let room = goes_on (has_no_number p call) _ _ taken_in.1 in
-    let small : size_of call < 2 ^ 64 = omega (arith, ltb-false (max_payload h) (size_of call) sizes.0, payload_fits c h sound) in
-    (call_sound c call tested config typed (holds (has_subjects c call) subjects.0) (holds (has_group call) groups.0) small,
-     λ is. number_left (given h) (none_full (subscribes call) (nat_le (2 ^ 64 - 1) (given h)) (takes_ticket call) (nat_le (2 ^ 64 - 1) p.tickets.given) room.0 is))
+    let small : size_of call < 2 ^ 64 = omega (arith, ltb-false (max_payload h) (size_of call) sizes.0, payload_fits c h sound) in (
+      call_sound c call tested config typed (holds (has_subjects c call) subjects.0) (holds (has_group call) groups.0) small,
+      λ is. number_left (given h) (none_full (subscribes call) (nat_le (2 ^ 64 - 1) (given h)) (takes_ticket call) (nat_le (2 ^ 64 - 1) p.tickets.given) room.0 is),
+    )
 
 -- ---- steps that follow others
 

@@ -333,7 +333,7 @@ call 2 invalid-subject
 |config 2048 65536 check _INBOX MUX1
 flush
 deadline 1
-=turn 2 may not come there
+=turn 2 may not come there\
 |config 2048 65536 check _INBOX MUX1
 up 1048576
 up 1048576
