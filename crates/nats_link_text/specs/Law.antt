@@ -23,7 +23,8 @@ carried_read row = read_of (carried row)
 abbrev pub read_whole : List ClientOp → ClientRead
 read_whole ops = record { ops = map as_read ops; «end» = end.Whole }
 
--- each link of a transcript carries the texts of the commands of its part of the history and nothing else, whatever the settings
+-- each link of a transcript carries the texts of the commands of its part of the history and nothing else, whatever
+-- the settings
 abbrev pub CarriesTexts : Type 0
 CarriesTexts = (c : Config) (turns : List Turn)
     → map carried (transcript c turns).links ≡ map command_texts (sent_commands c (steps c turns))

@@ -5,8 +5,8 @@ use Rattle.nats_history.specs.declared.config.Config.{Config}
 use Rattle.nats_history.specs.declared.transcript.LinkRow.{LinkRow}
 use Rattle.nats_history.specs.History.{Step, opened, link_end, History, is_up, requested, at_of, rows_of, commands}
 
--- the commands that a step writes after a history: a call that is handled its own, a new link those that subscribe again, a PING
--- that is read its PONG, a tick its PING
+-- the commands that a step writes after a history: a call that is handled its own, a new link those that subscribe
+-- again, a PING that is read its PONG, a tick its PING
 abbrev pub commands_by : Config → History → Step → List ClientOp
 commands_by c h step = commands c (requested h) (at_of h) (rows_of c h) step
 

@@ -1,4 +1,5 @@
--- What the types of a session's settings and turns keep: any value of them has it, so it is nothing that a caller could miss.
+-- What the types of a session's settings and turns keep: any value of them has it, so it is nothing that a caller
+-- could miss.
 use Rattle.std.specs.Prelude.{◌≡◌, ℕ, ◌<◌, ◌^◌, true, List, [], ◌∷◌, Option, Some, None}
 use Rattle.std.specs.Str.{is_utf8}
 use Rattle.nats_names.specs.Names.{is_token}

@@ -6,9 +6,9 @@ use nats_client_text::{ClientRead, read_client_text};
 use nats_session::{LinkRow, NoMemory};
 use std::alloc::Global;
 
-/// The commands in all that a link carries, what it took and what waits for it as one text, and how that text ends: by the
-/// grammar of client commands, apart from how they were written. For an audit of a transcript, whatever its settings; with
-/// `checked_run` it is known beforehand. Own call.
+/// The commands in all that a link carries, what it took and what waits for it as one text, and how that text ends:
+/// by the grammar of client commands, apart from how they were written. For an audit of a transcript, whatever its
+/// settings; with `checked_run` it is known beforehand. Own call.
 ///
 /// # Errors
 ///

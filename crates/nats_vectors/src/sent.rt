@@ -52,7 +52,8 @@ fn say_unsub(out: &mut Vec<u8>, sid: u64, max: Option<u64>) -> Result<(), NoMemo
 
 // ---- commands
 
-/// Says a command: a subscription is its number, subject and group, a publish its subject, reply, header `K` and payload.
+/// Says a command: a subscription is its number, subject and group, a publish its subject, reply, header `K` and
+/// payload.
 fn say_op(out: &mut Vec<u8>, op: &ClientOp) -> Result<(), NoMemory> {
     match op {
         ClientOp::Ping => say(out, "ping"),
@@ -144,8 +145,9 @@ fn say_sent(
     }
 }
 
-/// The replies to the calls of a script, a line for each, and then what each of its links carries, as `read_link` reads it back: a
-/// line for each command, and a last one on how the text ends. Where a line of the script cannot be read, its number alone.
+/// The replies to the calls of a script, a line for each, and then what each of its links carries, as `read_link`
+/// reads it back: a line for each command, and a last one on how the text ends. Where a line of the script cannot be
+/// read, its number alone.
 pub fn sent(alloc: Global, script: &str) -> Result<Vec<u8>, NoMemory> {
     let mut out = Vec::new(alloc);
     match read_script(alloc, script.as_bytes())? {
