@@ -1,7 +1,10 @@
 //! What a user asks of a session, and what it answers.
 ghost use Rattle.std.specs.Prelude.{◌≡◌, IfOk};
 
-use nats_wire::{Bytes, HeaderMap, Message, NoMemory, OutboundMessage, Subject, Token, copy_headers, copy_subject};
+use nats_wire::{
+    Bytes, HeaderMap, Message, NoMemory, OutboundMessage, Subject, Token, copy_headers,
+    copy_subject,
+};
 use std::alloc::Global;
 
 /// What a user asks of a session.

@@ -271,7 +271,9 @@ pub fn size_of(call: &Call) -> u64
     match call {
         Call::Publish(message) => body_len(&message.headers, &message.payload),
         Call::Request {
-            payload, headers, ..
+            payload,
+            headers,
+            ..
         } => body_len(headers, payload),
         Call::Subscribe { .. }
         | Call::Unsubscribe(_)

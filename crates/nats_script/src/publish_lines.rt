@@ -1,6 +1,6 @@
 //! The lines of a script that publish or ask.
 ghost use Rattle.std.specs.Prelude.{◌≡◌, ◌∷◌, ◌<◌, [], None, Some, length, IfOk, IfSome, MatchOption, if◌then◌else◌};
-ghost use Rattle.std.specs.Option.{option_copied};
+ghost use Rattle.std.specs.Option.{option_copied, option_map};
 ghost use Rattle.nats_header.specs.Headers.{Headers};
 ghost use Rattle.nats_header.specs.Names.{is_header_name, is_header_value};
 ghost use Rattle.nats_script.specs.Spelling.{field_text};
@@ -139,6 +139,16 @@ fn front_fields(fields: Option<&[u8]>) -> Option<FrontFields<'_>>
     })
 }
 
+/// Headers that are there, maybe none of them.
+fn some_headers(headers: Option<HeaderMap>) -> Option<Option<HeaderMap>>
+    ensures { result ≡ option_map Some headers }
+{
+    match headers {
+        Some(headers) => Some(Some(headers)),
+        None => None,
+    }
+}
+
 /// The turn of the fields `S R B` and pairs of names and values.
 pub fn hpub_of(alloc: Global, fields: Option<&[u8]>) -> Result<Option<Turn>, NoMemory>
     ensures { IfOk result (λ t. t ≡ hpub_of (parts_behind 32 (option_copied fields.entry))) }
@@ -151,7 +161,7 @@ pub fn hpub_of(alloc: Global, fields: Option<&[u8]>) -> Result<Option<Turn>, NoM
         field_text(alloc, fields.subject)?,
         field_optional(alloc, fields.reply)?,
         bytes_field(alloc, fields.payload)?,
-        headers.map(Some),
+        some_headers(headers),
     ))
 }
 
@@ -200,6 +210,6 @@ pub fn hrequest_of(alloc: Global, fields: Option<&[u8]>) -> Result<Option<Turn>,
         field_text(alloc, fields.subject)?,
         field_token(alloc, fields.reply)?,
         bytes_field(alloc, fields.payload)?,
-        headers.map(Some),
+        some_headers(headers),
     ))
 }

@@ -63,7 +63,6 @@ pub fn fail_all(marks: &mut VecDeque<Mark>, ready: &mut VecDeque<(u64, CallReply
     }
 }
 
-
 /// A flush that is handled while `waiting` bytes wait awaits them, or settles where none does.
 pub fn await_bytes(
     marks: &mut VecDeque<Mark>,

@@ -22,4 +22,3 @@ pub fn place_in(ready: &VecDeque<(u64, CallReply)>, ticket: u64) -> Option<usize
     }
     None
 }
-

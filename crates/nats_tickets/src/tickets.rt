@@ -250,7 +250,8 @@ impl Tickets {
         };
         self.ready.reserve(unsettled)?;
         self.queued.reserve(1)?;
-        self.kinds.push(matches!(waits, Waits::Request | Waits::Late))?;
+        self.kinds
+            .push(matches!(waits, Waits::Request | Waits::Late))?;
         self.queued.push_back_reserved(waits);
         self.given = given;
         Ok(())
@@ -273,7 +274,13 @@ impl Tickets {
         ensures err { OnErr result (self.new ≡ self.old) }
     {
         let ticket = self.handled + 1;
-        await_bytes(&mut self.marks, &mut self.ready, self.taken, ticket, waiting)?;
+        await_bytes(
+            &mut self.marks,
+            &mut self.ready,
+            self.taken,
+            ticket,
+            waiting,
+        )?;
         self.handled = ticket;
         pass_call(&mut self.queued);
         Ok(())
@@ -369,12 +376,7 @@ impl Tickets {
     {
         fail_all(&mut self.marks, &mut self.ready);
         drop_asking(&mut self.asking, &mut self.ready);
-        drop_queued(
-            &mut self.queued,
-            &mut self.ready,
-            self.handled,
-            self.given,
-        );
+        drop_queued(&mut self.queued, &mut self.ready, self.handled, self.given);
         self.taken = 0;
         self.handled = self.given;
     }
