@@ -7,7 +7,7 @@ mod sent;
 mod words;
 
 pub use driven::{answers, transcript};
-pub use sent::sent;
+pub use sent::carried;
 
 #[cfg(test)]
 mod tests;

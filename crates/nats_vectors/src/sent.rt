@@ -148,7 +148,7 @@ fn say_sent(
 /// The replies to the calls of a script, a line for each, and then what each of its links carries, as `read_link`
 /// reads it back: a line for each command, and a last one on how the text ends. Where a line of the script cannot be
 /// read, its number alone.
-pub fn sent(alloc: Global, script: &str) -> Result<Vec<u8>, NoMemory> {
+pub fn carried(alloc: Global, script: &str) -> Result<Vec<u8>, NoMemory> {
     let mut out = Vec::new(alloc);
     match read_script(alloc, script.as_bytes())? {
         Script::Good { config, turns } => say_sent(alloc, &mut out, config, turns.as_slice())?,

@@ -1,4 +1,4 @@
-use crate::{answers, sent, transcript};
+use crate::{answers, carried, transcript};
 use std::test::Fail;
 
 /// Scripts, and what a session answers to each, behind a `=`.
@@ -473,7 +473,7 @@ fn links_carry_the_accepted_commands_alone(rt: HostRuntime) -> Result<(), Fail> 
     for row in HOSTILE.split('|') {
         let (script, want) = row.split_once('=').ok_or("no commands")?;
         assert_eq!(rt;
-            sent(rt.alloc(), script)?.as_slice(),
+            carried(rt.alloc(), script)?.as_slice(),
             want.as_bytes(),
             "{script}"
         );
