@@ -71,9 +71,9 @@ impl Rounds for Pool {
 
     ghost takes_round = { pool_takes };
 
-    ghost begins_round = { pool_begins (λ f servers info named. ChoiceBox.post f.f servers info named) };
+    ghost begins_round = { λ last a b chosen begins. pool_begins _ last a b chosen begins };
 
-    ghost hands_round = { pool_hands (λ f n ms. DelayBox.post f.f n ms) };
+    ghost hands_round = { λ a b next hands. pool_hands _ a b next hands };
 
     ghost counts_round = { pool_counts };
 
