@@ -78,8 +78,8 @@ module _ {P : Type 0} (Takes : P → P → List (List ℕ) → Result (Unit {0})
         let heard = subst (λ (s : Stage). Heard Offers name no_echo s t.unread wrote text) at line.heard in
         let had = subst (λ (s : Stage). HasTook Takes s p q) at took in
         let same = is ∙ ap (λ (s : Stage). finished s t.unread) at in
-        let info_is = ap (info_or info) same in
-        let rest_is = ap (rest_or t.unread) same in
+        let info_is : ended.0 ≡ info = ap (info_or info) same in
+        let rest_is : ended.1.items ≡ t.unread = ap (rest_or t.unread) same in
         rw (info_is, rest_is) (
           record {
             text = text;
