@@ -57,11 +57,11 @@ fresh_line Offers name no_echo addr timeout start t r w is fresh = rw is (record
   no_write_faults = fresh.no_write_faults;
 })
 
-info_or : ServerInfo → Option (ServerInfo × List ℕ) → ServerInfo
+abbrev info_or : ServerInfo → Option (ServerInfo × List ℕ) → ServerInfo
 info_or info None = info
 info_or info (Some pair) = pair.0
 
-rest_or : List ℕ → Option (ServerInfo × List ℕ) → List ℕ
+abbrev rest_or : List ℕ → Option (ServerInfo × List ℕ) → List ℕ
 rest_or rest None = rest
 rest_or rest (Some pair) = pair.1
 
