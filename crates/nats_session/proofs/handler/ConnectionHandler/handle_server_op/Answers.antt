@@ -8,6 +8,6 @@ use Rattle.nats_session.proofs.handler.ConnectionHandler.handle_server_op.Goals 
 pub returns-then-is_ok-clause-ok : goal.returns-then-is_ok-clause-ok
 returns-then-is_ok-clause-ok c =
     on_ok_weaker c.read_message-name.result
-    (λ is. consumed_seen _ c.args.self.now c.read_past.new.self (peeked_view c.args.peeked.op) c.in-Message.sid c.args.peeked.len c.in-Message.message.value
-    is c.read_past.ensures (ap peeked_view c.in-Message.is) c.requires.up c.requires.front)
+    (λ is. consumed_seen _ c.args.self.now c.message_past.new.self (peeked_view c.args.peeked.op) c.in-Message.sid c.args.peeked.len c.in-Message.message.value
+    is c.message_past.ensures (ap peeked_view c.in-Message.is) c.requires.up c.requires.front)
     c.read_message-name.ensures.ok
