@@ -64,7 +64,11 @@ fn number_of(reply: &CallReply) -> Option<u64> {
         | CallReply::NoNumber
         | CallReply::Full
         | CallReply::Flushed
-        | CallReply::FlushFailed => None,
+        | CallReply::Replied(_)
+        | CallReply::FlushFailed
+        | CallReply::NoResponders
+        | CallReply::TimedOut
+        | CallReply::Dropped => None,
     }
 }
 

@@ -141,7 +141,7 @@ fn linked<R: Clock + AllocGlobal>(rt: &R, count: usize) -> Result<Report> {
     Ok(Report::Linked(carried, elapsed))
 }
 
-fn flushed<R: Clock + AllocGlobal>(rt: &R, count: usize) -> Result<Report> {
+fn settled<R: Clock + AllocGlobal>(rt: &R, count: usize) -> Result<Report> {
     let (flushed, elapsed) = play_flushes(rt, count)?;
     Ok(Report::Flushed(flushed, elapsed))
 }
@@ -175,7 +175,7 @@ fn measure<R: Clock + Env + AllocGlobal>(rt: &R) -> Result<Option<Report>> {
         Some(Command::Count(count)) => Ok(Some(counted(rt, count)?)),
         Some(Command::Time(count)) => Ok(Some(timed(rt, count)?)),
         Some(Command::Links(count)) => Ok(Some(linked(rt, count)?)),
-        Some(Command::Flushes(count)) => Ok(Some(flushed(rt, count)?)),
+        Some(Command::Flushes(count)) => Ok(Some(settled(rt, count)?)),
         None => Ok(None),
     }
 }

@@ -4,6 +4,10 @@
 mod error;
 mod fields;
 mod iter;
+mod json;
+mod json_error;
+#[cfg(test)]
+mod json_tests;
 mod known;
 mod lines;
 mod map;
@@ -14,6 +18,7 @@ mod value;
 
 pub use error::HeaderError;
 pub use iter::{GetAll, HeaderIter};
+pub use json_error::JsonError;
 pub use known::{
     NATS_BATCH_COMMIT, NATS_BATCH_COMMIT_EOB, NATS_BATCH_COMMIT_FINAL, NATS_BATCH_ID,
     NATS_BATCH_SEQUENCE, NATS_EXPECTED_LAST_MESSAGE_ID, NATS_EXPECTED_LAST_SEQUENCE,

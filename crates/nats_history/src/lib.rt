@@ -11,6 +11,7 @@ pub mod refusals;
 mod stage;
 mod transcript;
 mod turn;
+mod waits;
 
 pub use call::{Call, CallReply, Interest, TakeReply};
 pub use config::Config;
@@ -21,3 +22,4 @@ pub use ping::Ping;
 pub use stage::Stage;
 pub use transcript::{LinkRow, LinkWord, RunError, SubRow, Transcript};
 pub use turn::{Due, Turn};
+pub use waits::Waits;

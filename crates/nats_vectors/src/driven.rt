@@ -112,6 +112,13 @@ fn take(
     say_take(out, &reply.copy(alloc)?)
 }
 
+fn deadline(handler: &mut ConnectionHandler, out: &mut Vec<u8>, t: u64) -> Result<(), NoMemory>
+    requires { IsTrue (can_play handler.old.parts (turns.Deadline t)) }
+{
+    handler.deadline(t);
+    say(out, "ok")
+}
+
 fn play_own(
     alloc: Global,
     handler: &mut ConnectionHandler,
@@ -130,6 +137,7 @@ fn play_own(
         Turn::Hangup => hang_up(alloc, handler, out),
         Turn::Do(call) => submit(alloc, handler, out, call),
         Turn::Take(s) => take(alloc, handler, out, *s),
+        Turn::Deadline(t) => deadline(handler, out, *t),
     }
 }
 

@@ -3,9 +3,11 @@
 #![tactic(auto)]
 
 mod driven;
+mod sent;
 mod words;
 
 pub use driven::{answers, transcript};
+pub use sent::carried;
 
 #[cfg(test)]
 mod tests;

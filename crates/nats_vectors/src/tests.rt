@@ -1,4 +1,4 @@
-use crate::{answers, transcript};
+use crate::{answers, carried, transcript};
 use std::test::Fail;
 
 /// Scripts, and what a session answers to each, behind a `=`.
@@ -281,6 +281,61 @@ ticket 1 5 flush-failed
 ticket 2 waiting
 |config 2048 65536 check _INBOX MUX1
 up 1048576
+request svc T1 hi
+piece MSG%20_INBOX.MUX1.T1%200%202%0D%0Aok%0D%0A
+piece MSG%20_INBOX.MUX1.T1%200%202%0D%0Aok%0D%0A
+request svc T2 hi
+piece HMSG%20_INBOX.MUX1.T2%200%2016%2016%0D%0ANATS/1.0%20503%0D%0A%0D%0A%0D%0A
+request svc T3 hi
+request svc T3 hi
+deadline 4
+piece MSG%20_INBOX.MUX1.T3%200%202%0D%0Aok%0D%0A
+write 52
+lost
+up 1048576
+=link 1 lost
+out SUB%20_INBOX.MUX1.*%200%0D%0APUB%20svc%20_INBOX.MUX1.T1%202%0D%0Ahi%0D%0AP
+left UB%20svc%20_INBOX.MUX1.T2%202%0D%0Ahi%0D%0APUB%20svc%20_INBOX.MUX1.T3%202%0D%0Ahi%0D%0A\
+PUB%20svc%20_INBOX.MUX1.T3%202%0D%0Ahi%0D%0A
+link 2 up
+out %
+left SUB%20_INBOX.MUX1.*%200%0D%0A
+event 1 connected
+event 12 disconnected
+event 13 connected
+call 2 numbered 1
+call 5 numbered 2
+call 7 numbered 3
+call 8 numbered 4
+ticket 1 3 replied _INBOX.MUX1.T1 ~ ok ~ ~ 16 ~
+ticket 2 6 no-responders
+ticket 3 8 dropped
+ticket 4 9 timed-out
+|config 2048 65536 check _INBOX MUX1
+request svc T1 hi
+deadline 1
+up 1048576
+deadline 1
+=link 1 up
+out %
+left SUB%20_INBOX.MUX1.*%200%0D%0APUB%20svc%20_INBOX.MUX1.T1%202%0D%0Ahi%0D%0A
+event 3 connected
+call 1 numbered 1
+ticket 1 2 timed-out
+|config 2048 65536 skip a%20b M1
+up 1048576
+request svc T1 hi
+=link 1 up
+out %
+left %
+event 1 connected
+call 2 invalid-subject
+|config 2048 65536 check _INBOX MUX1
+flush
+deadline 1
+=turn 2 may not come there\
+|config 2048 65536 check _INBOX MUX1
+up 1048576
 up 1048576
 =turn 2 may not come there";
 
@@ -290,6 +345,135 @@ fn lists_are_played_to_their_transcripts(rt: HostRuntime) -> Result<(), Fail> {
         let (script, want) = row.split_once('=').ok_or("no transcript")?;
         assert_eq!(rt;
             transcript(rt.alloc(), script)?.as_slice(),
+            want.as_bytes(),
+            "{script}"
+        );
+    }
+    Ok(())
+}
+
+/// Scripts of calls that would carry other commands, and behind a `=` what is answered and what the links carry, read back.
+const HOSTILE: &str = "config 2048 65536 check _INBOX MUX1
+up 1048576
+pub a%0D%0APUB%20b%201%0D%0Ax ~ hi
+pub a%20b ~ hi
+pub a%09b ~ hi
+pub % ~ hi
+pub a r%0D%0APING hi
+pub a % hi
+sub a%0D%0APING ~
+sub a%20b ~
+sub % ~
+sub a g%0D%0APING
+sub a g%20h
+sub a g%09h
+sub a %
+request svc%0D%0APING T1 hi
+request % T1 hi
+=invalid-subject
+invalid-subject
+invalid-subject
+invalid-subject
+invalid-subject
+invalid-subject
+invalid-subject
+invalid-subject
+invalid-subject
+invalid-queue-name
+invalid-queue-name
+invalid-queue-name
+invalid-queue-name
+invalid-subject
+invalid-subject
+whole
+|config 2048 65536 check _INBOX MUX1
+up 1048576
+pub a%00b ~ %0D%0APING%0D%0A
+pub %E3%80%80 ~ PUB%20b%201%0D%0Ax%0D%0A
+sub %C2%A0 %E2%80%83
+request svc T1 SUB%20a%201%0D%0A
+hpub a ~ %0D%0A%0D%0A K :%20v
+write 40
+lost
+up 1048576
+=accepted
+accepted
+numbered 1
+numbered 1
+accepted
+pub <a\0b> - - <\r\nPING\r\n>
+pub <\u{3000}> - - <PUB b 1\r\nx\r\n>
+sub 1 <\u{a0}> <\u{2003}>
+sub 0 <_INBOX.MUX1.*> -
+pub <svc> <_INBOX.MUX1.T1> - <SUB a 1\r\n>
+pub <a> - <: v> <\r\n\r\n>
+whole
+sub 1 <\u{a0}> <\u{2003}>
+sub 0 <_INBOX.MUX1.*> -
+whole
+|config 2048 65536 check a%0D%0APING MUX1
+up 1048576
+request svc T1 hi
+=invalid-subject
+whole
+|config 2048 65536 check _INBOX MUX1
+up 1048576
+hpub a ~ x K v%0D%0APING
+=line 3|config 2048 65536 check _INBOX MUX1
+hpub a ~ x K%20J v
+=line 2|config 2048 65536 check _INBOX M%0D%0A
+=line 1|config 2048 65536 check _INBOX MUX1
+request svc T%20 hi
+=line 2|config 2048 65536 skip _INBOX MUX1
+up 1048576
+pub a%201%0D%0Ax%0D%0APUB%20b ~ hi
+=accepted
+pub <a> - - <x>
+pub <b> - - <hi>
+whole
+|config 2048 65536 check _INBOX MUX1
+up 33
+pub a%0D%0APUB%20b%200 ~ %
+sub .a ~
+sub a g%20h
+hpub FOO.BAR INBOX.67 Hello%20World Header X
+lost
+up 34
+hpub FOO.BAR INBOX.67 Hello%20World Header X
+=invalid-subject
+invalid-subject
+invalid-queue-name
+max-payload 33 34
+accepted
+whole
+pub <FOO.BAR> <INBOX.67> + <Hello World>
+whole
+|config 2048 65536 check _INBOX MUX1
+up 1048576
+request svc T1 hi
+piece MSG%20_INBOX.MUX1.T1%200%202%0D%0Aok%0D%0A
+request svc T2 hi
+piece HMSG%20_INBOX.MUX1.T2%200%2016%2016%0D%0ANATS/1.0%20503%0D%0A%0D%0A%0D%0A
+request svc T3 hi
+request svc T3 hi
+=numbered 1
+numbered 2
+numbered 3
+numbered 4
+sub 0 <_INBOX.MUX1.*> -
+pub <svc> <_INBOX.MUX1.T1> - <hi>
+pub <svc> <_INBOX.MUX1.T2> - <hi>
+pub <svc> <_INBOX.MUX1.T3> - <hi>
+pub <svc> <_INBOX.MUX1.T3> - <hi>
+whole
+";
+
+#[test]
+fn links_carry_the_accepted_commands_alone(rt: HostRuntime) -> Result<(), Fail> {
+    for row in HOSTILE.split('|') {
+        let (script, want) = row.split_once('=').ok_or("no commands")?;
+        assert_eq!(rt;
+            carried(rt.alloc(), script)?.as_slice(),
             want.as_bytes(),
             "{script}"
         );

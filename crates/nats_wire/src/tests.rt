@@ -105,6 +105,21 @@ fn a_message_is_read_at_its_last_byte(rt: HostRuntime) -> Result<(), Fail> {
 }
 
 #[test]
+fn messages_outlive_the_bytes_that_they_share(rt: HostRuntime) -> Result<(), Fail> {
+    let mut connection = fed(rt.alloc(), b"MSG a 1 2\r\nhi\r\nMSG b 2 r 3\r\nyo")?;
+    let first = connection.try_read_op(rt.alloc())?.ok_or("no message")?;
+    assert!(rt; connection.is_unfinished());
+    connection.feed(rt.alloc(), b"u\r\nPING\r\n")?;
+    let second = told_read(rt.alloc(), &mut connection)?;
+    assert_eq!(rt; second.as_str(), "2 b r you 5 0 - -");
+    let last = told_read(rt.alloc(), &mut connection)?;
+    assert_eq!(rt; last.as_str(), "ping");
+    let first = told(rt.alloc(), &first)?;
+    assert_eq!(rt; first.as_str(), "1 a - hi 3 0 - -");
+    Ok(())
+}
+
+#[test]
 fn bytes_that_are_no_text_are_a_fault(rt: HostRuntime) -> Result<(), Fail> {
     let mut connection = fed(rt.alloc(), b"MSG a.\xff 1 2\r\nhi\r\n")?;
     let read = connection.try_read_op(rt.alloc());
