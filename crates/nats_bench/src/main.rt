@@ -1,7 +1,8 @@
 //! Measures the session: a mixed list of turns is made in memory and played, and as many subscriptions are made and dropped
 //! again, one after another. `count N` prints what N turns showed and what N subscriptions left, `time N` how long they took.
 //! `links N` carries N subscriptions over N links and prints how long that took; `count N` does so with 20 at most. `flushes N`
-//! has N flushes wait behind one command and prints how long it took to settle and to hand out all; `count N` does so too.
+//! has N flushes wait behind one command and prints how long it took to settle and to hand out all; `requests N` makes N requests,
+//! a thousand of which wait at a time, and prints how long it took to answer all; `count N` does both too.
 #![tactic(auto)]
 
 ghost use Rattle.std.specs.Prelude.{◌≤◌, IfSome};
@@ -12,6 +13,7 @@ mod counts;
 mod flushes;
 mod mix;
 mod report;
+mod requests;
 
 use crate::carry::{Carried, carry};
 use crate::churn::{Left, churn};
@@ -19,6 +21,7 @@ use crate::counts::{Counts, counts_of};
 use crate::flushes::{Flushed, flush};
 use crate::mix::mixed_turns;
 use crate::report::{Report, Times};
+use crate::requests::{Asked, request};
 use anyhow::{Result, anyhow};
 use nats_session::{Config, NoMemory, Subject, Token, run};
 use std::alloc::Global;
@@ -49,6 +52,8 @@ enum Command {
     Links(usize),
     /// How long it took to settle so many flushes.
     Flushes(usize),
+    /// How long it took to answer so many requests.
+    Requests(usize),
 }
 
 fn number_of(word: &str) -> Option<usize>
@@ -68,6 +73,7 @@ fn command_of(words: &[String]) -> Option<Command> {
         "time" => Some(Command::Time(count)),
         "links" => Some(Command::Links(count)),
         "flushes" => Some(Command::Flushes(count)),
+        "requests" => Some(Command::Requests(count)),
         _ => None,
     }
 }
@@ -128,12 +134,21 @@ fn play_flushes<R: Clock + AllocGlobal>(rt: &R, count: usize) -> Result<(Flushed
     Ok((flushed, start.elapsed(rt)?))
 }
 
+/// Answers `count` requests: what they came to, and how long it took.
+fn play_requests<R: Clock + AllocGlobal>(rt: &R, count: usize) -> Result<(Asked, Duration)> {
+    let config = settings(rt.alloc())?;
+    let start = Instant::now(rt)?;
+    let asked = request(rt.alloc(), config, count)?;
+    Ok((asked, start.elapsed(rt)?))
+}
+
 fn counted<R: Clock + AllocGlobal>(rt: &R, count: usize) -> Result<Report> {
     let (counts, _) = play(rt, count)?;
     let (left, _) = play_churn(rt, count)?;
     let (carried, _) = play_links(rt, count.min(CARRIED))?;
     let (flushed, _) = play_flushes(rt, count)?;
-    Ok(Report::Counted(counts, left, carried, flushed))
+    let (asked, _) = play_requests(rt, count)?;
+    Ok(Report::Counted(counts, left, carried, flushed, asked))
 }
 
 fn linked<R: Clock + AllocGlobal>(rt: &R, count: usize) -> Result<Report> {
@@ -144,6 +159,11 @@ fn linked<R: Clock + AllocGlobal>(rt: &R, count: usize) -> Result<Report> {
 fn settled<R: Clock + AllocGlobal>(rt: &R, count: usize) -> Result<Report> {
     let (flushed, elapsed) = play_flushes(rt, count)?;
     Ok(Report::Flushed(flushed, elapsed))
+}
+
+fn answered<R: Clock + AllocGlobal>(rt: &R, count: usize) -> Result<Report> {
+    let (asked, elapsed) = play_requests(rt, count)?;
+    Ok(Report::Asked(asked, elapsed))
 }
 
 fn timed<R: Clock + AllocGlobal>(rt: &R, count: usize) -> Result<Report> {
@@ -176,6 +196,7 @@ fn measure<R: Clock + Env + AllocGlobal>(rt: &R) -> Result<Option<Report>> {
         Some(Command::Time(count)) => Ok(Some(timed(rt, count)?)),
         Some(Command::Links(count)) => Ok(Some(linked(rt, count)?)),
         Some(Command::Flushes(count)) => Ok(Some(settled(rt, count)?)),
+        Some(Command::Requests(count)) => Ok(Some(answered(rt, count)?)),
         None => Ok(None),
     }
 }
@@ -192,7 +213,7 @@ fn main(rt: HostRuntime) -> ExitCode {
         Ok(Some(report)) => print(&rt, &report),
         Ok(None) => {
             let _ = eprintln!(rt;
-                "usage: nats_bench count N, time N, links N or flushes N; N is at most {TURN_LIMIT}"
+                "usage: nats_bench count N, time N, links N, flushes N or requests N; N is at most {TURN_LIMIT}"
             );
             UNKNOWN
         }

@@ -6,6 +6,7 @@ use crate::carry::Carried;
 use crate::churn::Left;
 use crate::counts::Counts;
 use crate::flushes::Flushed;
+use crate::requests::Asked;
 use std::fmt;
 use std::time::Duration;
 
@@ -26,14 +27,16 @@ pub struct Times {
 #[derive(Clone, Copy)]
 pub enum Report {
     /// What a list of turns showed, what subscriptions left that were made and dropped, what others came to that were carried
-    /// over links, and what flushes came to.
-    Counted(Counts, Left, Carried, Flushed),
+    /// over links, and what flushes and requests came to.
+    Counted(Counts, Left, Carried, Flushed, Asked),
     /// How long the first two took.
     Timed(Times),
     /// What subscriptions came to that were carried over links, and how long that took.
     Linked(Carried, Duration),
     /// What flushes came to, and how long that took.
     Flushed(Flushed, Duration),
+    /// What requests came to, and how long that took.
+    Asked(Asked, Duration),
 }
 
 /// How many of `count` are a second's share; a time of nothing is taken as one nanosecond.
@@ -67,8 +70,8 @@ impl fmt::Display for Times {
 impl fmt::Display for Report {
     fn fmt<W: fmt::Write>(&self, f: &mut fmt::Formatter<W>) -> fmt::Result {
         match self {
-            Report::Counted(counts, left, carried, flushed) => {
-                write!(f, "{counts}{left}{carried}{flushed}")
+            Report::Counted(counts, left, carried, flushed, asked) => {
+                write!(f, "{counts}{left}{carried}{flushed}{asked}")
             }
             Report::Timed(times) => write!(f, "{times}"),
             Report::Linked(carried, elapsed) => {
@@ -78,6 +81,10 @@ impl fmt::Display for Report {
             Report::Flushed(flushed, elapsed) => {
                 let millis = elapsed.as_millis();
                 write!(f, "{flushed}in {millis} ms\n")
+            }
+            Report::Asked(asked, elapsed) => {
+                let millis = elapsed.as_millis();
+                write!(f, "{asked}in {millis} ms\n")
             }
         }
     }

@@ -4,10 +4,12 @@
 
 mod driven;
 mod sent;
+mod through;
 mod words;
 
 pub use driven::{answers, transcript};
 pub use sent::carried;
+pub use through::carried_through;
 
 #[cfg(test)]
 mod tests;

@@ -92,7 +92,8 @@ fn say_end(out: &mut Vec<u8>, end: ClientEnd) -> Result<(), NoMemory> {
     }
 }
 
-fn say_read(out: &mut Vec<u8>, read: &ClientRead) -> Result<(), NoMemory> {
+/// Says commands, a line for each, and a last one on how their text ends.
+pub fn say_read(out: &mut Vec<u8>, read: &ClientRead) -> Result<(), NoMemory> {
     for op in read.ops.as_slice() {
         say_op(out, op)?;
         say(out, "\n")?;
@@ -123,9 +124,19 @@ fn say_links(alloc: Global, out: &mut Vec<u8>, transcript: &Transcript) -> Resul
     Ok(())
 }
 
+fn say_out_of_turn(out: &mut Vec<u8>, place: u64) -> Result<(), NoMemory> {
+    say_number(out, "turn", place)?;
+    say(out, " out of turn\n")
+}
+
+fn say_bad_line(out: &mut Vec<u8>, line: u64) -> Result<(), NoMemory> {
+    say_number(out, "script line", line)?;
+    say(out, "\n")
+}
+
 fn say_refusal(out: &mut Vec<u8>, refusal: RunError) -> Result<(), NoMemory> {
     match refusal {
-        RunError::OutOfTurn { place } => say_number(out, "out of turn", place),
+        RunError::OutOfTurn { place } => say_out_of_turn(out, place),
         RunError::NoMemory => Err(NoMemory),
     }
 }
@@ -147,12 +158,12 @@ fn say_sent(
 
 /// The replies to the calls of a script, a line for each, and then what each of its links carries, as `read_link`
 /// reads it back: a line for each command, and a last one on how the text ends. Where a line of the script cannot be
-/// read, its number alone.
+/// read, or a turn may not come where it stands, its number alone.
 pub fn carried(alloc: Global, script: &str) -> Result<Vec<u8>, NoMemory> {
     let mut out = Vec::new(alloc);
     match read_script(alloc, script.as_bytes())? {
         Script::Good { config, turns } => say_sent(alloc, &mut out, config, turns.as_slice())?,
-        Script::Bad(line) => say_number(&mut out, "line", line)?,
+        Script::Bad(line) => say_bad_line(&mut out, line)?,
     }
     Ok(out)
 }

@@ -1,4 +1,4 @@
-use crate::{answers, carried, transcript};
+use crate::{answers, carried, carried_through, transcript};
 use std::test::Fail;
 
 /// Scripts, and what a session answers to each, behind a `=`.
@@ -419,12 +419,16 @@ whole
 |config 2048 65536 check _INBOX MUX1
 up 1048576
 hpub a ~ x K v%0D%0APING
-=line 3|config 2048 65536 check _INBOX MUX1
+=script line 3
+|config 2048 65536 check _INBOX MUX1
 hpub a ~ x K%20J v
-=line 2|config 2048 65536 check _INBOX M%0D%0A
-=line 1|config 2048 65536 check _INBOX MUX1
+=script line 2
+|config 2048 65536 check _INBOX M%0D%0A
+=script line 1
+|config 2048 65536 check _INBOX MUX1
 request svc T%20 hi
-=line 2|config 2048 65536 skip _INBOX MUX1
+=script line 2
+|config 2048 65536 skip _INBOX MUX1
 up 1048576
 pub a%201%0D%0Ax%0D%0APUB%20b ~ hi
 =accepted
@@ -472,11 +476,12 @@ whole
 fn links_carry_the_accepted_commands_alone(rt: HostRuntime) -> Result<(), Fail> {
     for row in HOSTILE.split('|') {
         let (script, want) = row.split_once('=').ok_or("no commands")?;
-        assert_eq!(rt;
-            carried(rt.alloc(), script)?.as_slice(),
-            want.as_bytes(),
-            "{script}"
-        );
+        for carried in [
+            carried(rt.alloc(), script)?,
+            carried_through(rt.alloc(), script)?,
+        ] {
+            assert_eq!(rt; carried.as_slice(), want.as_bytes(), "{script}");
+        }
     }
     Ok(())
 }
