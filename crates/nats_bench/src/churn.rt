@@ -41,7 +41,7 @@ fn server_info(alloc: Global) -> ServerInfo {
 /// A link comes up where none is, of a server that says nothing of itself but the most bytes of a payload.
 pub fn bring_up(alloc: Global, session: &mut ConnectionHandler) -> Result<(), NoMemory> {
     let info = server_info(alloc);
-    if session.check(&Turn::Up(info.copy()?)) {
+    if session.check(&Turn::Up(info.copy(alloc)?)) {
         session.up(alloc, info)?;
     }
     Ok(())
