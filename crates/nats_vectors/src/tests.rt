@@ -393,6 +393,7 @@ pub %E3%80%80 ~ PUB%20b%201%0D%0Ax%0D%0A
 sub %C2%A0 %E2%80%83
 request svc T1 SUB%20a%201%0D%0A
 hpub a ~ %0D%0A%0D%0A K :%20v
+hpub a ~ x % v
 write 40
 lost
 up 1048576
@@ -401,12 +402,14 @@ accepted
 numbered 1
 numbered 1
 accepted
+accepted
 pub <a\0b> - - <\r\nPING\r\n>
 pub <\u{3000}> - - <PUB b 1\r\nx\r\n>
 sub 1 <\u{a0}> <\u{2003}>
 sub 0 <_INBOX.MUX1.*> -
 pub <svc> <_INBOX.MUX1.T1> - <SUB a 1\r\n>
 pub <a> - <: v> <\r\n\r\n>
+pub <a> - + <x>
 whole
 sub 1 <\u{a0}> <\u{2003}>
 sub 0 <_INBOX.MUX1.*> -
@@ -422,6 +425,12 @@ hpub a ~ x K v%0D%0APING
 =script line 3
 |config 2048 65536 check _INBOX MUX1
 hpub a ~ x K%20J v
+=script line 2
+|config 2048 65536 check _INBOX MUX1
+hpub a ~ x K%09J v
+=script line 2
+|config 2048 65536 check _INBOX MUX1
+hpub a ~ x K: v
 =script line 2
 |config 2048 65536 check _INBOX M%0D%0A
 =script line 1
