@@ -17,7 +17,19 @@ out of turn
 out of turn
 invalid-subject
 invalid-queue-name
-link 1 up most 1048576 said 1048576 reads 0 pending 13 none PUB a 2\r\nhi\r\n\
+link 1 up most 1048576 said 1048576 reads 0 in 0 0 out 1 3 links 1 pending 13 none PUB a 2\r\nhi\r\n\
+|config 2048 65536 check _INBOX MUX1
+up 1048576
+hpub a r hi X y
+request svc T1 hi
+write 1000
+piece MSG%20_INBOX.MUX1.T1%200%202%0D%0Aok%0D%0A
+=up (connected)
+accepted handled
+numbered 1 handled
+written
+fed read ticket 1 replied ok
+link 1 up most 1048576 said 1048576 reads 1 in 1 16 out 2 41 links 1 pending 0 none\
 |config 2048 65536 check _INBOX MUX1
 sub FOO.BAR ~
 up 33
@@ -29,7 +41,7 @@ up handled (connected)
 fed put 1
 max-payload 33 34
 written
-link 1 up most 33 said 33 reads 1 pending 11 last Hello World FOO.BAR 1\r\n\
+link 1 up most 33 said 33 reads 1 in 1 18 out 0 0 links 1 pending 11 last Hello World FOO.BAR 1\r\n\
 |config 2048 1 check _INBOX MUX1
 up 1048576
 sub a ~
@@ -49,7 +61,7 @@ accepted handled
 ended
 accepted handled
 out of turn
-link 1 up most 1048576 said 1048576 reads 2 pending 18 none SUB a 1\r\nUNSUB 1\r\n\
+link 1 up most 1048576 said 1048576 reads 2 in 2 4 out 0 0 links 1 pending 18 none SUB a 1\r\nUNSUB 1\r\n\
 |config 2048 1 check _INBOX MUX1
 up 1048576
 sub a ~
@@ -65,7 +77,7 @@ fed put 1 read
 fed read read (lame duck mode detected) (server error: nats: x)
 fed ended (disconnected)
 out of turn
-link 1 down most 1048576 said 0 reads 4 pending 0 last 1\
+link 1 down most 1048576 said 0 reads 4 in 2 4 out 0 0 links 1 pending 0 last 1\
 |config 1 65536 check _INBOX MUX1
 sub a ~
 pub a ~ hi
@@ -95,19 +107,19 @@ given up (closed)
 closed
 ended
 out of turn
-link 2 down closed most 200 said 200 reads 0 pending 0 none\
+link 2 down closed most 200 said 200 reads 0 in 0 0 out 0 0 links 2 pending 0 none\
 |config 1 65536 check _INBOX MUX1
 up 5
 hangup
 =up (connected)
 hung up (closed)
-link 1 down closed most 5 said 5 reads 0 pending 0 none\
+link 1 down closed most 5 said 5 reads 0 in 0 0 out 0 0 links 1 pending 0 none\
 |config 1 65536 check _INBOX MUX1
 up 5
 lost
 =up (connected)
 lost (disconnected)
-link 1 down most 5 said 5 reads 0 pending 0 none\
+link 1 down most 5 said 5 reads 0 in 0 0 out 0 0 links 1 pending 0 none\
 |config 2048 65536 check _INBOX MUX1
 up 1048576
 sub a ~
@@ -121,7 +133,7 @@ accepted handled
 fed put 1 read read
 message x
 ended
-link 1 up most 1048576 said 1048576 reads 3 pending 24 none SUB a 1\r\nUNSUB 1\r\nPING\r\n\
+link 1 up most 1048576 said 1048576 reads 3 in 2 4 out 0 0 links 1 pending 24 none SUB a 1\r\nUNSUB 1\r\nPING\r\n\
 |config 2048 65536 check _INBOX MUX1
 up 1048576
 drain 1
@@ -137,7 +149,7 @@ accepted handled
 lost (disconnected)
 up (connected)
 ended
-link 2 up most 1048576 said 1048576 reads 0 pending 0 none\
+link 2 up most 1048576 said 1048576 reads 0 in 0 0 out 0 0 links 2 pending 0 none\
 |config 2048 65536 check _INBOX MUX1
 up 1048576
 drainall
@@ -147,11 +159,11 @@ piece PONG%0D%0A
 accepted handled (draining)
 closed
 fed ended (closed)
-link 1 down closed most 1048576 said 1048576 reads 1 pending 0 none\
+link 1 down closed most 1048576 said 1048576 reads 1 in 0 0 out 0 0 links 1 pending 0 none\
 |config 1 65536 check _INBOX MUX1
 giveup
 =given up (closed)
-link 0 none yet closed most 1048576 unsaid reads 0 pending 0 none\
+link 0 none yet closed most 1048576 unsaid reads 0 in 0 0 out 0 0 links 0 pending 0 none\
 |config 1 65536 check _INBOX MUX1
 up 5
 piece PING%0D%0A
@@ -163,7 +175,7 @@ fed read
 lost (disconnected)
 up (connected)
 fed read read
-link 2 up most 6 said 6 reads 3 pending 0 none\
+link 2 up most 6 said 6 reads 3 in 0 0 out 0 0 links 2 pending 0 none\
 |config 2048 65536 check _INBOX MUX1
 up 1048576
 flush
@@ -189,7 +201,7 @@ lost (disconnected) ticket 3 flush-failed
 numbered 4
 given up (closed) ticket 4 flush-failed
 closed
-link 1 down closed most 1048576 said 1048576 reads 0 pending 0 none";
+link 1 down closed most 1048576 said 1048576 reads 0 in 0 0 out 2 5 links 1 pending 0 none";
 
 #[test]
 fn sessions_answer_as_their_rows_say(rt: HostRuntime) -> Result<(), Fail> {
