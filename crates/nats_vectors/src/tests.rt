@@ -20,6 +20,24 @@ invalid-queue-name
 link 1 up most 1048576 said 1048576 reads 0 in 0 0 out 1 3 links 1 pending 13 none PUB a 2\r\nhi\r\n\
 |config 2048 65536 check _INBOX MUX1
 up 1048576
+sub FOO.BAR ~
+piece MSG%20FOO.BAR%201%2011%0D%0AHello%20World%0D%0A
+take 1
+write 100
+=up (connected)
+numbered 1 handled
+fed put 1
+message Hello World
+written
+link 1 up most 1048576 said 1048576 reads 1 in 1 18 out 0 0 links 1 pending 0 none\
+|config 2048 65536 check _INBOX MUX1
+pub a ~ hi
+request svc T1 hi
+=accepted
+numbered 1
+link 0 none yet most 1048576 unsaid reads 0 in 0 0 out 0 0 links 0 pending 0 none\
+|config 2048 65536 check _INBOX MUX1
+up 1048576
 hpub a r hi X y
 request svc T1 hi
 write 1000
@@ -232,6 +250,36 @@ take 4 message FOO.BAR ~ Hello%20World ~ ~ 18 ~
 event 1 connected
 call 2 numbered 1
 |config 2048 65536 check _INBOX MUX1
+up 1048576
+piece ONE%0D%0APING%0D%0A
+=link 1 fault
+out %
+left %
+event 1 connected
+event 2 disconnected
+|config 2048 65536 check _INBOX MUX1
+up 1048576
+piece ONE%0D%0APING%0D%0A
+piece %
+=turn 3 may not come there\
+|config 2048 65536 skip _INBOX MUX1
+up 34
+pub a%0D%0APUB%20b%200 ~ %
+sub .a ~
+sub a g%20h
+hpub FOO.BAR INBOX.67 Hello%20World Header X
+=link 1 up
+out %
+left PUB%20a%0D%0APUB%20b%200%200%0D%0A%0D%0AHPUB%20FOO.BAR%20INBOX.67%2023%2034%0D%0ANATS/1.0%0D%0AHeader:%20X%0D%0A%0D%0A\
+Hello%20World%0D%0A
+event 1 connected
+call 2 accepted
+call 3 invalid-subject
+call 4 invalid-queue-name
+call 5 accepted
+|config 2048 65536 check _INBOX MUX1
+hpub a ~ % K v%0D%0Aw
+=line 2|config 2048 65536 check _INBOX MUX1
 up 1048576
 drainall
 pub a ~ x
