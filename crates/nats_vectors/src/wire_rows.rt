@@ -96,7 +96,10 @@ fn a_message_is_read_once_it_is_whole(rt: HostRuntime) -> Result<(), Fail> {
         assert_eq!(rt; told_next(alloc, &mut connection)?.as_str(), "unfinished");
     }
     connection.feed(alloc, b"\n")?;
-    assert_eq!(rt; told_next(alloc, &mut connection)?.as_str(), "1 a - hi 3 0 - -");
+    assert_eq!(rt;
+        told_next(alloc, &mut connection)?.as_str(),
+        "1 a - hi 3 0 - -"
+    );
     Ok(())
 }
 
@@ -123,7 +126,8 @@ fn plain_info(alloc: Global) -> Result<ConnectInfo, NoMemory> {
 }
 
 /// Its line.
-const CONNECT: &str = "CONNECT {\"verbose\":false,\"pedantic\":false,\"jwt\":null,\"nkey\":null,\"sig\":null,\"name\":null,\
+const CONNECT: &str =
+    "CONNECT {\"verbose\":false,\"pedantic\":false,\"jwt\":null,\"nkey\":null,\"sig\":null,\"name\":null,\
 \"echo\":false,\"lang\":\"Rust\",\"version\":\"1.0.0\",\"protocol\":1,\"tls_required\":false,\"user\":null,\"pass\":null,\
 \"auth_token\":null,\"headers\":false,\"no_responders\":false}\r\n";
 
