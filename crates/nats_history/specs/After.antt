@@ -13,6 +13,7 @@ use Rattle.nats_history.specs.History.{Step, opened, fed, read, taken, accepted,
 use Rattle.nats_history.specs.declared.stage.Stage.TheVariants.{Asked}
 use Rattle.nats_history.specs.declared.ping.Ping.{Ping}
 use Rattle.nats_tables.specs.Numbers.{change}
+use Rattle.nats_history.specs.Counts.{statistics_after}
 use Rattle.nats_history.specs.Parts.{Link, Subs, Parts, at_with, at_in}
 use Rattle.nats_history.specs.Schedule.{chain, due, most_due}
 
@@ -136,6 +137,7 @@ after p step = record {
   subs = subs_after p.config p.link.pings step p.subs;
   requested = requested_after step p.requested;
   tickets = tickets_after p.config (length p.link.wire.waiting) step p.tickets;
+  statistics = statistics_after p.config step p.statistics;
 }
 
 abbrev pub after_all : Parts → List Step → Parts

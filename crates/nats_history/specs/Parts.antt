@@ -5,6 +5,8 @@ use Rattle.nats_wire.specs.Wire.{Wire}
 use Rattle.nats_history.specs.declared.config.Config.{Config}
 use Rattle.nats_history.specs.declared.call.Call.{Call}
 use Rattle.nats_history.specs.declared.ping.Ping.{Ping}
+use Rattle.nats_history.specs.declared.statistics.Statistics.{Statistics}
+use Rattle.nats_history.specs.Counts.{statistics}
 use Rattle.nats_history.specs.History.{History, links, is_up, is_closed, WholeDrain, max_payload, last_info, all_reads, whole_drain, pings, requested, unread, waiting_bytes, waiting_calls, At, at_of, Sub, rows_of, Tickets, tickets}
 
 -- the newest link
@@ -44,6 +46,8 @@ pub record Parts : Type 0 where
   pub requested : Bool
   -- the tickets that were given: what each is of, what waits to be handled, for bytes or for a reply
   pub tickets : Tickets
+  -- what was counted over all links
+  pub statistics : Statistics
 
 -- what a step's meaning hangs on, as parts have it
 abbrev pub at_with : List Ping → Subs → At
@@ -79,4 +83,5 @@ parts_of c h = record {
   subs = subs_of c h;
   requested = requested h;
   tickets = tickets c h;
+  statistics = statistics c h;
 }

@@ -25,6 +25,7 @@ use Rattle.nats_subs.specs.declared.subs.subscription.Delivery.TheVariants.{Put,
 use Rattle.nats_history.specs.Queue.{first}
 use Rattle.nats_tables.specs.Numbers.{at_number, item_of, change}
 use Rattle.nats_history.specs.History.{Step, cut, read, handled, link_end, History, drained_by, second, kept, events, waiting_bytes, settles, no_tickets, tickets}
+use Rattle.nats_history.specs.Counts.{no_statistics, message_counted}
 use Rattle.nats_history.specs.Parts.{Parts, parts_of}
 use Rattle.nats_history.specs.Schedule.{is_valid_turn, refusal, call_reply, accepted_step, call_steps, due, chain, ends_link, put_steps}
 use Rattle.nats_history.specs.After.{after, events_of, settled_of}
@@ -87,6 +88,7 @@ idle c = record {
   subs = record { given = 0; subscribed = 0; rows = [] };
   requested = false;
   tickets = no_tickets;
+  statistics = no_statistics;
 }
 
 abbrev pub seen_after : Seen → Step → Seen
@@ -137,6 +139,11 @@ read_past n seen = record seen {
     };
   };
 }
+
+-- the same where it was a message of such a length
+abbrev pub message_past : ℕ → ℕ → Seen → Seen
+message_past n len seen =
+    read_past n (record seen { parts = record seen.parts { statistics = message_counted len seen.parts.statistics } })
 
 -- a turn may be played: it may come here and no step is due
 abbrev pub can_play : Parts → Turn → Bool

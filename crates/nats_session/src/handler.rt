@@ -10,7 +10,7 @@ mod ends;
 mod requests;
 
 pub use due::Look;
-use nats_history::{Call, Config, Event, NoMemory, ServerInfo};
+use nats_history::{Call, Config, Event, NoMemory, ServerInfo, Statistics};
 use nats_subs::{Pings, Queue, Subscriptions};
 use nats_tickets::Tickets;
 use nats_wire::Connection;
@@ -42,6 +42,7 @@ pub struct ConnectionHandler {
     subs: Subscriptions,
     requested: bool,
     tickets: Tickets,
+    statistics: Statistics,
     events: Queue<Event>,
 }
 
@@ -69,6 +70,7 @@ impl Model for ConnectionHandler {
         subs = h.subs;
         requested = h.requested;
         tickets = h.tickets.tickets;
+        statistics = h.statistics;
       };
       events = h.events;
       ready = h.tickets.ready;
@@ -97,6 +99,7 @@ impl ConnectionHandler {
             subs: Subscriptions::new(alloc),
             requested: false,
             tickets: Tickets::new(alloc),
+            statistics: Statistics::default(),
             events: Queue::new(alloc),
         })
     }

@@ -17,7 +17,37 @@ out of turn
 out of turn
 invalid-subject
 invalid-queue-name
-link 1 up most 1048576 said 1048576 reads 0 pending 13 none PUB a 2\r\nhi\r\n\
+link 1 up most 1048576 said 1048576 reads 0 in 0 0 out 1 3 links 1 pending 13 none PUB a 2\r\nhi\r\n\
+|config 2048 65536 check _INBOX MUX1
+up 1048576
+sub FOO.BAR ~
+piece MSG%20FOO.BAR%201%2011%0D%0AHello%20World%0D%0A
+take 1
+write 100
+=up (connected)
+numbered 1 handled
+fed put 1
+message Hello World
+written
+link 1 up most 1048576 said 1048576 reads 1 in 1 18 out 0 0 links 1 pending 0 none\
+|config 2048 65536 check _INBOX MUX1
+pub a ~ hi
+request svc T1 hi
+=accepted
+numbered 1
+link 0 none yet most 1048576 unsaid reads 0 in 0 0 out 0 0 links 0 pending 0 none\
+|config 2048 65536 check _INBOX MUX1
+up 1048576
+hpub a r hi X y
+request svc T1 hi
+write 1000
+piece MSG%20_INBOX.MUX1.T1%200%202%0D%0Aok%0D%0A
+=up (connected)
+accepted handled
+numbered 1 handled
+written
+fed read ticket 1 replied ok
+link 1 up most 1048576 said 1048576 reads 1 in 1 16 out 2 41 links 1 pending 0 none\
 |config 2048 65536 check _INBOX MUX1
 sub FOO.BAR ~
 up 33
@@ -29,7 +59,7 @@ up handled (connected)
 fed put 1
 max-payload 33 34
 written
-link 1 up most 33 said 33 reads 1 pending 11 last Hello World FOO.BAR 1\r\n\
+link 1 up most 33 said 33 reads 1 in 1 18 out 0 0 links 1 pending 11 last Hello World FOO.BAR 1\r\n\
 |config 2048 1 check _INBOX MUX1
 up 1048576
 sub a ~
@@ -49,7 +79,7 @@ accepted handled
 ended
 accepted handled
 out of turn
-link 1 up most 1048576 said 1048576 reads 2 pending 18 none SUB a 1\r\nUNSUB 1\r\n\
+link 1 up most 1048576 said 1048576 reads 2 in 2 4 out 0 0 links 1 pending 18 none SUB a 1\r\nUNSUB 1\r\n\
 |config 2048 1 check _INBOX MUX1
 up 1048576
 sub a ~
@@ -65,7 +95,7 @@ fed put 1 read
 fed read read (lame duck mode detected) (server error: nats: x)
 fed ended (disconnected)
 out of turn
-link 1 down most 1048576 said 0 reads 4 pending 0 last 1\
+link 1 down most 1048576 said 0 reads 4 in 2 4 out 0 0 links 1 pending 0 last 1\
 |config 1 65536 check _INBOX MUX1
 sub a ~
 pub a ~ hi
@@ -95,19 +125,19 @@ given up (closed)
 closed
 ended
 out of turn
-link 2 down closed most 200 said 200 reads 0 pending 0 none\
+link 2 down closed most 200 said 200 reads 0 in 0 0 out 0 0 links 2 pending 0 none\
 |config 1 65536 check _INBOX MUX1
 up 5
 hangup
 =up (connected)
 hung up (closed)
-link 1 down closed most 5 said 5 reads 0 pending 0 none\
+link 1 down closed most 5 said 5 reads 0 in 0 0 out 0 0 links 1 pending 0 none\
 |config 1 65536 check _INBOX MUX1
 up 5
 lost
 =up (connected)
 lost (disconnected)
-link 1 down most 5 said 5 reads 0 pending 0 none\
+link 1 down most 5 said 5 reads 0 in 0 0 out 0 0 links 1 pending 0 none\
 |config 2048 65536 check _INBOX MUX1
 up 1048576
 sub a ~
@@ -121,7 +151,7 @@ accepted handled
 fed put 1 read read
 message x
 ended
-link 1 up most 1048576 said 1048576 reads 3 pending 24 none SUB a 1\r\nUNSUB 1\r\nPING\r\n\
+link 1 up most 1048576 said 1048576 reads 3 in 2 4 out 0 0 links 1 pending 24 none SUB a 1\r\nUNSUB 1\r\nPING\r\n\
 |config 2048 65536 check _INBOX MUX1
 up 1048576
 drain 1
@@ -137,7 +167,7 @@ accepted handled
 lost (disconnected)
 up (connected)
 ended
-link 2 up most 1048576 said 1048576 reads 0 pending 0 none\
+link 2 up most 1048576 said 1048576 reads 0 in 0 0 out 0 0 links 2 pending 0 none\
 |config 2048 65536 check _INBOX MUX1
 up 1048576
 drainall
@@ -147,11 +177,11 @@ piece PONG%0D%0A
 accepted handled (draining)
 closed
 fed ended (closed)
-link 1 down closed most 1048576 said 1048576 reads 1 pending 0 none\
+link 1 down closed most 1048576 said 1048576 reads 1 in 0 0 out 0 0 links 1 pending 0 none\
 |config 1 65536 check _INBOX MUX1
 giveup
 =given up (closed)
-link 0 none yet closed most 1048576 unsaid reads 0 pending 0 none\
+link 0 none yet closed most 1048576 unsaid reads 0 in 0 0 out 0 0 links 0 pending 0 none\
 |config 1 65536 check _INBOX MUX1
 up 5
 piece PING%0D%0A
@@ -163,7 +193,7 @@ fed read
 lost (disconnected)
 up (connected)
 fed read read
-link 2 up most 6 said 6 reads 3 pending 0 none\
+link 2 up most 6 said 6 reads 3 in 0 0 out 0 0 links 2 pending 0 none\
 |config 2048 65536 check _INBOX MUX1
 up 1048576
 flush
@@ -189,7 +219,7 @@ lost (disconnected) ticket 3 flush-failed
 numbered 4
 given up (closed) ticket 4 flush-failed
 closed
-link 1 down closed most 1048576 said 1048576 reads 0 pending 0 none";
+link 1 down closed most 1048576 said 1048576 reads 0 in 0 0 out 2 5 links 1 pending 0 none";
 
 #[test]
 fn sessions_answer_as_their_rows_say(rt: HostRuntime) -> Result<(), Fail> {
@@ -220,6 +250,36 @@ take 4 message FOO.BAR ~ Hello%20World ~ ~ 18 ~
 event 1 connected
 call 2 numbered 1
 |config 2048 65536 check _INBOX MUX1
+up 1048576
+piece ONE%0D%0APING%0D%0A
+=link 1 fault
+out %
+left %
+event 1 connected
+event 2 disconnected
+|config 2048 65536 check _INBOX MUX1
+up 1048576
+piece ONE%0D%0APING%0D%0A
+piece %
+=turn 3 may not come there\
+|config 2048 65536 skip _INBOX MUX1
+up 34
+pub a%0D%0APUB%20b%200 ~ %
+sub .a ~
+sub a g%20h
+hpub FOO.BAR INBOX.67 Hello%20World Header X
+=link 1 up
+out %
+left PUB%20a%0D%0APUB%20b%200%200%0D%0A%0D%0AHPUB%20FOO.BAR%20INBOX.67%2023%2034%0D%0ANATS/1.0%0D%0AHeader:%20X%0D%0A%0D%0A\
+Hello%20World%0D%0A
+event 1 connected
+call 2 accepted
+call 3 invalid-subject
+call 4 invalid-queue-name
+call 5 accepted
+|config 2048 65536 check _INBOX MUX1
+hpub a ~ % K v%0D%0Aw
+=line 2|config 2048 65536 check _INBOX MUX1
 up 1048576
 drainall
 pub a ~ x

@@ -12,7 +12,9 @@ ghost use Rattle.nats_session.specs.Handler.{can_play, HandsOut, HandsReply, end
 
 use super::{ConnectionHandler, TICK_LIMIT};
 use nats_history::refusals::{has_group, has_subjects, size_of, subscribes, takes_ticket};
-use nats_history::{Call, CallReply, Event, LinkWord, Message, ServerInfo, Turn};
+use nats_history::{
+    Call, CallReply, Event, LinkWord, Message, ServerInfo, Statistics, Turn,
+};
 use nats_names::State;
 
 impl ConnectionHandler {
@@ -160,6 +162,15 @@ impl ConnectionHandler {
         ensures { result ≡ self.now.parts.link.reads }
     {
         self.reads
+    }
+
+    /// What was counted over all links, each count up to 2^64 - 1: the messages that were read and their lengths, whatever became
+    /// of them; those of publishes and requests that were handled, with the bytes of subject, reply, header block and payload;
+    /// the links that came up. It takes no memory. The crate's `Client::statistics`; the crate counts the bytes of the link.
+    pub fn statistics(&self) -> Statistics
+        ensures { result ≡ self.now.parts.statistics }
+    {
+        self.statistics
     }
 
     /// Whether the session closed.

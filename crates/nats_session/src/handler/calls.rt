@@ -11,6 +11,7 @@ ghost use Rattle.nats_session.specs.Handler.{LeadTo, TakesIn, Submits, Advances,
 use super::requests::push_inbox;
 use super::{ConnectionHandler, TICK_LIMIT};
 use nats_history::refusals::{interest_of, is_drained_with, lets_go, shuts, waits_as};
+use nats_history::statistics::with_link;
 use nats_history::{
     Bytes, Call, CallReply, Config, Due, Event, LinkWord, NoMemory, Ping, ServerInfo, TakeReply,
     Waits,
@@ -61,6 +62,7 @@ impl ConnectionHandler {
             ≡ with_buffers connection (record self.old { parts = after self.old.parts (opened info.value) }) }
     {
         self.link = self.link.saturating_add(1);
+        self.statistics = with_link(self.statistics);
         self.is_up = true;
         self.max_payload = info.max_payload;
         self.info = Some(info);

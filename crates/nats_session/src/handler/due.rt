@@ -13,7 +13,7 @@ ghost use Rattle.nats_history.specs.Schedule.{due, due_chain, chain, read_end, p
 ghost use Rattle.nats_history.specs.After.{written, subs_after};
 ghost use Rattle.nats_subs.specs.Delivery.{with_rows, rows_with};
 ghost use Rattle.nats_tickets.specs.Kept.{kept_after};
-ghost use Rattle.nats_session.specs.Handler.{Advances, Sees, counted, read_past, command_end, seen_handled, is_nothing, handled_first, seen_all, name_of, delivery_of, delivery_name, unwanted_seen, after_message, arrived_seen, come_seen, pong_read, end_in, push_all};
+ghost use Rattle.nats_session.specs.Handler.{Advances, Sees, counted, read_past, message_past, command_end, seen_handled, is_nothing, handled_first, seen_all, name_of, delivery_of, delivery_name, unwanted_seen, after_message, arrived_seen, come_seen, pong_read, end_in, push_all};
 
 use super::ConnectionHandler;
 use super::drains::{
@@ -22,6 +22,7 @@ use super::drains::{
 use super::ends::note_end;
 use super::requests::{ask, inbox_subject, request_ops};
 use nats_history::refusals::{drains_all, ends_link, is_requested_with};
+use nats_history::statistics::{with_call, with_message};
 use nats_history::{
     Call, Config, Due, Event, LinkWord, Message, NoMemory, OutboundMessage, Ping, Subject,
 };
@@ -269,9 +270,10 @@ impl ConnectionHandler {
         let Peeked { op, len } = peeked;
         match op {
             PeekedOp::Message { sid, message } => {
+                let message_len = message.length;
                 let name = self.read_message(alloc, sid, message);
                 if name.is_ok() {
-                    self.read_past(len);
+                    self.message_past(len, message_len);
                 }
                 name
             }
@@ -353,6 +355,15 @@ impl ConnectionHandler {
     {
         self.count_read();
         self.connection.consume(len);
+    }
+
+    /// One more message was read, of such a length; it took so many bytes.
+    fn message_past(&mut self, len: usize, message_len: usize)
+        requires { len ≤ length self.old.parts.link.wire.unread }
+        ensures { self.new ≡ message_past len message_len self.old }
+    {
+        self.statistics = with_message(self.statistics, message_len);
+        self.read_past(len);
     }
 
     fn note_info(&mut self, is_lame_duck: bool) -> Result<(), NoMemory>
@@ -476,6 +487,7 @@ impl ConnectionHandler {
         };
         let is_whole = drains_all(call);
         let requested = is_requested_with(call, self.requested);
+        let statistics = with_call(self.statistics, &self.config, call);
         note_draining(&mut self.events, is_whole)?;
         match handle_call(
             &mut self.connection,
@@ -490,6 +502,7 @@ impl ConnectionHandler {
             Ok(()) => {
                 self.drain_handled = is_whole || self.drain_handled;
                 self.requested = requested;
+                self.statistics = statistics;
                 self.calls.discard();
                 Ok(())
             }
