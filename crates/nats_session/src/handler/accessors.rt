@@ -12,9 +12,7 @@ ghost use Rattle.nats_session.specs.Handler.{can_play, HandsOut, HandsReply, end
 
 use super::{ConnectionHandler, TICK_LIMIT};
 use nats_history::refusals::{has_group, has_subjects, size_of, subscribes, takes_ticket};
-use nats_history::{
-    Call, CallReply, Event, LinkWord, Message, ServerInfo, Statistics, Turn,
-};
+use nats_history::{Call, CallReply, Event, LinkWord, Message, ServerInfo, Statistics, Turn};
 use nats_names::State;
 
 impl ConnectionHandler {
