@@ -1,13 +1,13 @@
 -- Why a try, a server, a round gave no link.
-use Rattle.std.proofs.Common.{◌≡◌, refl, ◌∙◌, sym, ap, subst, ◌≢◌, ◌⊎◌, inl, inr, ℕ, zero, suc, ◌+◌, ◌-◌, ◌^◌, ◌≤◌, min, max, arith, Bool, true, false, List, [], ◌∷◌, ◌++◌, length, drop, Option, Some, None, Result, Ok, Err, IfSome, if◌then◌else◌}
+use Rattle.std.proofs.Common.{◌≡◌, refl, ◌∙◌, sym, ap, ◌⊎◌, inl, inr, ℕ, ◌+◌, ◌≤◌, arith, Bool, true, false, List, [], ◌∷◌, length, drop, Option, Some, None, Result, Ok, Err, IfSome, if◌then◌else◌}
+use Rattle.std.proofs.lemmas.Bool.{false≢true}
 use Rattle.std.specs.List.{concat}
 use Rattle.std.specs.declared.net.socket_addr.SocketAddr.{SocketAddr}
 use Rattle.url.specs.Parts.{Parts}
 use Rattle.nats_names.specs.declared.addr_error.AddrError.{AddrError}
-use Rattle.nats_names.specs.declared.cause.Cause.TheVariants as cause
 use Rattle.nats_info.specs.declared.info.ServerInfo.{ServerInfo}
 use Rattle.nats_addr.specs.Addr.{is_tls, is_websocket, host_name, port_of}
-use Rattle.nats_addr.specs.Resolving.{ResolverTold, risen, gave, failed, wanted}
+use Rattle.nats_addr.specs.Resolving.{ResolverTold, risen, gave}
 use Rattle.nats_addr.specs.declared.resolver.ResolveError.{ResolveError}
 use Rattle.nats_addr.specs.declared.resolver.ResolveError.TheVariants as refusal
 use Rattle.nats_pool.specs.Auths.{AuthValue}
@@ -18,18 +18,17 @@ use Rattle.nats_pool.specs.declared.pool_parts.Next.TheVariants as next
 use Rattle.nats_pool.specs.declared.pool_parts.Outcome.{Outcome}
 use Rattle.nats_pool.specs.declared.pool_parts.Outcome.TheVariants as outcome
 use Rattle.nats_pool.specs.declared.pool_parts.Planned.{Planned}
-use Rattle.nats_outside.specs.Counts.{Rose, RoseBy}
-use Rattle.nats_outside.specs.Told.{Seen, ReadTold, WriteTold, dialed, hung_up, ended_more}
+use Rattle.nats_outside.specs.Counts.{RoseBy}
+use Rattle.nats_outside.specs.Told.{Seen, ReadTold, WriteTold, ended_more}
 use Rattle.nats_handshake.specs.Errors.{Failure}
-use Rattle.nats_handshake.specs.Course.{io}
 use Rattle.nats_handshake.specs.Shaking.{wanting}
 use Rattle.nats_dial.specs.declared.linked.Linked.{Linked}
-use Rattle.nats_dial.specs.Lines.{Gave, Broke}
+use Rattle.nats_dial.specs.Lines.{Broke}
 use Rattle.nats_dial.specs.Taking.{TookIn}
-use Rattle.nats_pool.specs.Handing.{RoundTold, IsBegun, HandsNext, left_of, handed_on, counted, told_of}
-use Rattle.nats_dial.specs.Tries.{Unshaken, Unreached, Reaches, Notes, Tries, TriesEach, Asks, VisitsWhere, Visits, GoesThrough, Connects, Ends, ends_round, returned, undialed, rested, no_address, no_websocket, unresolved, all_failed, too_many}
-use Rattle.nats_dial.specs.Causes.{Onward, EachDialed, LastGave, LastRefused, LinkCause, ServerCause, EndsInSocket, last_tls, plain, sockets, HasTried, IsSpent, Why, RoundCause}
-use Rattle.nats_dial.proofs.Onwards.{rose_later, rose_less, rose_on, risen_rose, risen_later, onward_same, onward_on, dialed_on, one_each, failed_word, ended_word, link_on, server_on}
+use Rattle.nats_pool.specs.Handing.{RoundTold, IsBegun, HandsNext, left_of, handed_on, told_of}
+use Rattle.nats_dial.specs.Tries.{Unreached, Notes, Tries, TriesEach, Asks, VisitsWhere, Visits, GoesThrough, Connects, ends_round, returned, undialed, rested, failure_text, no_address, no_websocket, unresolved, all_failed, too_many}
+use Rattle.nats_dial.specs.Causes.{Onward, EachDialed, LastGave, LinkCause, ServerCause, plain, sockets, HasTried, IsSpent, Why, RoundCause}
+use Rattle.nats_dial.proofs.Onwards.{onward_same, onward_on, dialed_on, one_each, is_fine, failed_word, ended_word, link_on, server_since, server_on}
 
 -- what the last link gave, of which the bytes taken are known
 gave_last : (pieces : Option (List (List ℕ))) (taken : Option (List ℕ)) (links : Option (List (List (List ℕ) × List ℕ)))
@@ -71,6 +70,34 @@ back_onward to start look r w a = record {
   starts = omega arith;
 }
 
+-- a server was asked for, and gave these addresses
+abbrev asked : Parts → List SocketAddr → Seen → Seen
+asked addr xs a = record a { resolver = gave (host_name addr) (port_of addr) xs a.resolver }
+
+asked_onward : (addr : Parts) (xs : List SocketAddr) (a : Seen) → Onward a (asked addr xs a)
+asked_onward addr xs a = record {
+  dial_faults = omega arith;
+  ends = omega arith;
+  dials = omega arith;
+  ask_faults = omega arith;
+  empties = omega arith;
+  askings = omega arith;
+  given = omega arith;
+  starts = omega arith;
+}
+
+rested_onward : (delay : ℕ) (a : Seen) → Onward a (rested delay a)
+rested_onward delay a = record {
+  dial_faults = omega arith;
+  ends = omega arith;
+  dials = omega arith;
+  ask_faults = omega arith;
+  empties = omega arith;
+  askings = omega arith;
+  given = omega arith;
+  starts = omega arith;
+}
+
 module _ {P R T : Type 0} (Takes : P → P → List (List ℕ) → Result (Unit {0}) AddrError → Type 0)
     (Counts : Parts → Outcome → P → P → Type 0) (Hands : P → P → Next → Type 0) (Begins : ServerInfo → P → P → Choice → Type 0)
     (told : P → RoundTold)
@@ -85,9 +112,9 @@ module _ {P R T : Type 0} (Takes : P → P → List (List ℕ) → Result (Unit 
     broke_cause by_scheme to start look r w a e (inr (inl (is, late))) =
         inr (inl (is, record { started = omega arith; awake = refl; late = late }))
     broke_cause by_scheme to start look r w a e (inr (inr (inl (is, some)))) =
-        inr (inr (inl (is, omega (arith, some), failed_word r.faults w.faults r.ends some)))
+        inr (inr (inl (is, (omega (arith, some), failed_word r.faults w.faults r.ends some))))
     broke_cause by_scheme to start look r w a e (inr (inr (inr (inl (at, going, is, some))))) =
-        inr (inr (inr (inl (at, going, is, omega (arith, some), ended_word r.faults w.faults r.ends some))))
+        inr (inr (inr (inl (at, going, is, (omega (arith, some), ended_word r.faults w.faults r.ends some)))))
     broke_cause by_scheme to start look r w a e (inr (inr (inr (inr (text, gave, why))))) =
         inr (inr (inr (inr (text, gave_last r.pieces w.taken a.dialer.ended text gave, why))))
 
@@ -96,14 +123,14 @@ module _ {P R T : Type 0} (Takes : P → P → List (List ℕ) → Result (Unit 
         → Unreached Takes Counts Hands Begins told Offers by_option name no_echo timeout read_of write_of addr to a e b
         → Onward a b × (b.resolver ≡ a.resolver) × (b.dialer.dials ≡ risen 1 a.dialer.dials)
         × LinkCause Takes Offers by_option name no_echo timeout (is_tls addr) a e b
-    reached_cause addr to a e b plain (inl (start, is, eq)) = rw eq (
+    reached_cause addr to a e b no_ws (inl (start, is, eq)) = rw eq (
       dial_onward to start a,
       refl,
       refl,
-      inr (inr (inl (is, omega arith, λ word. elim word [ ]))),
+      inr (inr (inl (is, (omega arith, λ same. false≢true (ap is_fine same))))),
     )
-    reached_cause addr to a e b plain (inr (start, look, r, w, eq, inl (is, ws))) = elim (sym plain ∙ ws) [ ]
-    reached_cause addr to a e b plain (inr (start, look, r, w, eq, inr broke)) = rw eq (
+    reached_cause addr to a e b no_ws (inr (start, look, r, w, eq, inl (is, ws))) = absurd (false≢true (sym no_ws ∙ ws))
+    reached_cause addr to a e b no_ws (inr (start, look, r, w, eq, inr broke)) = rw eq (
       back_onward to start look r w a,
       refl,
       refl,
@@ -120,7 +147,7 @@ module _ {P R T : Type 0} (Takes : P → P → List (List ℕ) → Result (Unit 
 
         noted_told : (addr : Parts) (f : Failure) (p : P) (e : Failure) (q : P) → Notes Counts addr f p e q → told q ≡ told p
         noted_told addr f p e q (inl (is, eq)) = ap told eq
-        noted_told addr f p e q (inr (is, counts)) = counts_round addr _ p q counts
+        noted_told addr f p e q (inr (is, counts)) = counts_round addr (outcome.Failed (failure_text f)) p q counts
 
         noted_cause : (addr : Parts) (f : Failure) (p : P) (e : Failure) (q : P) (a b : Seen) → Notes Counts addr f p e q
             → LinkCause Takes Offers by_option name no_echo timeout (is_tls addr) a f b
@@ -134,8 +161,8 @@ module _ {P R T : Type 0} (Takes : P → P → List (List ℕ) → Result (Unit 
             → Tries Takes Counts Hands Begins told Offers by_option name no_echo timeout read_of write_of addr to a p (Err e) b q
             → Onward a b × (b.resolver ≡ a.resolver) × (b.dialer.dials ≡ risen 1 a.dialer.dials)
             × LinkCause Takes Offers by_option name no_echo timeout (is_tls addr) a e b × (told q ≡ told p)
-        tried_cause addr to a p e b q plain t =
-            let r = reached_cause addr to a t.0 b plain t.2.0 in (
+        tried_cause addr to a p e b q no_ws t =
+            let r = reached_cause addr to a t.0 b no_ws t.2.0 in (
               r.0,
               r.1,
               r.2,
@@ -143,7 +170,7 @@ module _ {P R T : Type 0} (Takes : P → P → List (List ℕ) → Result (Unit 
               noted_told addr t.0 t.1 e q t.3 ∙ took_told p t.1 t.2.1,
             )
 
-        err_of : Failure → Result (Linked R T) Failure → Failure
+        abbrev err_of : Failure → Result (Linked R T) Failure → Failure
         err_of d (Ok l) = d
         err_of d (Err e) = e
 
@@ -165,19 +192,19 @@ module _ {P R T : Type 0} (Takes : P → P → List (List ℕ) → Result (Unit 
             → is_websocket addr ≡ false
             → TriesEach Takes Counts Hands Begins told Offers by_option name no_echo timeout read_of write_of addr xs last a p (Err e) b q
             → EachFacts addr xs last a p e b q
-        each_cause addr [] last a p e b q plain (is, same, stays) = rw same (
+        each_cause addr [] last a p e b q no_ws (is, same, stays) = rw same (
           onward_same a,
           refl,
           λ goes. omega arith,
           inl (refl, ap (err_of last) is, refl),
           ap told stays,
         )
-        each_cause addr (to ∷ more) last a p e b q plain (inl (tries, ends)) =
-            let t = tried_cause addr to a p e b q plain tries in
-            (t.0, t.1, λ goes. elim (sym ends ∙ goes) [ ], inr t.3, t.4)
-        each_cause addr (to ∷ more) last a p e b q plain (inr (e1, c, m, tries, goes, rest)) =
-            let t = tried_cause addr to a p e1 c m plain tries in
-            let f = each_cause addr more e1 c m e b q plain rest in (
+        each_cause addr (to ∷ more) last a p e b q no_ws (inl (tries, ends)) =
+            let t = tried_cause addr to a p e b q no_ws tries in
+            (t.0, t.1, λ goes. absurd (false≢true (sym goes ∙ ends)), inr t.3, t.4)
+        each_cause addr (to ∷ more) last a p e b q no_ws (inr (e1, c, m, tries, goes, rest)) =
+            let t = tried_cause addr to a p e1 c m no_ws tries in
+            let f = each_cause addr more e1 c m e b q no_ws rest in (
               onward_on a c b t.0 f.0,
               f.1 ∙ t.1,
               λ going. omega (arith, t.2, f.2 going),
@@ -193,43 +220,30 @@ module _ {P R T : Type 0} (Takes : P → P → List (List ℕ) → Result (Unit 
             × ServerCause Takes Offers by_option name no_echo timeout (s ∷ []) a e b
             × (told q ≡ told p)
 
-        abbrev asked : Parts → List SocketAddr → Seen → Seen
-        asked addr xs a = record a { resolver = gave (host_name addr) (port_of addr) xs a.resolver }
-
-        asked_onward : (addr : Parts) (xs : List SocketAddr) (a : Seen) → Onward a (asked addr xs a)
-        asked_onward addr xs a = record {
-          dial_faults = omega arith;
-          ends = omega arith;
-          dials = omega arith;
-          ask_faults = omega arith;
-          empties = omega arith;
-          askings = omega arith;
-          given = omega arith;
-          starts = omega arith;
-        }
-
         given_cause : (s : Planned) (xs : List SocketAddr) (a : Seen) (e : Failure) (b : Seen)
             → b.resolver ≡ (asked s.addr xs a).resolver
             → ((xs ≡ []) × (e ≡ no_address) × (b ≡ asked s.addr xs a))
             ⊎ LinkCause Takes Offers by_option name no_echo timeout (is_tls s.addr) (asked s.addr xs a) e b
             → ServerCause Takes Offers by_option name no_echo timeout (s ∷ []) a e b
-        given_cause s xs a e b told (inl (none, is, same)) =
-            inr (inl (is, rw (told, none) (omega arith), ap (λ (r : ResolverTold). r.word) told ∙ rw none refl))
-        given_cause s xs a e b told (inr why) = inr (inr (inr why))
+        given_cause s xs a e b asking (inl (none, is, same)) =
+            inr (inl (is, rw (asking, none) (omega arith), ap (λ (r : ResolverTold). r.word) asking ∙ rw none refl))
+        given_cause s xs a e b asking (inr why) = inr (inr (inr
+            (link_on Takes Offers by_option name no_echo timeout (is_tls s.addr) a (asked s.addr xs a) e b
+            (asked_onward s.addr xs a) why)))
 
         asks_cause : (s : Planned) (answer : Result (List SocketAddr) ResolveError) (a : Seen) (p : P) (e : Failure) (b : Seen) (q : P)
             → is_websocket s.addr ≡ false
             → Asks Takes Counts Hands Begins told Offers by_option name no_echo timeout read_of write_of s.addr answer a p (Err e) b q
             → ServerFacts s a p e b q
-        asks_cause s (Ok xs) a p e b q plain tries =
-            let f = each_cause s.addr xs no_address (asked s.addr xs a) p e b q plain tries in (
+        asks_cause s (Ok xs) a p e b q no_ws tries =
+            let f = each_cause s.addr xs no_address (asked s.addr xs a) p e b q no_ws tries in (
               onward_on a (asked s.addr xs a) b (asked_onward s.addr xs a) f.0,
-              rw (plain, f.1) (omega arith),
+              rw (no_ws, f.1) (omega arith),
               λ goes. rw f.1 (omega (arith, f.2 goes)),
               given_cause s xs a e b f.1 f.3,
               f.4,
             )
-        asks_cause s (Err refusal.Failed) a p e b q plain (is, same, stays) = rw (same, plain) (
+        asks_cause s (Err refusal.Failed) a p e b q no_ws (is, same, stays) = rw (same, no_ws) (
           record {
             dial_faults = omega arith;
             ends = omega arith;
@@ -245,7 +259,7 @@ module _ {P R T : Type 0} (Takes : P → P → List (List ℕ) → Result (Unit 
           inl (ap (err_of unresolved) is, omega arith, refl),
           ap told stays,
         )
-        asks_cause s (Err refusal.NoMemory) a p e b q plain (is, same, stays) = rw (same, plain) (
+        asks_cause s (Err refusal.NoMemory) a p e b q no_ws (is, same, stays) = rw (same, no_ws) (
           record {
             dial_faults = omega arith;
             ends = omega arith;
@@ -275,24 +289,15 @@ module _ {P R T : Type 0} (Takes : P → P → List (List ℕ) → Result (Unit 
           inr (inr (inl (ap (err_of no_websocket) is, ws))),
           ap told stays,
         )
-        visits_where false s a p e b q plain (answer, asks) = asks_cause s answer a p e b q plain asks
+        visits_where false s a p e b q no_ws (answer, asks) = asks_cause s answer a p e b q no_ws asks
 
         of_rested : (s : Planned) (delay : ℕ) (a : Seen) (p : P) (e : Failure) (b : Seen) (q : P)
             → ServerFacts s (rested delay a) p e b q → ServerFacts s a p e b q
         of_rested s delay a p e b q f = (
-          record {
-            dial_faults = f.0.dial_faults;
-            ends = f.0.ends;
-            dials = f.0.dials;
-            ask_faults = f.0.ask_faults;
-            empties = f.0.empties;
-            askings = f.0.askings;
-            given = f.0.given;
-            starts = f.0.starts;
-          },
+          onward_on a (rested delay a) b (rested_onward delay a) f.0,
           f.1,
           f.2,
-          f.3,
+          server_since Takes Offers by_option name no_echo timeout (s ∷ []) a (rested delay a) e b (rested_onward delay a) f.3,
           f.4,
         )
 
@@ -301,6 +306,12 @@ module _ {P R T : Type 0} (Takes : P → P → List (List ℕ) → Result (Unit 
             → Visits Takes Counts Hands Begins told Offers by_option name no_echo timeout read_of write_of s.addr delay a p (Err e) b q
             → ServerFacts s a p e b q
         visited_cause s delay a p e b q v = of_rested s delay a p e b q (visits_where (is_websocket s.addr) s (rested delay a) p e b q refl v)
+
+        -- which leaves a round as it was
+        pub visited_told : (s : Planned) (delay : ℕ) (a : Seen) (p : P) (e : Failure) (b : Seen) (q : P)
+            → Visits Takes Counts Hands Begins told Offers by_option name no_echo timeout read_of write_of s.addr delay a p (Err e) b q
+            → told q ≡ told p
+        visited_told s delay a p e b q v = (visited_cause s delay a p e b q v).4
 
         module _ (hands_round : (a b : P) (n : Next) → Hands a b n → HandsNext (told a) n (told b))
             (begins_round : (last : ServerInfo) (a b : P) (chosen : Choice) → Begins last a b chosen → IsBegun (told a) (told b))
@@ -385,7 +396,7 @@ module _ {P R T : Type 0} (Takes : P → P → List (List ℕ) → Result (Unit 
                     round = refl;
                     attempts = omega arith;
                   }),
-                  inr (inr (v.3, omega arith, λ goes. elim (sym ends ∙ goes) [ ])),
+                  inr (inr (v.3, omega arith, λ goes. absurd (false≢true (sym goes ∙ ends)))),
                 )
             goes_cause (s ∷ more) last a p e b q (inr (attempt, n, hands, there, inr (e1, c, m, visits, goes, later))) =
                 let h = hands_round p n (next.Try attempt) hands in
@@ -432,6 +443,6 @@ module _ {P R T : Type 0} (Takes : P → P → List (List ℕ) → Result (Unit 
                     onward = g.2.onward;
                     askings = g.2.askings;
                   },
-                  g.3.handed ∙ ap (λ (k : ℕ). k + length g.0) begun.0,
+                  omega (arith, g.3.handed, begun.0),
                   why_of g.0 g.1 (told p) (told n) (told q) a e b begun g.3 g.2.askings g.4,
                 )

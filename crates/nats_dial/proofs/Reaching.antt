@@ -1,5 +1,5 @@
 -- What the outside tells once an address was dialed.
-use Rattle.std.proofs.Common.{◌≡◌, refl, ◌∙◌, sym, ap, subst, inl, inr, ℕ, Bool, List, Option, Result, Ok, Err}
+use Rattle.std.proofs.Common.{◌≡◌, ◌∙◌, ap, subst, ℕ, Bool, List, Option, Result, Ok, Err}
 use Rattle.std.specs.declared.net.socket_addr.SocketAddr.{SocketAddr}
 use Rattle.url.specs.Parts.{Parts}
 use Rattle.nats_names.specs.declared.addr_error.AddrError.{AddrError}
@@ -13,11 +13,11 @@ start_of : ℕ → Seen → Seen
 start_of start a = record a { clock = started start a.clock }
 
 -- a link was dialed then
-dial_of : SocketAddr → Seen → Seen
+abbrev dial_of : SocketAddr → Seen → Seen
 dial_of to a = record a { dialer = dialed {L = Unit {0}} {E = Unit {0}} to (Ok tt) a.dialer }
 
 -- the clock was looked at
-look_of : ℕ → Seen → Seen
+abbrev look_of : ℕ → Seen → Seen
 look_of last a = record a { clock = looked last a.clock }
 
 pub undialed_is : (to : SocketAddr) (start : ℕ) (a s b : Seen) → s ≡ record a { clock = started start a.clock }
@@ -51,4 +51,4 @@ module _ {P : Type 0} (Takes : P → P → List (List ℕ) → Result (Unit {0})
         → Unshaken Takes Offers by_option name no_echo timeout addr start e r w (timed start look a.clock)
     unshaken_at to start look r w a s d g e first second third why =
         subst (λ (c : ClockTold). Unshaken Takes Offers by_option name no_echo timeout addr start e r w c)
-            (ap (λ (x : Seen). x.clock) (upped_is to start look a s d g first second third)) why
+        (ap (λ (x : Seen). x.clock) (upped_is to start look a s d g first second third)) why

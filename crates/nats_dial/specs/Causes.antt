@@ -1,5 +1,5 @@
 -- Why a round gave no link, over what the outside and the pool told before it and after it.
-use Rattle.std.specs.Prelude.{◌≡◌, ◌≢◌, ◌⊎◌, ℕ, ◌+◌, ◌-◌, ◌≤◌, Bool, true, false, if◌then◌else◌, List, [], ◌∷◌, ◌++◌, length, Option, Some, None, Result, IfSome}
+use Rattle.std.specs.Prelude.{◌≡◌, ◌≢◌, ◌⊎◌, ℕ, ◌+◌, ◌-◌, ◌≤◌, Bool, true, false, if◌then◌else◌, List, [], ◌∷◌, ◌++◌, length, Option, None, Result, IfSome}
 use Rattle.std.specs.List.{concat}
 use Rattle.nats_names.specs.declared.addr_error.AddrError.{AddrError}
 use Rattle.nats_names.specs.declared.cause.Cause.TheVariants as cause
@@ -17,7 +17,7 @@ use Rattle.nats_handshake.specs.Course.{io}
 use Rattle.nats_handshake.specs.Errors.{Failure}
 use Rattle.nats_handshake.specs.Shaking.{wanting, end_cause}
 use Rattle.nats_handshake.specs.Heard.{IsOpen, RefusesText}
-use Rattle.nats_pool.specs.Handing.{RoundTold, left_of}
+use Rattle.nats_pool.specs.Handing.{RoundTold}
 use Rattle.nats_dial.specs.Tries.{ends_round, unresolved, no_address, no_websocket, all_failed, too_many}
 
 -- no count of the outside fell

@@ -3,6 +3,8 @@
 
 mod address;
 mod connect;
+#[cfg(test)]
+mod connect_tests;
 mod greet;
 mod link;
 mod linked;

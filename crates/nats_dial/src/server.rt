@@ -1,5 +1,5 @@
 //! One server: asked for, and each of its addresses tried.
-ghost use Rattle.std.specs.Prelude.{◌≡◌};
+ghost use Rattle.std.specs.Prelude.{◌≡◌, false};
 ghost use Rattle.nats_pool.specs.Auths.{auth_value};
 ghost use Rattle.nats_handshake.specs.Credentials.{SignerAnswers, AuthAnswers, Offers};
 ghost use Rattle.nats_dial.specs.Tries.{TriesEach, Visits, VisitsWhere, ends_round, no_address, no_websocket, unresolved};

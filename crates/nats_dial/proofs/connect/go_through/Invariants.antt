@@ -14,12 +14,12 @@ invariant-servers g l = record {
       → GoesThrough g.P.ServerList.Takes g.P.Rounds.Counts g.P.Rounds.Hands g.P.Rounds.Begins g.P.Rounds.round_told
       (Offers SignerAnswers AuthAnswers l.options.signer l.options.auth_callback (auth_value l.options.auth))
       l.options.tls_required l.options.name l.options.no_echo l.options.connection_timeout
-      g.W.Dialer.Read.LinkRead.read_told g.W.Dialer.Write.LinkWrite.write_told
+      g.W.Read.LinkRead.read_told g.W.Write.LinkWrite.write_told
       (left_of (g.P.Rounds.round_told l.pool)) l.last (g.W.Reach.seen l.world) l.pool result b q
       → GoesThrough g.P.ServerList.Takes g.P.Rounds.Counts g.P.Rounds.Hands g.P.Rounds.Begins g.P.Rounds.round_told
       (Offers SignerAnswers AuthAnswers l.options.signer l.options.auth_callback (auth_value l.options.auth))
       l.options.tls_required l.options.name l.options.no_echo l.options.connection_timeout
-      g.W.Dialer.Read.LinkRead.read_told g.W.Dialer.Write.LinkWrite.write_told
+      g.W.Read.LinkRead.read_told g.W.Write.LinkWrite.write_told
       (left_of (g.P.Rounds.round_told l.initial.pool)) all_failed (g.W.Reach.seen l.initial.world) l.initial.pool
       result b q;
 }

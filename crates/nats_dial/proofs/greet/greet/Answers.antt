@@ -31,33 +31,34 @@ pub returns-in_err-shake_hands-clause-greets : goal.returns-in_err-shake_hands-c
 returns-in_err-shake_hands-clause-greets g c = λ fresh.
     let going = subst (λ (t : Talk). IsOpen t.stage) (sym c.in_ok-shaking.ensures) tt in
     let had = subst (λ (t : Talk). HasTook g.P.ServerList.Takes t.stage c.args.pool.now c.args.pool.now)
-        (sym c.in_ok-shaking.ensures) refl in
+    (sym c.in_ok-shaking.ensures) refl in
     let line = fresh_line
-        (Offers SignerAnswers AuthAnswers c.args.options.now.signer c.args.options.now.auth_callback (auth_value c.args.options.now.auth))
-        c.args.options.now.name c.args.options.now.no_echo c.args.addr.now c.args.options.now.connection_timeout c.args.start
-        c.in_ok-shaking.shaking (g.R.LinkRead.read_told c.args.read.now) (g.T.LinkWrite.write_told c.args.write.now)
-        c.in_ok-shaking.ensures fresh in
+    (Offers SignerAnswers AuthAnswers c.args.options.now.signer c.args.options.now.auth_callback (auth_value c.args.options.now.auth))
+    c.args.options.now.name c.args.options.now.no_echo c.args.addr.now c.args.options.now.connection_timeout c.args.start
+    c.in_ok-shaking.shaking (g.R.LinkRead.read_told c.args.read.now) (g.T.LinkWrite.write_told c.args.write.now)
+    c.in_ok-shaking.ensures fresh in
     err_by (λ x. Greets g.P.ServerList.Takes
     (Offers SignerAnswers AuthAnswers c.args.options.now.signer c.args.options.now.auth_callback (auth_value c.args.options.now.auth))
     c.args.options.now.tls_required c.args.options.now.name c.args.options.now.no_echo c.args.options.now.connection_timeout
     c.args.addr.now c.args.start c.args.pool.now x (g.R.LinkRead.read_told c.shake_hands.new.read) (g.T.LinkWrite.write_told c.shake_hands.new.write) (g.C.Clock.clock_told c.shake_hands.new.clock) c.shake_hands.new.pool)
     c.in_err-shake_hands.field-0.0 c.from_residual-in_err-shake_hands.result
-    c.from_residual-in_err-shake_hands.ensures.0 c.from_residual-in_err-shake_hands.ensures.1
-    (inr (c.in_err-shake_hands.ensures.shaken (is_tls c.args.addr.now) c.args.start c.args.options.now.connection_timeout [] [] going line),
-    c.in_err-shake_hands.ensures.took c.args.pool.now going had)
+    c.from_residual-in_err-shake_hands.ensures.0 c.from_residual-in_err-shake_hands.ensures.1 (
+      inr (c.in_err-shake_hands.ensures.shaken (is_tls c.args.addr.now) c.args.start c.args.options.now.connection_timeout [] [] going line),
+      c.in_err-shake_hands.ensures.took c.args.pool.now going had,
+    )
 
 pub returns-clause-greets : goal.returns-clause-greets
 returns-clause-greets g c = λ fresh.
     let going = subst (λ (t : Talk). IsOpen t.stage) (sym c.in_ok-shaking.ensures) tt in
     let had = subst (λ (t : Talk). HasTook g.P.ServerList.Takes t.stage c.args.pool.now c.args.pool.now)
-        (sym c.in_ok-shaking.ensures) refl in
+    (sym c.in_ok-shaking.ensures) refl in
     let line = fresh_line
-        (Offers SignerAnswers AuthAnswers c.args.options.now.signer c.args.options.now.auth_callback (auth_value c.args.options.now.auth))
-        c.args.options.now.name c.args.options.now.no_echo c.args.addr.now c.args.options.now.connection_timeout c.args.start
-        c.in_ok-shaking.shaking (g.R.LinkRead.read_told c.args.read.now) (g.T.LinkWrite.write_told c.args.write.now)
-        c.in_ok-shaking.ensures fresh in
+    (Offers SignerAnswers AuthAnswers c.args.options.now.signer c.args.options.now.auth_callback (auth_value c.args.options.now.auth))
+    c.args.options.now.name c.args.options.now.no_echo c.args.addr.now c.args.options.now.connection_timeout c.args.start
+    c.in_ok-shaking.shaking (g.R.LinkRead.read_told c.args.read.now) (g.T.LinkWrite.write_told c.args.write.now)
+    c.in_ok-shaking.ensures fresh in
     let shaken = c.in_ok-shake_hands.ensures.shaken (is_tls c.args.addr.now) c.args.start c.args.options.now.connection_timeout
-        [] [] going line in
+    [] [] going line in
     let took = c.in_ok-shake_hands.ensures.took c.args.pool.now going had in
     greeted g.P.ServerList.Takes
     (Offers SignerAnswers AuthAnswers c.args.options.now.signer c.args.options.now.auth_callback (auth_value c.args.options.now.auth))

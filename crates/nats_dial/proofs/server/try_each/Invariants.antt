@@ -13,11 +13,11 @@ invariant-addresses g l = record {
       → TriesEach g.P.ServerList.Takes g.P.Rounds.Counts g.P.Rounds.Hands g.P.Rounds.Begins g.P.Rounds.round_told
       (Offers SignerAnswers AuthAnswers l.options.signer l.options.auth_callback (auth_value l.options.auth))
       l.options.tls_required l.options.name l.options.no_echo l.options.connection_timeout
-      g.W.Dialer.Read.LinkRead.read_told g.W.Dialer.Write.LinkWrite.write_told
+      g.W.Read.LinkRead.read_told g.W.Write.LinkWrite.write_told
       l.addr (drop l.to-index l.fn.addresses) l.last (g.W.Reach.seen l.world) l.pool result b q
       → TriesEach g.P.ServerList.Takes g.P.Rounds.Counts g.P.Rounds.Hands g.P.Rounds.Begins g.P.Rounds.round_told
       (Offers SignerAnswers AuthAnswers l.options.signer l.options.auth_callback (auth_value l.options.auth))
       l.options.tls_required l.options.name l.options.no_echo l.options.connection_timeout
-      g.W.Dialer.Read.LinkRead.read_told g.W.Dialer.Write.LinkWrite.write_told
+      g.W.Read.LinkRead.read_told g.W.Write.LinkWrite.write_told
       l.addr l.fn.addresses no_address (g.W.Reach.seen l.initial.world) l.initial.pool result b q;
 }
