@@ -200,7 +200,8 @@ fn comes_up(alloc: Global, pool: &mut Pool, world: &mut Memory) -> bool {
 fn the_second_address_gives_a_link(rt: HostRuntime) -> Result<(), Fail> {
     let alloc = rt.alloc();
     let mut pool = pool(alloc, &["a"], None)?;
-    let texts = ["INFO {\"connect_urls\":[\"b\"]}\r\nPONG\r\nrest"];
+    // The piece of 7 bytes that ends the PONG has the rest too.
+    let texts = ["INFO {\"connect_urls\":[\"b\"]} \r\nPONG\r\nrest"];
     let mut world = world(alloc, &texts, 1, 0)?;
     assert!(rt; comes_up(alloc, &mut pool, &mut world));
     assert!(rt; knows(alloc, &pool, 0, true, "", 2)?);
