@@ -122,65 +122,51 @@ fn fails(alloc: Global, round: &Round) -> Result<bool, NoMemory> {
     Ok(is_refused && is_counted)
 }
 
-fn no_servers() -> Round<'static> {
+// One whose first server keeps what the error says, where it failed.
+fn a_round<'a>(
+    addrs: &'a [&'a str],
+    texts: &'a [&'a str],
+    words: &'a str,
+    failed: usize,
+) -> Round<'a> {
     Round {
-        addrs: &[],
+        addrs,
         limit: None,
-        texts: &[],
+        texts,
         dial: 0,
         asking: 0,
-        words: "IO error: all connection attempts failed",
-        failed: 0,
-        kept: "",
+        words,
+        failed,
+        kept: if failed > 0 { words } else { "" },
     }
 }
 
+const NO_INFO: &str = "IO error: expected INFO, got nothing";
+
+const VIOLATES: &str = "INFO {}\r\n-ERR 'Authorization Violation'\r\n";
+
+const VIOLATION: &str = "authorization violation: nats: authorization violation";
+
+const UP: &str = "INFO {}\r\nPONG\r\n";
+
 #[test]
 fn rounds_that_give_no_link(rt: HostRuntime) -> Result<(), Fail> {
-    let no_info = "IO error: expected INFO, got nothing";
-    let violation = "authorization violation: nats: authorization violation";
-    let violates = "INFO {}\r\n-ERR 'Authorization Violation'\r\n";
     let rounds = [
-        no_servers(),
+        a_round(&[], &[], "IO error: all connection attempts failed", 0),
         // Both addresses are dialed, and each link ends.
-        Round {
-            addrs: &["a"],
-            texts: &["", ""],
-            words: no_info,
-            failed: 2,
-            kept: no_info,
-            ..no_servers()
-        },
+        a_round(&["a"], &["", ""], NO_INFO, 2),
         // What is not dialed counts as no failure.
         Round {
-            addrs: &["a"],
             asking: 1,
-            words: "DNS error: link failed",
-            ..no_servers()
+            ..round(&["a"], &[], "DNS error: link failed", 0)
         },
+        a_round(&["ws://a"], &[], "failed to parse server or server list", 0),
+        // A violation ends the round, and so does the limit.
+        a_round(&["a", "b"], &[VIOLATES, UP], VIOLATION, 1),
         Round {
-            addrs: &["ws://a"],
-            words: "failed to parse server or server list",
-            ..no_servers()
-        },
-        // A violation ends the round.
-        Round {
-            addrs: &["a", "b"],
-            texts: &[violates, "INFO {}\r\nPONG\r\n"],
-            words: violation,
-            failed: 1,
-            kept: violation,
-            ..no_servers()
-        },
-        // So does the limit.
-        Round {
-            addrs: &["a", "b", "c"],
             limit: Some(2),
-            texts: &["", "", "", "", "INFO {}\r\nPONG\r\n"],
             words: "reached maximum number of reconnects",
-            failed: 2,
-            kept: no_info,
-            ..no_servers()
+            ..round(&["a", "b", "c"], &["", "", "", "", UP], NO_INFO, 2)
         },
     ];
     for round in &rounds {
