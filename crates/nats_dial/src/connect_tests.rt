@@ -158,7 +158,7 @@ fn rounds_that_give_no_link(rt: HostRuntime) -> Result<(), Fail> {
         // What is not dialed counts as no failure.
         Round {
             asking: 1,
-            ..round(&["a"], &[], "DNS error: link failed", 0)
+            ..a_round(&["a"], &[], "DNS error: link failed", 0)
         },
         a_round(&["ws://a"], &[], "failed to parse server or server list", 0),
         // A violation ends the round, and so does the limit.
@@ -166,7 +166,7 @@ fn rounds_that_give_no_link(rt: HostRuntime) -> Result<(), Fail> {
         Round {
             limit: Some(2),
             words: "reached maximum number of reconnects",
-            ..round(&["a", "b", "c"], &["", "", "", "", UP], NO_INFO, 2)
+            ..a_round(&["a", "b", "c"], &["", "", "", "", UP], NO_INFO, 2)
         },
     ];
     for round in &rounds {
