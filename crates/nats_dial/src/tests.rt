@@ -19,12 +19,12 @@ impl ServerList for NoServers {
     }
 }
 
-fn home() -> SocketAddr {
+pub(crate) fn home() -> SocketAddr {
     SocketAddr::new(IpAddr::V4(Ipv4Addr::LOCALHOST), 4222)
 }
 
 // A link that gives this text, at most 7 bytes at a read.
-fn link(alloc: Global, text: &str) -> Result<FakeLink, NoMemory> {
+pub(crate) fn link(alloc: Global, text: &str) -> Result<FakeLink, NoMemory> {
     let bytes = Bytes::copy_from_slice(alloc, text.as_bytes())?;
     FakeLink::new(alloc, bytes, 7)
 }

@@ -1,6 +1,6 @@
 use crate::{ConnectErrorKind, ConnectOptions, Handshake, NoMemory, Shake, Text};
-use nats_names::AddrError;
-use nats_pool::{ServerAddr, ServerList};
+use nats_names::{AddrError, AuthError};
+use nats_pool::{Auth, AuthBox, ServerAddr, ServerList};
 use std::alloc::Global;
 use std::test::Fail;
 
@@ -169,5 +169,33 @@ fn the_usual_handshake(rt: HostRuntime) -> Result<(), Fail> {
     let mut shaking = begun(alloc, "a")?;
     assert!(rt; usual(alloc, &mut shaking, b"+OK\r\nPONG\r\nPING\r\n"));
     assert!(rt; ends_with(shaking, b"PING\r\n"));
+    Ok(())
+}
+
+// The same with the signature of its nonce.
+const SIGNED_OUT: &[u8] =
+    b"CONNECT {\"verbose\":false,\"pedantic\":false,\"jwt\":null,\"nkey\":null,\"sig\":\"Pj4-Pz8_fg\",\
+    \"name\":null,\"echo\":true,\"lang\":\"rust\",\"version\":\"0.51.0\",\"protocol\":1,\"tls_required\":false,\
+    \"user\":null,\"pass\":null,\"auth_token\":null,\"headers\":true,\"no_responders\":true}\r\nPING\r\n";
+
+// A callback that signs a nonce by itself.
+fn signing(nonce: Vec<u8>) -> Result<Auth, AuthError> {
+    let mut auth = Auth::new();
+    auth.signature = Some(nonce);
+    Ok(auth)
+}
+
+fn greets_with(alloc: Global, shaking: &mut Handshake, options: &ConnectOptions) -> bool {
+    let info = b"INFO {\"nonce\":\">>>???~\"}\r\n";
+    shaking.feed(alloc, info, options, &mut NoServers).is_ok() && shaking.out() == SIGNED_OUT
+}
+
+#[test]
+fn a_callback_signs_the_nonce(rt: HostRuntime) -> Result<(), Fail> {
+    let alloc = rt.alloc();
+    let callback: AuthBox = Box::new(alloc, signing)?;
+    let options = ConnectOptions::with_auth_callback(callback);
+    let mut shaking = begun(alloc, "a")?;
+    assert!(rt; greets_with(alloc, &mut shaking, &options));
     Ok(())
 }

@@ -13,6 +13,7 @@ mod pool_error;
 mod pool_options;
 mod pool_parts;
 mod round;
+mod rounds;
 mod server;
 #[cfg(test)]
 mod tests;
@@ -33,4 +34,5 @@ pub use nats_names::{AddrError, AuthError, Error, Event, NoMemory, Subject, Text
 pub use pool_error::SetServerPoolErrorKind;
 pub use pool_options::{Delay, PoolOptions};
 pub use pool_parts::{Attempt, Choice, Next, Outcome, Planned, Pool};
+pub use rounds::Rounds;
 pub use server::{ReconnectToServer, Server};
