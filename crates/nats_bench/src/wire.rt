@@ -1,6 +1,6 @@
 //! The wire alone: the operations of a server are decoded, those of a client encoded.
 
-use crate::streams::{Mix, Parts, client_parts, server_stream};
+use crate::streams::{CYCLE, Mix, Parts, client_parts, server_stream};
 use anyhow::{Result, anyhow};
 use nats_wire::{ClientOp, Connection, Message, NoMemory, ServerOp};
 use std::alloc::Global;
@@ -213,8 +213,10 @@ fn put(alloc: Global, connection: &mut Connection, op: &ClientOp) -> Result<u64,
 fn encode(alloc: Global, ops: &[ClientOp], count: usize) -> Result<u64, NoMemory> {
     let mut connection = Connection::new(alloc);
     let mut bytes = 0u64;
-    for op in ops.iter().cycle().take(count) {
-        bytes = bytes.saturating_add(put(alloc, &mut connection, op)?);
+    for k in 0..count {
+        if let Some(op) = ops.get(k % CYCLE) {
+            bytes = bytes.saturating_add(put(alloc, &mut connection, op)?);
+        }
     }
     Ok(bytes.saturating_add(take_all(alloc, &mut connection)?))
 }
@@ -222,9 +224,11 @@ fn encode(alloc: Global, ops: &[ClientOp], count: usize) -> Result<u64, NoMemory
 fn publish(alloc: Global, parts: &[Parts], count: usize) -> Result<u64> {
     let mut connection = Connection::new(alloc);
     let mut bytes = 0u64;
-    for parts in parts.iter().cycle().take(count) {
-        let op = parts.made(alloc)?;
-        bytes = bytes.saturating_add(put(alloc, &mut connection, &op)?);
+    for k in 0..count {
+        if let Some(parts) = parts.get(k % CYCLE) {
+            let op = parts.made(alloc)?;
+            bytes = bytes.saturating_add(put(alloc, &mut connection, &op)?);
+        }
     }
     Ok(bytes.saturating_add(take_all(alloc, &mut connection)?))
 }
