@@ -3,15 +3,11 @@
 
 mod address;
 mod connect;
-#[cfg(test)]
-mod connect_tests;
 mod greet;
 mod link;
 mod linked;
 mod server;
 mod shake;
-#[cfg(test)]
-mod tests;
 mod turn;
 
 pub use connect::try_connect;

@@ -6,14 +6,10 @@ mod fields;
 mod iter;
 mod json;
 mod json_error;
-#[cfg(test)]
-mod json_tests;
 mod known;
 mod lines;
 mod map;
 mod name;
-#[cfg(test)]
-mod tests;
 mod value;
 
 pub use error::HeaderError;

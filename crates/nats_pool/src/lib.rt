@@ -15,8 +15,6 @@ mod pool_parts;
 mod round;
 mod rounds;
 mod server;
-#[cfg(test)]
-mod tests;
 
 pub use auth::Auth;
 pub use callbacks::{

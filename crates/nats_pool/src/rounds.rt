@@ -8,9 +8,7 @@ ghost use Rattle.nats_pool.specs.declared.pool_parts.Next.{Next};
 ghost use Rattle.nats_pool.specs.declared.pool_parts.Outcome.{Outcome};
 ghost use Rattle.nats_pool.specs.Handing.{HandsNext, IsBegun, RoundTold, told_of};
 
-use crate::{
-    Choice, ChoiceBox, DelayBox, Next, Outcome, Pool, ServerAddr, ServerInfo, ServerList,
-};
+use crate::{Choice, ChoiceBox, DelayBox, Next, Outcome, Pool, ServerAddr, ServerInfo, ServerList};
 use nats_names::NoMemory;
 use std::alloc::Global;
 

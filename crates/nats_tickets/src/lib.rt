@@ -7,8 +7,6 @@ mod asking;
 mod flushes;
 mod kinds;
 mod ready;
-#[cfg(test)]
-mod tests;
 mod tickets;
 
 pub use tickets::Tickets;

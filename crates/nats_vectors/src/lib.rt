@@ -13,12 +13,20 @@ pub use sent::carried;
 pub use through::carried_through;
 
 #[cfg(test)]
+mod bulk_tests;
+#[cfg(test)]
 mod json_rows;
 #[cfg(test)]
 mod name_rows;
 #[cfg(test)]
 mod pool_rows;
 #[cfg(test)]
+mod script_tests;
+#[cfg(test)]
+mod tables_tests;
+#[cfg(test)]
 mod tests;
+#[cfg(test)]
+mod tickets_tests;
 #[cfg(test)]
 mod wire_rows;

@@ -9,8 +9,6 @@ mod error_line;
 pub mod front;
 mod head;
 mod json;
-#[cfg(test)]
-mod json_tests;
 pub mod laws;
 mod message;
 mod op;
@@ -25,6 +23,3 @@ pub use nats_header::{HeaderError, HeaderMap, HeaderName, HeaderValue, JsonError
 pub use nats_info::ServerInfo;
 pub use nats_names::{Bytes, Event, NoMemory, Seq, ServerError, StatusCode, Subject, Text, Token};
 pub use op::{ClientOp, PeekedOp, ServerOp, WireError};
-
-#[cfg(test)]
-mod tests;

@@ -1,9 +1,9 @@
 //! What no clause says: texts of the protocol with what they mean, and each call once with ample memory.
-use crate::{
+use nats_names::NoMemory;
+use nats_wire::{
     Bytes, ClientOp, ConnectInfo, Connection, HeaderMap, Message, OutboundMessage, Protocol,
     ServerOp, Subject, Text, WireError,
 };
-use nats_names::NoMemory;
 use std::alloc::Global;
 use std::str;
 use std::test::Fail;

@@ -1,5 +1,5 @@
 //! What no clause says: blocks of the protocol with what they mean.
-use crate::{Block, BlockError, read_block};
+use nats_block::{Block, BlockError, read_block};
 use nats_header::HeaderMap;
 use nats_names::Text;
 use std::alloc::Global;

@@ -1,4 +1,4 @@
-use crate::{ConnectErrorKind, ConnectOptions, Handshake, NoMemory, Shake, Text};
+use nats_handshake::{ConnectErrorKind, ConnectOptions, Handshake, NoMemory, Shake, Text};
 use nats_names::{AddrError, AuthError};
 use nats_pool::{Auth, AuthBox, ServerAddr, ServerList};
 use std::alloc::Global;

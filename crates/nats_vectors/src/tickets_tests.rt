@@ -1,5 +1,5 @@
-use super::*;
 use nats_history::{Bytes, CallReply, Message, NoMemory, Subject, Waits};
+use nats_tickets::Tickets;
 use std::alloc::Global;
 use std::test::Fail;
 

@@ -1,8 +1,8 @@
-use crate::{
+use bytes::Bytes;
+use nats_outside::{
     Clock, Dialer, Draw, FakeClock, FakeDialer, FakeDraw, FakeLink, FakeRead, FakeResolver,
     FakeWrite, Joined, LinkRead, LinkWrite, NoMemory, Reach, seen,
 };
-use bytes::Bytes;
 use std::alloc::Global;
 use std::net::{IpAddr, Ipv4Addr, SocketAddr};
 use std::test::Fail;

@@ -1,4 +1,4 @@
-use crate::{Connection, JsonError, Message, ServerOp};
+use nats_wire::{Connection, JsonError, Message, ServerOp};
 use serde_json::Value;
 use std::alloc::Global;
 use std::test::Fail;

@@ -1,4 +1,4 @@
-use crate::{
+use nats_addr::{
     AddrError, FakeResolver, NoMemory, ResolveError, ServerAddr, ToServerAddrs, addrs_of_texts,
 };
 use std::alloc::Global;

@@ -1,4 +1,4 @@
-use crate::{ConnectInfo, NoMemory, Protocol, Text, connect_text};
+use nats_connect::{ConnectInfo, NoMemory, Protocol, Text, connect_text};
 use std::alloc::Global;
 use std::test::Fail;
 

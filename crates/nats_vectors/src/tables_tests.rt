@@ -3,7 +3,7 @@ ghost use Rattle.std.specs.Prelude.{◌≡◌, ◌||◌, true, false};
 ghost use Rattle.std.proofs.lemmas.Bool.{or_left, or_right};
 ghost use Rattle.std.proofs.Common.{refl};
 
-use crate::{Change, NoMemory, Row, Table, TryChange};
+use nats_tables::{Change, NoMemory, Row, Table, TryChange};
 use std::test::Fail;
 
 #[derive(Clone, Copy, PartialEq, Eq, Debug, Drop)]

@@ -1,4 +1,4 @@
-use crate::{
+use nats_pool::{
     Auth, AuthBox, AuthError, AuthFn, Choice, ChoiceBox, ConnectOptions, DelayBox, Event, EventBox,
     EventFn, Next, NoMemory, Outcome, Pool, ReconnectToServer, Server, ServerAddr, ServerInfo,
     SetServerPoolErrorKind, SignerBox, SignerFn, Text, addrs_of_texts, reconnect_delay_default,

@@ -1,4 +1,4 @@
-use crate::bulk_turns;
+use nats_bulk::bulk_turns;
 use std::rt::HostRuntime;
 use std::test::Fail;
 

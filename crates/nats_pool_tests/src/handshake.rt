@@ -1,4 +1,4 @@
-use crate::{
+use nats_handshake::{
     Auth, ConnectErrorKind, ConnectInfo, ConnectOptions, Greeting, HANDSHAKE_OPERATIONS, NoMemory,
     Verdict, connect_info, connect_text, credentials, read_course, read_greeting,
 };

@@ -1,4 +1,4 @@
-use crate::{
+use nats_names::{
     AddrError, AuthError, Bytes, CallbackError, Cause, ClientError, Error, Event, Failed,
     InvalidStatusCode, NoMemory, OpWord, Seq, ServerError, State, StatusCode, Subject,
     SubjectError, Text, ToSubject, Token,

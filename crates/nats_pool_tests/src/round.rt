@@ -1,5 +1,5 @@
-use crate::tests::{home, link};
-use crate::{ConnectError, ConnectOptions, Handshake, Linked, NoMemory, try_connect};
+use crate::dial::{home, link};
+use nats_dial::{ConnectError, ConnectOptions, Handshake, Linked, NoMemory, try_connect};
 use nats_outside::{
     FakeClock, FakeDialer, FakeDraw, FakeLink, FakeRead, FakeResolver, FakeWrite, Joined,
 };

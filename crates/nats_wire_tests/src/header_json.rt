@@ -1,4 +1,4 @@
-use crate::{HeaderMap, HeaderName, HeaderValue, JsonError};
+use nats_header::{HeaderMap, HeaderName, HeaderValue, JsonError};
 use nats_names::NoMemory;
 use serde_json::Value;
 use std::alloc::Global;

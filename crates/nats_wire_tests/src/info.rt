@@ -1,5 +1,5 @@
 //! What no clause says: lines of servers with what they mean, and each call once with ample memory.
-use crate::{InfoError, ServerInfo, read_info};
+use nats_info::{InfoError, ServerInfo, read_info};
 use std::alloc::Global;
 use std::test::Fail;
 

@@ -1,9 +1,9 @@
-use super::*;
 use nats_header::HeaderMap;
 use nats_history::{
     Call, CallReply, Event, LinkRow, LinkWord, Message, SubRow, TakeReply, Transcript,
 };
 use nats_names::{Bytes, StatusCode, Subject, Text};
+use nats_script::{NoMemory, Script, Seq, Turn, print_transcript, read_script};
 use std::alloc::Global;
 use std::test::Fail;
 

@@ -1,5 +1,7 @@
 //! What no clause says: texts of the protocol with what they mean.
-use crate::{ClientEnd, ClientFront, ClientOp, NoMemory, read_client_op, read_client_text};
+use nats_client_text::{
+    ClientEnd, ClientFront, ClientOp, NoMemory, read_client_op, read_client_text,
+};
 use std::alloc::Global;
 use std::str;
 use std::test::Fail;

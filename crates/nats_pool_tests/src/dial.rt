@@ -1,5 +1,5 @@
-use crate::{ConnectError, ConnectOptions, Handshake, NoMemory, ServerList, shake_hands};
 use bytes::Bytes;
+use nats_dial::{ConnectError, ConnectOptions, Handshake, NoMemory, ServerList, shake_hands};
 use nats_names::{AddrError, Text};
 use nats_outside::{Dialer, FakeClock, FakeDialer, FakeLink, FakeRead, FakeWrite};
 use nats_pool::ServerAddr;
