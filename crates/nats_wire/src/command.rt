@@ -82,7 +82,11 @@ fn append_subscription<'a>(
     let (group, space) = word_and_space(queue_group);
     let mut number = Buffer::new();
     let sid = number.format(sid).as_bytes();
-    append_all(alloc, &[b"SUB ", subject, b" ", group, space, sid, b"\r\n"], out)
+    append_all(
+        alloc,
+        &[b"SUB ", subject, b" ", group, space, sid, b"\r\n"],
+        out,
+    )
 }
 
 fn append_unsubscription(

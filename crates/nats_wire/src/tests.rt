@@ -210,7 +210,9 @@ fn what_was_written_no_longer_waits(rt: HostRuntime) -> Result<(), Fail> {
     assert_eq!(rt; connection.pending(), 6);
     assert!(rt; !connection.is_write_buf_full());
     let pieces = connection.pending_pieces(rt.alloc())?;
-    let first = pieces.first().map_or(b"".as_slice(), |piece| piece.as_slice());
+    let first = pieces
+        .first()
+        .map_or(b"".as_slice(), |piece| piece.as_slice());
     assert_eq!(rt; first, b"PING\r\n".as_slice());
     take_some(&mut connection, 4);
     let left = waiting(rt.alloc(), &connection)?;

@@ -210,7 +210,8 @@ impl ConnectionHandler {
     pub(crate) fn copy_left(&self, alloc: Global) -> Result<Vec<u8>, NoMemory>
         ensures { IfOk result (λ copy. copy.items ≡ self.now.parts.link.wire.waiting) }
     {
-        self.connection.copy_waiting(alloc, self.connection.pending())
+        self.connection
+            .copy_waiting(alloc, self.connection.pending())
     }
 
     /// The youngest waiting message of the subscription of number `s`, from 1; `None` where none waits, or the number was not

@@ -101,7 +101,7 @@ pub fn drain(
 ) -> Result<(), NoMemory>
     ensures text { OnOk result (connection.new ≡ with_waiting
         (written true (unsubscribe_command (is_open_at (item_of sid subs.old.rows)) sid None ++ client.Ping ∷ [])
-          connection.old.wire.waiting)
+        connection.old.wire.waiting)
         connection.old) }
     ensures subs { OnOk result (subs.new ≡ with_rows (rows_with sid alterations.Drain subs.old.rows) subs.old) }
     ensures pings { OnOk result (pings.new ≡ pings.old ++ pinged.Drain sid ∷ []) }

@@ -63,7 +63,7 @@ fn write_publish(
 ) -> Result<(), NoMemory>
     ensures ok { OnOk result (connection.new ≡ with_waiting
         (connection.old.wire.waiting
-          ++ command_text (client.Publish message.now.subject message.now.payload message.now.reply message.now.headers))
+        ++ command_text (client.Publish message.now.subject message.now.payload message.now.reply message.now.headers))
         connection.old) }
     ensures err { OnErr result (connection.new ≡ connection.old) }
 {
@@ -109,7 +109,7 @@ fn handle_call(
 ) -> Result<(), NoMemory>
     ensures text { OnOk result (connection.new ≡ with_waiting
         (written true (commands config.now requested (at_with pings.old subs.old) subs.old.rows (handled call.now))
-          connection.old.wire.waiting)
+        connection.old.wire.waiting)
         connection.old) }
     ensures subs { OnOk result (subs.new ≡ subs_after config.now pings.old (handled call.now) subs.old) }
     ensures pings { OnOk result (pings.new ≡ pings_after (handled call.now) pings.old) }
