@@ -24,8 +24,9 @@ pub fn write_unsubscribe(
     sid: u64,
     max: Option<u64>,
 ) -> Result<(), NoMemory>
-    ensures ok { OnOk result (connection.new
-        ≡ with_waiting (written true (unsubscribe_command is_open sid max) connection.old.wire.waiting) connection.old) }
+    ensures ok { OnOk result (connection.new ≡ with_waiting
+        (written true (unsubscribe_command is_open sid max) connection.old.wire.waiting)
+        connection.old) }
     ensures err { OnErr result (connection.new ≡ connection.old) }
 {
     if !is_open {
@@ -44,7 +45,8 @@ pub fn unsubscribe(
     alteration: Alteration,
 ) -> Result<(), NoMemory>
     ensures text { OnOk result (connection.new ≡ with_waiting
-        (written true (unsubscribe_command (is_open_at (item_of sid subs.old.rows)) sid max) connection.old.wire.waiting)
+        (written true (unsubscribe_command (is_open_at (item_of sid subs.old.rows)) sid max)
+        connection.old.wire.waiting)
         connection.old) }
     ensures subs { OnOk result (subs.new ≡ with_rows (rows_with sid alteration subs.old.rows) subs.old) }
     ensures err { OnErr result ((connection.new ≡ connection.old) × (subs.new ≡ subs.old)) }
