@@ -2,6 +2,7 @@
 ghost use Rattle.std.specs.Prelude.{◌≡◌, ◌∷◌, [], ◌++◌, true, OnErr, IfOk, OnOk};
 ghost use Rattle.std.proofs.Common.{refl};
 ghost use Rattle.std.specs.Option.{option_copied};
+ghost use Rattle.nats_history.specs.Queue.{first};
 ghost use Rattle.nats_history.specs.History.{is_open, is_over, has_room, forgotten, open_if, end_if, reached, again, unsubscribed, limit_commands};
 ghost use Rattle.nats_wire.specs.declared.op.ClientOp.TheVariants as client;
 ghost use Rattle.nats_history.specs.Schedule.{sub_take};
@@ -396,5 +397,12 @@ impl Subscription {
             return None;
         }
         self.waiting.back()
+    }
+
+    /// The oldest waiting message.
+    pub fn first(&self) -> Option<&Message>
+        ensures { option_copied result ≡ first self.now.waiting }
+    {
+        self.waiting.front()
     }
 }
