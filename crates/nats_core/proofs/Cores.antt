@@ -1,6 +1,7 @@
 -- What each core keeps, through all that is done to it, and what its calls come to.
-use Rattle.std.proofs.Common.{◌≡◌, ℕ, Bool, true, false, not, is_some, ◌&&◌, List, [], Option, Some, None, Result, Ok, Err, OnErr, IfOk, refl, sym, ◌∙◌, ap, subst, arith}
+use Rattle.std.proofs.Common.{◌≡◌, ℕ, Bool, true, false, not, is_some, ◌&&◌, List, [], ◌∷◌, ◌++◌, drop, Option, Some, None, Result, Ok, Err, OnOk, OnErr, IfOk, refl, sym, ◌∙◌, ap, subst, arith}
 use Rattle.std.proofs.lemmas.Bool.{false≢true}
+use Rattle.nats_names.specs.declared.event.Event.{Event}
 use Rattle.nats_history.specs.declared.config.Config.{Config}
 use Rattle.nats_history.specs.declared.call.Call.{Call}
 use Rattle.nats_history.specs.declared.call.CallReply.{CallReply}
@@ -9,14 +10,15 @@ use Rattle.nats_history.specs.declared.turn.Turn.TheVariants as turns
 use Rattle.nats_history.specs.History.{Step, History}
 use Rattle.nats_history.specs.Parts.{Parts}
 use Rattle.nats_history.specs.Schedule.{is_valid_turn, own_steps, due}
-use Rattle.nats_session.specs.Handler.{Seen, HandedOut, nothing_handed, StandsFor, seen_all, can_play}
+use Rattle.nats_tickets.specs.Kept.{without}
+use Rattle.nats_session.specs.Handler.{Seen, HandedOut, nothing_handed, StandsFor, seen_all, can_play, handed, HandsOut, handed_reply, HandsReply}
 use Rattle.nats_session.proofs.Handlers.{both_true}
 use Rattle.nats_core.specs.declared.answers.StepError.{StepError}
 use Rattle.nats_core.specs.declared.answers.StepError.TheVariants.{OutOfTurn, LinkGone, NoMemory}
 use Rattle.nats_core.specs.declared.entry.Entry.{Entry}
 use Rattle.nats_core.specs.declared.entry.StepReply.{StepReply}
 use Rattle.nats_core.specs.declared.entry.StepReply.TheVariants as replies
-use Rattle.nats_core.specs.Journal.{turns_of, reply_to, IsRight, StandsForTurns, Logged, config_of, journal_turns, IsSound, new_core, due_rounds, with_session, caught_up, entries_with, entry_of, played}
+use Rattle.nats_core.specs.Journal.{turns_of, reply_to, IsRight, StandsForTurns, Logged, core_of, config_of, journal_turns, IsSound, new_core, due_rounds, with_session, caught_up, entries_with, entry_of, played}
 use Rattle.nats_core.specs.Calls.{parts_in, PlaysDue, Plays, Steps, is_on, up_number, StepsOn, Submits}
 use Rattle.nats_core.proofs.Dues.{config_all, config_rounds, rounds_enough, none_after_all}
 use Rattle.nats_core.proofs.Journals.{right_more, stands_rounds, parts_are, stands_entry}
@@ -43,48 +45,6 @@ sound_new c kept = record {
   unkept = λ is. refl;
 }
 
--- due steps were played
-pub sound_due : (core : Logged) (seen : Seen) → IsSound core → (rounds : ℕ) × (seen ≡ due_rounds rounds core.session) → IsSound (with_session seen core)
-sound_due core seen sound due =
-    subst (λ s. IsSound (with_session s core)) (sym due.1) (sound_from (with_session (due_rounds due.0 core.session) core) (config_of core) (config_rounds due.0 core.session) sound.right (λ kept. stands_rounds (config_of core) (journal_turns core) due.0 core.session (sound.stands kept)) sound.unkept)
-
--- the own steps of a turn were played, and it was noted
-pub sound_played : (core : Logged) (t : Turn) → IsSound core → due core.session.parts ≡ None → is_valid_turn core.session.parts t ≡ true → IsSound (played t core)
-sound_played core t sound none valid = by core.is_kept refl
-  where
-    c : Config
-    c = config_of core
-
-    e : Entry
-    e = entry_of core.session.parts t
-
-    seen : Seen
-    seen = seen_all core.session (own_steps core.session.parts t)
-
-    by : (b : Bool) → core.is_kept ≡ b → IsSound (played t core)
-    by true is =
-        let stands = sound.stands is in
-        sound_from (played t core) c (config_all core.session (own_steps core.session.parts t))
-        (subst (λ b. IsRight c (entries_with b e core.entries)) (sym is) (right_more c core.entries t core.session.parts sound.right (parts_are c (journal_turns core) core.session stands none) valid))
-        (λ kept. subst (λ b. StandsForTurns c (turns_of (entries_with b e core.entries)) seen) (sym is) (stands_entry c core.entries t core.session stands none))
-        (λ unkept. absurd (false≢true (sym unkept ∙ is)))
-    by false is =
-        sound_from (played t core) c (config_all core.session (own_steps core.session.parts t))
-        (subst (λ b. IsRight c (entries_with b e core.entries)) (sym is) sound.right)
-        (λ kept. absurd (false≢true (sym is ∙ kept)))
-        (λ unkept. ap (λ b. entries_with b e core.entries) is ∙ sound.unkept is)
-
--- something was handed out
-pub sound_handed : (core : Logged) (seen : Seen) → IsSound core → seen.parts.config ≡ config_of core
-    → ((c : Config) (out : HandedOut) (h : History) → StandsFor c out h core.session → (more : HandedOut) × StandsFor c more h seen) → IsSound (with_session seen core)
-sound_handed core seen sound same hands =
-    sound_from (with_session seen core) (config_of core) same sound.right (λ kept. let stands = sound.stands kept in let more = hands (config_of core) stands.out stands.history stands.stands in record {
-      out = more.0;
-      history = stands.history;
-      stands = more.1;
-      rest = stands.rest;
-    }) sound.unkept
-
 -- ---- which turn may be played
 
 and_true : (b : Bool) → (b && true) ≡ b
@@ -110,6 +70,80 @@ may_none p t may = none_of (due p) (second_true (is_valid_turn p t) (not (is_som
 
 pub not_both : (next : Option Step) → next ≡ None → is_some next ≡ true → ⊥
 not_both next none some = false≢true (sym (ap is_some none) ∙ some)
+
+-- ---- what a core keeps as its fields change
+
+-- due steps were played
+pub sound_due : (kept : Bool) (entries : List Entry) (old new : Seen) → IsSound (core_of kept entries old) → (rounds : ℕ) × (new ≡ due_rounds rounds old) → IsSound (core_of kept entries new)
+sound_due kept entries old new sound due =
+    subst (λ s. IsSound (core_of kept entries s)) (sym due.1) (sound_from (core_of kept entries (due_rounds due.0 old)) old.parts.config (config_rounds due.0 old) sound.right (λ is. stands_rounds old.parts.config (turns_of entries) due.0 old (sound.stands is)) sound.unkept)
+
+-- nothing of the session changed
+pub sound_same : (kept : Bool) (entries : List Entry) (old new : Seen) → IsSound (core_of kept entries old) → new ≡ old → IsSound (core_of kept entries new)
+sound_same kept entries old new sound same = subst (λ s. IsSound (core_of kept entries s)) (sym same) sound
+
+-- the own steps of a turn were played, and it was noted where the journal is kept
+own_kept : (entries : List Entry) (old : Seen) (t : Turn) → IsSound (core_of true entries old) → can_play old.parts t ≡ true
+    → IsSound (core_of true (entries ++ entry_of old.parts t ∷ []) (seen_all old (own_steps old.parts t)))
+own_kept entries old t sound may =
+    let c = old.parts.config in
+    let own = own_steps old.parts t in
+    let stands = sound.stands refl in
+    let none = may_none old.parts t may in
+    sound_from (core_of true (entries ++ entry_of old.parts t ∷ []) (seen_all old own)) c (config_all old own)
+    (right_more c entries t old.parts sound.right (parts_are c (turns_of entries) old stands none) (may_valid old.parts t may))
+    (λ is. stands_entry c entries t old stands none)
+    (λ is. absurd (false≢true (sym is)))
+
+own_unkept : (entries : List Entry) (old : Seen) (t : Turn) → IsSound (core_of false entries old) → IsSound (core_of false entries (seen_all old (own_steps old.parts t)))
+own_unkept entries old t sound =
+    let own = own_steps old.parts t in
+    sound_from (core_of false entries (seen_all old own)) old.parts.config (config_all old own) sound.right (λ is. absurd (false≢true is)) sound.unkept
+
+pub sound_noted : {A E : Type 0} (r : Result A E) (kept : Bool) (entries more : List Entry) (old new : Seen) (t : Turn) → IsSound (core_of kept entries old) → can_play old.parts t ≡ true
+    → OnOk r (new ≡ seen_all old (own_steps old.parts t)) → OnOk r (more ≡ entries_with kept (entry_of old.parts t) entries) → OnErr r (new ≡ old) → OnErr r (more ≡ entries) → IsSound (core_of kept more new)
+sound_noted (Ok reply) kept entries more old new t sound may seen noted same stay =
+    subst (λ s. IsSound (core_of kept more s)) (sym seen) (subst (λ es. IsSound (core_of kept es (seen_all old (own_steps old.parts t)))) (sym noted) (by kept sound))
+  where
+    by : (b : Bool) → IsSound (core_of b entries old) → IsSound (core_of b (entries_with b (entry_of old.parts t) entries) (seen_all old (own_steps old.parts t)))
+    by true sound = own_kept entries old t sound may
+    by false sound = own_unkept entries old t sound
+sound_noted (Err e) kept entries more old new t sound may seen noted same stay =
+    subst (λ s. IsSound (core_of kept more s)) (sym same) (subst (λ es. IsSound (core_of kept es old)) (sym stay) sound)
+
+-- and what that comes to
+pub played_noted : {A E : Type 0} (r : Result A E) (kept : Bool) (entries more : List Entry) (old new : Seen) (t : Turn) (core : Logged) → core_of kept entries old ≡ core
+    → OnOk r (new ≡ seen_all old (own_steps old.parts t)) → OnOk r (more ≡ entries_with kept (entry_of old.parts t) entries) → OnOk r (core_of kept more new ≡ played t core)
+played_noted (Ok reply) kept entries more old new t core is seen noted =
+    ap (λ s. core_of kept more s) seen ∙ (ap (λ es. core_of kept es (seen_all old (own_steps old.parts t))) noted ∙ ap (played t) is)
+played_noted (Err e) kept entries more old new t core is seen noted = tt
+
+pub stays_noted : {A E : Type 0} (r : Result A E) (kept : Bool) (entries more : List Entry) (old new : Seen) (core : Logged) → core_of kept entries old ≡ core
+    → OnErr r (new ≡ old) → OnErr r (more ≡ entries) → OnErr r (core_of kept more new ≡ core)
+stays_noted (Ok reply) kept entries more old new core is same stay = tt
+stays_noted (Err e) kept entries more old new core is same stay =
+    ap (λ s. core_of kept more s) same ∙ (ap (λ es. core_of kept es old) stay ∙ is)
+
+-- something was handed out
+sound_handed : (kept : Bool) (entries : List Entry) (old new : Seen) → IsSound (core_of kept entries old) → new.parts ≡ old.parts
+    → ((c : Config) (out : HandedOut) (h : History) → StandsFor c out h old → (more : HandedOut) × StandsFor c more h new) → IsSound (core_of kept entries new)
+sound_handed kept entries old new sound same hands =
+    sound_from (core_of kept entries new) old.parts.config (ap (λ (p : Parts). p.config) same) sound.right (λ is. let stands = sound.stands is in let more = hands old.parts.config stands.out stands.history stands.stands in record {
+      out = more.0;
+      history = stands.history;
+      stands = more.1;
+      rest = stands.rest;
+    }) sound.unkept
+
+pub sound_event : (kept : Bool) (entries : List Entry) (old new : Seen) (event : Option Event) → IsSound (core_of kept entries old) → new ≡ record old { events = drop 1 old.events } → HandsOut old event new
+    → IsSound (core_of kept entries new)
+sound_event kept entries old new event sound rest hands =
+    sound_handed kept entries old new sound (ap (λ (s : Seen). s.parts) rest) (λ c out h stands. (handed event out, (hands c out h stands).1))
+
+pub sound_reply : (kept : Bool) (entries : List Entry) (old new : Seen) (ticket : ℕ) (reply : Option CallReply) → IsSound (core_of kept entries old) → new ≡ record old { ready = without ticket old.ready }
+    → HandsReply ticket old reply new → IsSound (core_of kept entries new)
+sound_reply kept entries old new ticket reply sound rest hands =
+    sound_handed kept entries old new sound (ap (λ (s : Seen). s.parts) rest) (λ c out h stands. (handed_reply ticket reply out, (hands c out h stands).1))
 
 -- ---- what calls come to
 

@@ -1,3 +1,4 @@
+pub mod Cores
 pub mod Dues
 pub mod Journals
-pub mod Cores
+pub mod Plain

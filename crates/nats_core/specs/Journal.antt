@@ -63,6 +63,9 @@ pub record Logged : Type 0 where
   pub entries : List Entry
   pub session : Seen
 
+abbrev pub core_of : Bool → List Entry → Seen → Logged
+core_of kept entries session = record { is_kept = kept; entries = entries; session = session }
+
 abbrev pub config_of : Logged → Config
 config_of core = core.session.parts.config
 
@@ -77,7 +80,7 @@ pub record IsSound (core : Logged) : Type 0 where
 
 -- as it is made: no link came up and nothing happened
 abbrev pub new_core : Config → Bool → Logged
-new_core c kept = record { is_kept = kept; entries = []; session = record { parts = idle c; events = []; ready = [] } }
+new_core c kept = core_of kept [] (record { parts = idle c; events = []; ready = [] })
 
 -- ---- due steps
 

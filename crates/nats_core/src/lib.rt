@@ -7,6 +7,7 @@ mod again;
 mod answers;
 mod entry;
 mod machine;
+mod notes;
 mod plays;
 #[cfg(test)]
 mod tests;

@@ -11,10 +11,10 @@ ghost use Rattle.nats_core.specs.Calls.{parts_in, PlaysDue, Plays, Steps, StepsO
 
 mod links;
 
-use crate::again::{call_again, message_for, reply_again};
 use crate::answers::StepError;
 use crate::entry::{Entry, StepReply};
-use crate::plays::{play_due, play_turn};
+use crate::notes::{play_own, submit_own};
+use crate::plays::play_due;
 use nats_session::{Call, CallReply, Config, ConnectionHandler, Event, NoMemory, Turn};
 use std::alloc::Global;
 use std::marker::Model;
@@ -29,21 +29,13 @@ pub struct Core {
 }
 
 impl Model for Core {
-    ghost use Rattle.nats_core.specs.Journal.{Logged, IsSound};
+    ghost use Rattle.nats_core.specs.Journal.{Logged, core_of, IsSound};
 
     ghost Value = { Logged };
 
-    ghost view = { λ core. record {
-      is_kept = core.is_kept;
-      entries = core.entries.items;
-      session = core.handler;
-    } };
+    ghost view = { λ core. core_of core.is_kept core.entries.items core.handler };
 
-    ghost invariant = { λ core. IsSound (record {
-      is_kept = core.is_kept;
-      entries = core.entries.items;
-      session = core.handler;
-    }) };
+    ghost invariant = { λ core. IsSound (core_of core.is_kept core.entries.items core.handler) };
 }
 
 impl Core {
@@ -108,30 +100,23 @@ impl Core {
     fn settle(&mut self, alloc: Global)
         ensures { PlaysDue self.old self.new }
     {
-        let _ = play_due(alloc, &mut self.handler);
+        let _ = self.catch_up(alloc);
     }
 
-    /// Plays a turn's own steps, and notes the turn with its reply where the journal is kept. The memory of the note is taken
-    /// before the turn is played.
+    /// Plays a turn's own steps, and notes the turn with its reply where the journal is kept.
     fn note_turn(&mut self, alloc: Global, turn: Turn) -> Result<StepReply, NoMemory>
         requires { IsTrue (can_play (parts_in self.old) turn) }
         ensures reply { IfOk result (λ reply. reply ≡ reply_to (parts_in self.old) turn) }
         ensures ok { OnOk result (self.new ≡ played turn self.old) }
         ensures err { OnErr result (self.new ≡ self.old) }
     {
-        if !self.is_kept {
-            return play_turn(alloc, &mut self.handler, turn);
-        }
-        self.entries.reserve(1)?;
-        let noted = turn.copy(alloc)?;
-        let message = message_for(alloc, &self.handler, &turn)?;
-        let reply = play_turn(alloc, &mut self.handler, turn)?;
-        let again = reply_again(&reply, message);
-        self.entries.push_reserved(Entry {
-            turn: noted,
-            reply: again,
-        });
-        Ok(reply)
+        play_own(
+            alloc,
+            self.is_kept,
+            &mut self.handler,
+            &mut self.entries,
+            turn,
+        )
     }
 
     /// The same of a call, which comes back where memory is wanting.
@@ -142,18 +127,13 @@ impl Core {
         ensures back { IfErr result (λ back. back ≡ call) }
         ensures err { OnErr result (self.new ≡ self.old) }
     {
-        if !self.is_kept {
-            return self.handler.submit(alloc, call);
-        }
-        let (Ok(()), Ok(noted)) = (self.entries.reserve(1), call.copy(alloc)) else {
-            return Err(call);
-        };
-        let reply = self.handler.submit(alloc, call)?;
-        self.entries.push_reserved(Entry {
-            turn: Turn::Do(noted),
-            reply: StepReply::Call(call_again(&reply)),
-        });
-        Ok(reply)
+        submit_own(
+            alloc,
+            self.is_kept,
+            &mut self.handler,
+            &mut self.entries,
+            call,
+        )
     }
 
     /// Plays a turn where no step is due, if it may come.

@@ -1,16 +1,31 @@
 //! What is played on a session: the own steps of a turn, and the steps that are due.
-ghost use Rattle.std.specs.Prelude.{◌≡◌, ℕ, OnOk, OnErr, IfOk, IsTrue, is_some, None};
+ghost use Rattle.std.specs.Prelude.{◌≡◌, ℕ, OnOk, OnErr, IfOk, IfErr, IsTrue, is_some, None};
 ghost use Rattle.nats_history.specs.declared.turn.Turn.TheVariants as turns;
-ghost use Rattle.nats_history.specs.Schedule.{due, own_steps};
+ghost use Rattle.nats_history.specs.Schedule.{due, own_steps, call_reply};
 ghost use Rattle.nats_session.specs.Handler.{can_play, seen_all};
 ghost use Rattle.nats_core.specs.Journal.{reply_to, is_nothing, due_rounds};
 
 use crate::entry::StepReply;
 use nats_history::Due;
-use nats_session::{Call, ConnectionHandler, NoMemory, Turn};
+use nats_session::{Call, CallReply, ConnectionHandler, NoMemory, Turn};
 use std::alloc::Global;
 
 /// Takes in a call.
+pub(crate) fn submit(
+    alloc: Global,
+    handler: &mut ConnectionHandler,
+    call: Call,
+) -> Result<CallReply, Call>
+    requires { IsTrue (can_play handler.old.parts (turns.Do call)) }
+    ensures reply { IfOk result (λ reply. reply ≡ call_reply handler.old.parts call) }
+    ensures seen { OnOk result (handler.new ≡ seen_all handler.old (own_steps handler.old.parts (turns.Do call))) }
+    ensures back { IfErr result (λ back. back ≡ call) }
+    ensures same { OnErr result (handler.new ≡ handler.old) }
+{
+    handler.submit(alloc, call)
+}
+
+/// The same as a turn.
 fn play_call(
     alloc: Global,
     handler: &mut ConnectionHandler,
@@ -21,7 +36,7 @@ fn play_call(
     ensures seen { OnOk result (handler.new ≡ seen_all handler.old (own_steps handler.old.parts (turns.Do call))) }
     ensures same { OnErr result (handler.new ≡ handler.old) }
 {
-    match handler.submit(alloc, call) {
+    match submit(alloc, handler, call) {
         Ok(reply) => Ok(StepReply::Call(reply)),
         Err(_) => Err(NoMemory),
     }

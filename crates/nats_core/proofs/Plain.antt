@@ -1,0 +1,63 @@
+-- The reply of a call holds no message, and that of a take the one that waited first.
+use Rattle.std.proofs.Common.{◌≡◌, ℕ, Bool, true, false, cond, List, [], ◌∷◌, Option, Some, None, refl}
+use Rattle.nats_wire.specs.declared.message.Message.{Message}
+use Rattle.nats_history.specs.declared.call.Call.{Call}
+use Rattle.nats_history.specs.declared.call.CallReply.{CallReply}
+use Rattle.nats_history.specs.declared.call.CallReply.TheVariants.{Accepted, Numbered, InvalidSubject, InvalidQueueName, MaxPayloadExceeded, Closed, NoNumber, Full}
+use Rattle.nats_history.specs.declared.call.TakeReply.TheVariants as takes
+use Rattle.nats_history.specs.declared.turn.Turn.{Turn}
+use Rattle.nats_history.specs.declared.turn.Turn.TheVariants.{Do, Take}
+use Rattle.nats_history.specs.Queue.{first}
+use Rattle.nats_history.specs.History.{subscribes, takes_ticket, Sub}
+use Rattle.nats_history.specs.Parts.{Parts}
+use Rattle.nats_history.specs.Schedule.{size_of, refusal, reply_by, accepted_reply, call_reply, is_closed_sub, oldest, take_reply_of}
+use Rattle.nats_tables.specs.Numbers.{item_of}
+use Rattle.nats_subs.specs.Delivery.{first_of}
+use Rattle.nats_core.specs.Journal.{reply_to}
+use Rattle.nats_core.specs.Replies.{IsPlain, IsPlainReply, message_of, taken_message, waiting_for}
+
+abbrev IsPlainOrNone : Option CallReply → Type 0
+IsPlainOrNone None = Unit {0}
+IsPlainOrNone (Some reply) = IsPlain reply
+
+plain_if : (b : Bool) (reply : CallReply) (other : Option CallReply) → IsPlain reply → IsPlainOrNone other → IsPlainOrNone (cond b (Some reply) other)
+plain_if true reply other here there = here
+plain_if false reply other here there = there
+
+plain_either : (b : Bool) (reply other : CallReply) → IsPlain reply → IsPlain other → IsPlain (cond b reply other)
+plain_either true reply other here there = here
+plain_either false reply other here there = there
+
+plain_refusal : (p : Parts) (call : Call) → IsPlainOrNone (refusal p call)
+plain_refusal p call =
+    plain_if _ InvalidSubject _ tt (plain_if _ InvalidQueueName _ tt (plain_if _ (MaxPayloadExceeded p.link.max_payload (size_of call)) _ tt (plain_if _ Closed _ tt (plain_if _ NoNumber _ tt (plain_if _ Full None tt tt)))))
+
+plain_accepted : (p : Parts) (call : Call) → IsPlain (accepted_reply p call)
+plain_accepted p call =
+    plain_either (subscribes call) _ _ tt (plain_either (takes_ticket call) _ Accepted tt tt)
+
+plain_by : (refused : Option CallReply) (reply : CallReply) → IsPlainOrNone refused → IsPlain reply → IsPlain (reply_by refused reply)
+plain_by None reply refused plain = plain
+plain_by (Some other) reply refused plain = refused
+
+pub plain_call : (p : Parts) (call : Call) → IsPlain (call_reply p call)
+plain_call p call = plain_by (refusal p call) (accepted_reply p call) (plain_refusal p call) (plain_accepted p call)
+
+pub plain_reply : (p : Parts) (t : Turn) → IsPlainReply (reply_to p t)
+plain_reply p (Do call) = plain_call p call
+plain_reply p (Take sid) = tt
+plain_reply p t = tt
+
+by_waiting : (over : Bool) (waiting : List Message) → first waiting ≡ taken_message (oldest over waiting)
+by_waiting true [] = refl
+by_waiting false [] = refl
+by_waiting over (m ∷ waiting) = refl
+
+by_sub : (o : Option Sub) → first_of o ≡ taken_message (take_reply_of o)
+by_sub None = refl
+by_sub (Some sub) = by_waiting (is_closed_sub sub) sub.waiting
+
+pub message_is : (p : Parts) (t : Turn) → waiting_for p t ≡ message_of (reply_to p t)
+message_is p (Take sid) = by_sub (item_of sid p.subs.rows)
+message_is p (Do call) = refl
+message_is p t = refl
