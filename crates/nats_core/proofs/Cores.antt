@@ -1,5 +1,5 @@
 -- What each core keeps, through all that is done to it, and what its calls come to.
-use Rattle.std.proofs.Common.{◌≡◌, ℕ, Bool, true, false, not, is_some, ◌&&◌, List, [], ◌∷◌, ◌++◌, drop, Option, Some, None, Result, Ok, Err, OnOk, OnErr, IfOk, refl, sym, ◌∙◌, ap, subst, arith}
+use Rattle.std.proofs.Common.{◌≡◌, ℕ, Bool, true, false, not, is_some, ◌&&◌, List, [], ◌∷◌, ◌++◌, drop, Option, Some, None, Result, Ok, Err, IsErr, IsErrAnd, OnOk, OnErr, IfOk, IfErr, refl, sym, ◌∙◌, ap, subst, arith}
 use Rattle.std.proofs.lemmas.Bool.{false≢true}
 use Rattle.nats_names.specs.declared.event.Event.{Event}
 use Rattle.nats_history.specs.declared.config.Config.{Config}
@@ -9,7 +9,7 @@ use Rattle.nats_history.specs.declared.turn.Turn.{Turn}
 use Rattle.nats_history.specs.declared.turn.Turn.TheVariants as turns
 use Rattle.nats_history.specs.History.{Step, History}
 use Rattle.nats_history.specs.Parts.{Parts}
-use Rattle.nats_history.specs.Schedule.{is_valid_turn, own_steps, due}
+use Rattle.nats_history.specs.Schedule.{is_valid_turn, own_steps, call_reply, due}
 use Rattle.nats_tickets.specs.Kept.{without}
 use Rattle.nats_session.specs.Handler.{Seen, HandedOut, nothing_handed, StandsFor, seen_all, can_play, handed, HandsOut, handed_reply, HandsReply}
 use Rattle.nats_session.proofs.Handlers.{both_true}
@@ -74,7 +74,7 @@ not_both next none some = false≢true (sym (ap is_some none) ∙ some)
 -- ---- what a core keeps as its fields change
 
 -- due steps were played
-pub sound_due : (kept : Bool) (entries : List Entry) (old new : Seen) → IsSound (core_of kept entries old) → (rounds : ℕ) × (new ≡ due_rounds rounds old) → IsSound (core_of kept entries new)
+pub sound_due : (kept : Bool) (entries : List Entry) (old new : Seen) → IsSound (core_of kept entries old) → ((rounds : ℕ) × (new ≡ due_rounds rounds old)) → IsSound (core_of kept entries new)
 sound_due kept entries old new sound due =
     subst (λ s. IsSound (core_of kept entries s)) (sym due.1) (sound_from (core_of kept entries (due_rounds due.0 old)) old.parts.config (config_rounds due.0 old) sound.right (λ is. stands_rounds old.parts.config (turns_of entries) due.0 old (sound.stands is)) sound.unkept)
 
@@ -147,10 +147,22 @@ sound_reply kept entries old new ticket reply sound rest hands =
 
 -- ---- what calls come to
 
+-- due steps were played on the session
+pub plays_due : (kept : Bool) (entries : List Entry) (old new : Seen) (core : Logged) → core_of kept entries old ≡ core → ((rounds : ℕ) × (new ≡ due_rounds rounds old)) → PlaysDue core (core_of kept entries new)
+plays_due kept entries old new core is due = record {
+  rounds = due.0;
+  same = ap (λ s. core_of kept entries s) due.1 ∙ ap (λ (x : Logged). with_session (due_rounds due.0 x.session) x) is;
+}
+
 -- playing due steps until none is left
-pub due_all : (old new : Logged) → PlaysDue old new → due (parts_in new) ≡ None → new ≡ caught_up old
+due_all : (old new : Logged) → PlaysDue old new → due (parts_in new) ≡ None → new ≡ caught_up old
 due_all old new plays none =
-    plays.1 ∙ ap (λ s. with_session s old) (rounds_enough plays.0 old.session (ap (λ (core : Logged). due (parts_in core)) (sym plays.1) ∙ none))
+    plays.same
+    ∙ ap (λ s. with_session s old) (rounds_enough plays.rounds old.session (ap (λ (core : Logged). due (parts_in core)) (sym plays.same) ∙ none))
+
+pub catches_up : {A E : Type 0} (r : Result A E) (old new : Logged) → PlaysDue old new → OnOk r (due (parts_in new) ≡ None) → OnOk r (new ≡ caught_up old)
+catches_up (Ok u) old new plays none = due_all old new plays none
+catches_up (Err e) old new plays none = tt
 
 pub none_caught_up : (old new : Logged) → new ≡ caught_up old → due (parts_in new) ≡ None
 none_caught_up old new is = ap (λ (core : Logged). due (parts_in core)) is ∙ none_after_all old.session
@@ -168,6 +180,18 @@ steps_by old mid new t (Err NoMemory) due is plays = (
 -- memory was wanting for a step that was due before
 pub steps_behind : (old new : Logged) (t : Turn) → PlaysDue old new → is_some (due (parts_in new)) ≡ true → Steps old t (Err NoMemory) new
 steps_behind old new t plays behind = (plays, λ none. absurd (not_both (due (parts_in new)) none behind))
+
+-- memory was wanting for the turn
+pub plays_wanting : (old new : Logged) (t : Turn) (r : Result StepReply StepError) → IsErr r × IsErrAnd r (λ e. e ≡ NoMemory) → is_valid_turn (parts_in old) t ≡ true → new ≡ old → Plays old t r new
+plays_wanting old new t (Ok reply) is valid same = absurd is.1
+plays_wanting old new t (Err e) is valid same = subst (λ x. Plays old t (Err x) new) (sym is.1) (valid, same)
+
+pub plays_ok : (old mid new : Logged) (t : Turn) (reply : StepReply) → is_valid_turn (parts_in old) t ≡ true → reply ≡ reply_to (parts_in old) t → mid ≡ played t old → PlaysDue mid new → Plays old t (Ok reply) new
+plays_ok old mid new t reply valid is own due = (valid, is, subst (λ core. PlaysDue core new) own due)
+
+pub steps_wanting : (old new : Logged) (t : Turn) (r : Result StepReply StepError) → IsErr r × IsErrAnd r (λ e. e ≡ NoMemory) → PlaysDue old new → is_some (due (parts_in new)) ≡ true → Steps old t r new
+steps_wanting old new t (Ok reply) is plays behind = absurd is.1
+steps_wanting old new t (Err e) is plays behind = subst (λ x. Steps old t (Err x) new) (sym is.1) (steps_behind old new t plays behind)
 
 pub steps_on_by : (link : ℕ) (old mid new : Logged) (t : Turn) (r : Result StepReply StepError) → PlaysDue old mid → mid ≡ caught_up old → is_on link (parts_in mid) ≡ true → Plays mid t r new → StepsOn link old t r new
 steps_on_by link old mid new t (Ok reply) due is on plays = (
@@ -190,6 +214,10 @@ steps_on_behind link old new t plays behind = (
   λ none. absurd (not_both (due (parts_in new)) none behind),
 )
 
+pub steps_on_wanting : (link : ℕ) (old new : Logged) (t : Turn) (r : Result StepReply StepError) → IsErr r × IsErrAnd r (λ e. e ≡ NoMemory) → PlaysDue old new → is_some (due (parts_in new)) ≡ true → StepsOn link old t r new
+steps_on_wanting link old new t (Ok reply) is plays behind = absurd is.1
+steps_on_wanting link old new t (Err e) is plays behind = subst (λ x. StepsOn link old t (Err x) new) (sym is.1) (steps_on_behind link old new t plays behind)
+
 pub steps_on_gone : (link current : ℕ) (old new : Logged) (t : Turn) → new ≡ caught_up old → is_on link (parts_in new) ≡ false → current ≡ up_number (parts_in new) → StepsOn link old t (Err (LinkGone current)) new
 steps_on_gone link current old new t is gone number = (
   ap (λ core. is_on link (parts_in core)) (sym is) ∙ gone,
@@ -197,10 +225,23 @@ steps_on_gone link current old new t is gone number = (
   is,
 )
 
+-- a call that may come once no step is due
+pub may_caught_up : (old mid : Logged) (t : Turn) → mid ≡ caught_up old → is_valid_turn (parts_in (caught_up old)) t ≡ true → can_play (parts_in mid) t ≡ true
+may_caught_up old mid t is valid =
+    may_where_none (parts_in mid) t (none_caught_up old mid is) ∙ (ap (λ core. is_valid_turn (parts_in core) t) is ∙ valid)
+
+pub submits_by : (old mid new : Logged) (call : Call) (r : Result CallReply Call) → PlaysDue old mid → mid ≡ caught_up old → IfOk r (λ reply. reply ≡ call_reply (parts_in mid) call)
+    → OnOk r (PlaysDue (played (turns.Do call) mid) new) → IfErr r (λ back. back ≡ call) → OnErr r (new ≡ mid) → Submits old call r new
+submits_by old mid new call (Ok reply) due is replied plays back stay = (
+  replied ∙ ap (λ core. call_reply (parts_in core) call) is,
+  subst (λ core. PlaysDue (played (turns.Do call) core) new) is plays,
+)
+submits_by old mid new call (Err other) due is replied plays back stay = (back, subst (PlaysDue old) (sym stay) due)
+
 -- ---- the journal
 
 entries_due : (old new : Logged) → PlaysDue old new → new.entries ≡ old.entries
-entries_due old new plays = ap (λ (core : Logged). core.entries) plays.1
+entries_due old new plays = ap (λ (core : Logged). core.entries) plays.same
 
 -- what one entry more or none is, by what a turn answered
 abbrev pub Notes : Logged → Turn → Result StepReply StepError → Logged → Type 0

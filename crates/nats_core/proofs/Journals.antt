@@ -28,10 +28,11 @@ replies_more (x ∷ journal) e = ap (λ rs. x.reply ∷ rs) (replies_more journa
 
 steps_more : (c : Config) (place : ℕ) (turns : List Turn) (t : Turn) (h : History)
     → steps_from c place (turns ++ t ∷ []) h ≡ after_turn c (place + length turns) t (steps_from c place turns h)
-steps_more c place [] t h = ap (λ n. after_turn c n t h) (omega arith)
+steps_more c place [] t h = let same : place ≡ place + 0 = omega arith in ap (λ n. after_turn c n t h) same
 steps_more c place (turn ∷ turns) t h =
+    let same : suc place + length turns ≡ place + suc (length turns) = omega arith in
     steps_more c (suc place) turns t (after_turn c place turn h)
-    ∙ ap (λ n. after_turn c n t (steps_from c (suc place) turns (after_turn c place turn h))) (omega arith)
+    ∙ ap (λ n. after_turn c n t (steps_from c (suc place) turns (after_turn c place turn h))) same
 
 replies_from_more : (c : Config) (place : ℕ) (turns : List Turn) (t : Turn) (h : History)
     → replies_from c place (turns ++ t ∷ []) h ≡ replies_from c place turns h ++ reply_to (parts_of c (steps_from c place turns h)) t ∷ []
@@ -122,8 +123,10 @@ parts_are c turns seen stands none = ap (parts_of c) (sym (history_is c turns se
 own_more : (c : Config) (turns : List Turn) (t : Turn) (seen : Seen) (h : History) → h ≡ steps c turns → seen.parts ≡ parts_of c h
     → settled c (suc (length turns)) (put_steps (suc (length turns)) (own_steps seen.parts t) h) ≡ steps c (turns ++ t ∷ [])
 own_more c turns t seen h is parts =
+    let place : 1 + length turns ≡ suc (length turns) = omega arith in
     ap (λ q. settled c (suc (length turns)) (put_steps (suc (length turns)) (own_steps q t) h)) parts
-    ∙ (ap (after_turn c (suc (length turns)) t) is ∙ sym (steps_more c 1 turns t [] ∙ ap (λ n. after_turn c n t (steps c turns)) (omega arith)))
+    ∙ (ap (after_turn c (suc (length turns)) t) is
+    ∙ sym (steps_more c 1 turns t [] ∙ ap (λ n. after_turn c n t (steps c turns)) place))
 
 pub stands_more : (c : Config) (turns : List Turn) (t : Turn) (seen : Seen) → StandsForTurns c turns seen → due seen.parts ≡ None
     → StandsForTurns c (turns ++ t ∷ []) (seen_all seen (own_steps seen.parts t))

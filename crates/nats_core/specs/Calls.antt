@@ -15,9 +15,10 @@ use Rattle.nats_core.specs.Journal.{Logged, reply_to, due_rounds, with_session, 
 abbrev pub parts_in : Logged → Parts
 parts_in core = core.session.parts
 
--- due steps were played in order, all or the first of them; all else stayed
-abbrev pub PlaysDue : Logged → Logged → Type 0
-PlaysDue old new = (rounds : ℕ) × (new ≡ with_session (due_rounds rounds old.session) old)
+-- the due steps were played, or the first of them, in order; all else stayed
+pub record PlaysDue (old new : Logged) : Type 0 where
+  pub rounds : ℕ
+  pub same : new ≡ with_session (due_rounds rounds old.session) old
 
 -- ---- turns
 

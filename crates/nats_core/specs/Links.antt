@@ -1,5 +1,5 @@
 -- What one read of a link, and one write to it, come to.
-use Rattle.std.specs.Prelude.{◌≡◌, ℕ, ◌<◌, ◌≤◌, List, [], length, take, Option, Result, Ok, Err}
+use Rattle.std.specs.Prelude.{◌≡◌, ℕ, zero, suc, ◌<◌, ◌≤◌, List, [], length, take, Option, Result, Ok, Err}
 use Rattle.std.specs.List.{concat}
 use Rattle.std.specs.Io.KnownBytes.{append_known, Consumes}
 use Rattle.nats_addr.specs.Resolving.{risen}
@@ -22,6 +22,12 @@ told_after r buf left told = read_of r buf left told
 abbrev pub GivesNone : ReadTold → ReadTold → Type 0
 GivesNone before after =
     (after ≡ record before { left = after.left; ends = risen 1 before.ends }) ⊎ (after ≡ record before { faults = risen 1 before.faults })
+
+-- a read gave the first n bytes of a buffer, or none
+abbrev pub Gives : ℕ → List ℕ → ReadTold → ReadTold → Type 0
+Gives zero buf before after = GivesNone before after
+Gives (suc n) buf before after =
+    (suc n ≤ length buf) × (after ≡ told_after (Ok (suc n)) buf after.left before) × Consumes before.left after.left (take (suc n) buf)
 
 -- the link gave the first n bytes of a buffer, at least one, and they are played as one piece; or it gave none and is lost
 abbrev pub Reads : Logged → List ℕ → ReadTold → ReadTold → Result ReadOnce NoMemory → Logged → Type 0

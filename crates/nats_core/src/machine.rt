@@ -136,12 +136,19 @@ impl Core {
         )
     }
 
+    /// Whether a turn may be played: it may come, and no step is due.
+    fn may(&self, turn: &Turn) -> bool
+        ensures { result ≡ can_play (parts_in self.now) turn.now }
+    {
+        self.handler.check(turn)
+    }
+
     /// Plays a turn where no step is due, if it may come.
     fn play(&mut self, alloc: Global, turn: Turn) -> Result<StepReply, StepError>
         requires { due (parts_in self.old) ≡ None }
         ensures { Plays self.old turn result self.new }
     {
-        if !self.handler.check(&turn) {
+        if !self.may(&turn) {
             return Err(StepError::OutOfTurn);
         }
         let reply = self.note_turn(alloc, turn)?;
@@ -157,9 +164,23 @@ impl Core {
         ensures back { IfErr result (λ back. back ≡ call) }
         ensures err { OnErr result (self.new ≡ self.old) }
     {
-        let reply = self.note_call(alloc, call)?;
-        self.settle(alloc);
-        Ok(reply)
+        match self.note_call(alloc, call) {
+            Ok(reply) => {
+                self.settle(alloc);
+                Ok(reply)
+            }
+            Err(call) => Err(call),
+        }
+    }
+
+    fn submit_once(&mut self, alloc: Global, call: Call) -> Result<CallReply, Call>
+        requires { IsTrue (is_valid_turn (parts_in (caught_up self.old)) (turns.Do call)) }
+        ensures { Submits self.old call result self.new }
+    {
+        match self.catch_up(alloc) {
+            Ok(()) => self.take_call(alloc, call),
+            Err(NoMemory) => Err(call),
+        }
     }
 
     /// Makes a call: it is accepted or refused as `ConnectionHandler::submit` says, once all steps that were due are played. Then
@@ -176,10 +197,14 @@ impl Core {
             ≡ entries_with self.old.is_kept (record { turn = turns.Do call; reply = replies.Call reply }) self.old.entries) }
         ensures others { OnErr result (self.new.entries ≡ self.old.entries) }
     {
-        match self.catch_up(alloc) {
-            Ok(()) => self.take_call(alloc, call),
-            Err(NoMemory) => Err(call),
-        }
+        self.submit_once(alloc, call)
+    }
+
+    fn step_once(&mut self, alloc: Global, turn: Turn) -> Result<StepReply, StepError>
+        ensures { Steps self.old turn result self.new }
+    {
+        self.catch_up(alloc)?;
+        self.play(alloc, turn)
     }
 
     /// Plays a turn, once all steps that were due are played, and then due steps, as memory allows. Where the journal is kept, it
@@ -196,8 +221,7 @@ impl Core {
             ≡ entries_with self.old.is_kept (record { turn = turn; reply = reply }) self.old.entries) }
         ensures others { OnErr result (self.new.entries ≡ self.old.entries) }
     {
-        self.catch_up(alloc)?;
-        self.play(alloc, turn)
+        self.step_once(alloc, turn)
     }
 
     /// The number of the link that is up, or 0.
@@ -209,6 +233,29 @@ impl Core {
         } else {
             0
         }
+    }
+
+    /// Whether the link of this number is up.
+    fn is_on(&self, link: u64) -> bool
+        ensures { result ≡ is_on link (parts_in self.now) }
+    {
+        self.handler.is_up() && self.handler.link() == link
+    }
+
+    fn step_once_on(
+        &mut self,
+        alloc: Global,
+        link: u64,
+        turn: Turn,
+    ) -> Result<StepReply, StepError>
+        ensures { StepsOn link self.old turn result self.new }
+    {
+        self.catch_up(alloc)?;
+        if !self.is_on(link) {
+            let current = self.up_number();
+            return Err(StepError::LinkGone { current });
+        }
+        self.play(alloc, turn)
     }
 
     /// Plays a turn as `step` does, on the link of this number, if that is the one that is up once no step is due.
@@ -228,20 +275,7 @@ impl Core {
             ≡ entries_with self.old.is_kept (record { turn = turn; reply = reply }) self.old.entries) }
         ensures others { OnErr result (self.new.entries ≡ self.old.entries) }
     {
-        self.catch_up(alloc)?;
-        if !self.is_on(link) {
-            return Err(StepError::LinkGone {
-                current: self.up_number(),
-            });
-        }
-        self.play(alloc, turn)
-    }
-
-    /// Whether the link of this number is up.
-    fn is_on(&self, link: u64) -> bool
-        ensures { result ≡ is_on link (parts_in self.now) }
-    {
-        self.handler.is_up() && self.handler.link() == link
+        self.step_once_on(alloc, link, turn)
     }
 
     /// Hands out the oldest event that was not handed out yet, if there is one. The journal stays. It takes no memory.

@@ -8,7 +8,7 @@ ghost use Rattle.nats_core.specs.Journal.{reply_to, entries_with, entry_of};
 use crate::again::{call_again, message_for, reply_again};
 use crate::entry::{Entry, StepReply};
 use crate::plays::{play_turn, submit};
-use nats_session::{Call, CallReply, ConnectionHandler, NoMemory, Turn};
+use nats_session::{Bytes, Call, CallReply, ConnectionHandler, NoMemory, Turn};
 use std::alloc::Global;
 
 /// Plays the own steps of a turn and notes it.
@@ -57,6 +57,30 @@ pub(crate) fn play_own(
     } else {
         play_turn(alloc, handler, turn)
     }
+}
+
+/// The same of a piece, whose bytes are copied for the journal alone.
+pub(crate) fn piece_own(
+    alloc: Global,
+    is_kept: bool,
+    handler: &mut ConnectionHandler,
+    entries: &mut Vec<Entry>,
+    bytes: &[u8],
+) -> Result<(), NoMemory>
+    requires { IsTrue (can_play handler.old.parts (turns.Piece bytes.now)) }
+    ensures seen { OnOk result
+        (handler.new ≡ seen_all handler.old (own_steps handler.old.parts (turns.Piece bytes.now))) }
+    ensures noted { OnOk result (entries.new.items
+        ≡ entries_with is_kept (entry_of handler.old.parts (turns.Piece bytes.now)) entries.old.items) }
+    ensures same { OnErr result (handler.new ≡ handler.old) }
+    ensures stay { OnErr result (entries.new.items ≡ entries.old.items) }
+{
+    if !is_kept {
+        return handler.piece(alloc, bytes);
+    }
+    let piece = Bytes::copy_from_slice(alloc, bytes)?;
+    play_noted(alloc, handler, entries, Turn::Piece(piece))?;
+    Ok(())
 }
 
 /// Takes in a call and notes it.

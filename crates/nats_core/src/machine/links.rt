@@ -6,13 +6,25 @@ ghost use Rattle.nats_wire.specs.Commands.{one_piece};
 ghost use Rattle.nats_session.specs.Handler.{can_play};
 ghost use Rattle.nats_core.specs.Journal.{played};
 ghost use Rattle.nats_core.specs.Calls.{parts_in, PlaysDue};
-ghost use Rattle.nats_core.specs.Links.{Reads, Writes, waiting_in};
+ghost use Rattle.nats_core.specs.Links.{Gives, Reads, Writes, waiting_in};
 
 use super::Core;
 use crate::answers::{ReadOnce, WriteOnce};
+use crate::notes::piece_own;
 use nats_outside::{Failed, LinkRead, LinkWrite};
 use nats_session::{Bytes, NoMemory, Turn};
 use std::alloc::Global;
+
+/// One read: how many bytes the link gave, or 0 where it ended or failed.
+fn read_some<L: LinkRead>(from: &mut L, buf: &mut [u8]) -> usize
+    requires { 0 < length buf.old }
+    ensures { Gives result buf.new (L.read_told from.old) (L.read_told from.new) }
+{
+    match from.read(buf) {
+        Ok(count) => count,
+        Err(Failed) => 0,
+    }
+}
 
 impl Core {
     /// Plays the loss of the link, and then due steps, as memory allows.
@@ -32,12 +44,13 @@ impl Core {
         ensures ok { OnOk result (self.new ≡ played (turns.Piece bytes.now) self.old) }
         ensures err { OnErr result (self.new ≡ self.old) }
     {
-        if !self.is_kept {
-            return self.handler.piece(alloc, bytes);
-        }
-        let piece = Bytes::copy_from_slice(alloc, bytes)?;
-        self.note_turn(alloc, Turn::Piece(piece))?;
-        Ok(())
+        piece_own(
+            alloc,
+            self.is_kept,
+            &mut self.handler,
+            &mut self.entries,
+            bytes,
+        )
     }
 
     /// Reads once from a link, at most as many bytes as `buf` holds, and plays them as one piece: `Played` tells how many they
@@ -59,17 +72,14 @@ impl Core {
         requires room { 0 < length buf.old }
         ensures { Reads self.old buf.new (L.read_told from.old) (L.read_told from.new) result self.new }
     {
-        match from.read(buf) {
-            Ok(0) | Err(Failed) => {
-                self.lose(alloc)?;
-                Ok(ReadOnce::Lost)
-            }
-            Ok(count) => {
-                self.note_piece(alloc, &buf[..count])?;
-                self.settle(alloc);
-                Ok(ReadOnce::Played(count as u64))
-            }
+        let count = read_some(from, buf);
+        if count == 0 {
+            self.lose(alloc)?;
+            return Ok(ReadOnce::Lost);
         }
+        self.note_piece(alloc, &buf[..count])?;
+        self.settle(alloc);
+        Ok(ReadOnce::Played(count as u64))
     }
 
     /// Writes once to a link: it is handed bytes that wait, from the first on, and `Wrote` tells how many of them it took, which
