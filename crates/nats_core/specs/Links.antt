@@ -1,11 +1,11 @@
 -- What one read of a link, and one write to it, come to.
-use Rattle.std.specs.Prelude.{◌≡◌, ℕ, zero, suc, ◌<◌, ◌≤◌, List, [], length, take, Option, Result, Ok, Err}
+use Rattle.std.specs.Prelude.{◌≡◌, ℕ, zero, suc, ◌<◌, ◌≤◌, List, [], ◌++◌, length, take, Option, Result, Ok, Err}
 use Rattle.std.specs.List.{concat}
 use Rattle.std.specs.Io.KnownBytes.{append_known, Consumes}
 use Rattle.nats_addr.specs.Resolving.{risen}
 use Rattle.nats_names.specs.declared.failed.Failed.{Failed}
 use Rattle.nats_names.specs.declared.failed.NoMemory.{NoMemory}
-use Rattle.nats_outside.specs.Told.{ReadTold, WriteTold, read_of}
+use Rattle.nats_outside.specs.Told.{ReadTold, WriteTold, read_of, write_of}
 use Rattle.nats_history.specs.declared.turn.Turn.TheVariants as turns
 use Rattle.nats_core.specs.declared.answers.ReadOnce.{ReadOnce}
 use Rattle.nats_core.specs.declared.answers.ReadOnce.TheVariants as reads
@@ -55,5 +55,10 @@ Writes old before after (Err e) new = (0 < length (waiting_in old)) × (new ≡ 
 
 -- pieces that are the first bytes of what waits, and none only where nothing waits
 pub record AreFirst (pieces : List (List ℕ)) (waiting : List ℕ) : Type 0 where
-  pub joined : concat pieces ≡ take (length (concat pieces)) waiting
+  pub rest : List ℕ
+  pub joined : concat pieces ++ rest ≡ waiting
   pub none : concat pieces ≡ [] → waiting ≡ []
+
+-- what the half tells after a write
+abbrev pub wrote_after : Result ℕ Failed → List ℕ → WriteTold → WriteTold
+wrote_after r bytes told = write_of r bytes told
