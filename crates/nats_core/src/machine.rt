@@ -48,8 +48,9 @@ impl Core {
     pub fn new(alloc: Global, config: Config, journal: bool) -> Result<Core, NoMemory>
         ensures { IfOk result (λ core. core ≡ new_core config journal) }
     {
+        let handler = ConnectionHandler::new(alloc, config)?;
         Ok(Core {
-            handler: ConnectionHandler::new(alloc, config)?,
+            handler,
             is_kept: journal,
             entries: Vec::new(alloc),
         })

@@ -6,8 +6,8 @@ use Rattle.nats_core.proofs.notes.play_noted.Goals as goal
 
 pub reply_again-requires-clause-plain : goal.reply_again-requires-clause-plain
 reply_again-requires-clause-plain c =
-    subst IsPlainReply (sym c.in_ok-play_turn.ensures.reply) (plain_reply c.args.handler.now.parts c.args.turn)
+    subst IsPlainReply (sym c.in_ok-reply.ensures.reply) (plain_reply c.args.handler.now.parts c.args.turn)
 
 pub reply_again-requires-clause-message : goal.reply_again-requires-clause-message
 reply_again-requires-clause-message c =
-    c.in_ok-message_for.ensures ∙ (message_is c.args.handler.now.parts c.args.turn ∙ ap message_of (sym c.in_ok-play_turn.ensures.reply))
+    c.in_ok-message.ensures ∙ (message_is c.args.handler.now.parts c.args.turn ∙ ap message_of (sym c.in_ok-reply.ensures.reply))

@@ -6,4 +6,4 @@ use Rattle.nats_core.proofs.notes.submit_noted.Goals as goal
 
 pub call_again-requires : goal.call_again-requires
 call_again-requires c =
-    subst IsPlain (sym c.in_ok-submit.ensures.reply) (plain_call c.args.handler.now.parts c.args.call)
+    subst IsPlain (sym c.in_ok-reply.ensures.reply) (plain_call c.args.handler.now.parts c.args.call)

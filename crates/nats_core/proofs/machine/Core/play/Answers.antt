@@ -13,12 +13,12 @@ returns-then-not-may c = (
 pub note_turn-requires : goal.note_turn-requires
 note_turn-requires c = sym c.may.ensures ∙ c.if-not-may.false
 
-pub returns-in_err-note_turn : goal.returns-in_err-note_turn
-returns-in_err-note_turn c =
-    plays_wanting c.args.self.now c.note_turn.new.self c.args.turn c.from_residual-in_err-note_turn.result c.from_residual-in_err-note_turn.ensures
-    (may_valid (parts_in c.args.self.now) c.args.turn (sym c.may.ensures ∙ c.if-not-may.false)) c.in_err-note_turn.ensures.err
+pub returns-in_err-reply : goal.returns-in_err-reply
+returns-in_err-reply c =
+    plays_wanting c.args.self.now c.note_turn.new.self c.args.turn c.from_residual.result c.from_residual.ensures
+    (may_valid (parts_in c.args.self.now) c.args.turn (sym c.may.ensures ∙ c.if-not-may.false)) c.in_err-reply.ensures.err
 
 pub returns : goal.returns
 returns c =
-    plays_ok c.args.self.now c.note_turn.new.self c.settle.new.self c.args.turn c.in_ok-note_turn.reply
-    (may_valid (parts_in c.args.self.now) c.args.turn (sym c.may.ensures ∙ c.if-not-may.false)) c.in_ok-note_turn.ensures.reply c.in_ok-note_turn.ensures.ok c.settle.ensures
+    plays_ok c.args.self.now c.note_turn.new.self c.settle.new.self c.args.turn c.in_ok-reply.reply
+    (may_valid (parts_in c.args.self.now) c.args.turn (sym c.may.ensures ∙ c.if-not-may.false)) c.in_ok-reply.ensures.reply c.in_ok-reply.ensures.ok c.settle.ensures

@@ -11,4 +11,4 @@ returns c =
 
 pub returns-in_err-catch_up : goal.returns-in_err-catch_up
 returns-in_err-catch_up c =
-    steps_wanting c.args.self.now c.catch_up.new.self c.args.turn c.from_residual-in_err-catch_up.result c.from_residual-in_err-catch_up.ensures c.in_err-catch_up.ensures.plays c.in_err-catch_up.ensures.behind
+    steps_wanting c.args.self.now c.catch_up.new.self c.args.turn c.from_residual.result c.from_residual.ensures c.in_err-catch_up.ensures.plays c.in_err-catch_up.ensures.behind
