@@ -1,19 +1,26 @@
 -- What a link that is lent gives and takes.
-use Rattle.std.proofs.Common.{◌≡◌, ℕ, zero, suc, ◌+◌, ◌-◌, ◌^◌, ◌<◌, ◌≤◌, min, List, [], ◌∷◌, ◌++◌, length, take, Result, Ok, Err, inl, inr, refl, sym, ◌∙◌, ap, subst, arith}
+use Rattle.std.proofs.Common.{◌≡◌, ℕ, zero, suc, ◌+◌, ◌-◌, ◌^◌, ◌<◌, ◌≤◌, min, List, [], ◌∷◌, ◌++◌, length, take, true, None, Result, Ok, Err, IsErr, inl, inr, refl, sym, ◌∙◌, ap, subst, arith}
 use Rattle.std.specs.List.{concat}
 use Rattle.std.specs.Io.KnownBytes.{append_known, Consumes}
 use Rattle.std.proofs.Math.Nat.{max-eq_left, min-le_left}
 use Rattle.std.proofs.lemmas.List.{append-nil, length-append, take-append-le}
 use Rattle.nats_addr.specs.Resolving.{risen}
 use Rattle.nats_names.specs.declared.failed.Failed.{Failed}
+use Rattle.nats_names.specs.declared.failed.NoMemory.{NoMemory}
 use Rattle.nats_outside.specs.Told.{ReadTold, WriteTold}
 use Rattle.nats_wire.specs.Commands.{one_piece}
 use Rattle.nats_history.specs.declared.turn.Turn.TheVariants as turns
+use Rattle.nats_history.specs.Parts.{Parts}
+use Rattle.nats_history.specs.Schedule.{due}
+use Rattle.nats_session.specs.Handler.{can_play}
+use Rattle.nats_core.specs.declared.answers.ReadOnce.{ReadOnce}
 use Rattle.nats_core.specs.declared.answers.ReadOnce.TheVariants as reads
+use Rattle.nats_core.specs.declared.answers.WriteOnce.{WriteOnce}
 use Rattle.nats_core.specs.declared.answers.WriteOnce.TheVariants as writes
 use Rattle.nats_core.specs.Journal.{Logged, played}
 use Rattle.nats_core.specs.Calls.{PlaysDue}
 use Rattle.nats_core.specs.Links.{told_after, wrote_after, GivesNone, Gives, Reads, waiting_in, Writes, AreFirst}
+use Rattle.nats_core.proofs.Cores.{may_where_none}
 
 -- ---- a read
 
@@ -61,3 +68,28 @@ writes_took old mid new pieces n before after front some fits told own due = (
       ∙ ap (λ (bytes : List ℕ). record before { taken = append_known before.taken bytes }) (sym (take-append-le n (concat pieces) front.rest fits) ∙ ap (take n) front.joined),
   subst (λ core. PlaysDue core new) own due,
 )
+
+-- ---- want of memory
+
+pub reads_wanting : (old new : Logged) (buf : List ℕ) (before after : ReadTold) (r : Result ReadOnce NoMemory) → IsErr r → new ≡ old → Reads old buf before after r new
+reads_wanting old new buf before after (Ok answer) is same = absurd is
+reads_wanting old new buf before after (Err e) is same = same
+
+pub writes_wanting : (old new : Logged) (before after : WriteTold) (r : Result WriteOnce NoMemory) → IsErr r → 0 < length (waiting_in old) → new ≡ old → Writes old before after r new
+writes_wanting old new before after (Ok answer) is some same = absurd is
+writes_wanting old new before after (Err e) is some same = (some, same)
+
+-- ---- the turns of a link that is up
+
+pub lost_may : (p : Parts) → p.link.is_up ≡ true → due p ≡ None → can_play p turns.Lost ≡ true
+lost_may p up none = may_where_none p turns.Lost none ∙ up
+
+pub piece_may : (p : Parts) (bytes : List ℕ) → p.link.is_up ≡ true → due p ≡ None → can_play p (turns.Piece bytes) ≡ true
+piece_may p bytes up none = may_where_none p (turns.Piece bytes) none ∙ up
+
+pub write_may : (p : Parts) (n : ℕ) → p.link.is_up ≡ true → due p ≡ None → can_play p (turns.Write n) ≡ true
+write_may p n up none = may_where_none p (turns.Write n) none ∙ up
+
+-- pieces that hold bytes
+pub some_waits : (pieces : List (List ℕ)) (waiting : List ℕ) → AreFirst pieces waiting → 0 < length (concat pieces) → 0 < length waiting
+some_waits pieces waiting front some = subst (λ bytes. 0 < length bytes) front.joined (omega (arith, length-append (concat pieces) front.rest))

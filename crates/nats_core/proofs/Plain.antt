@@ -1,5 +1,6 @@
 -- The reply of a call holds no message, and that of a take the one that waited first.
-use Rattle.std.proofs.Common.{◌≡◌, ℕ, Bool, true, false, cond, List, [], ◌∷◌, Option, Some, None, refl}
+use Rattle.std.proofs.Common.{◌≡◌, ℕ, Bool, true, false, not, cond, List, [], ◌∷◌, Option, Some, None, refl, ◌∙◌}
+use Rattle.std.proofs.lemmas.Bool.{false≢true}
 use Rattle.nats_wire.specs.declared.message.Message.{Message}
 use Rattle.nats_history.specs.declared.call.Call.{Call}
 use Rattle.nats_history.specs.declared.call.CallReply.{CallReply}
@@ -10,9 +11,11 @@ use Rattle.nats_history.specs.declared.turn.Turn.TheVariants.{Do, Take}
 use Rattle.nats_history.specs.Queue.{first}
 use Rattle.nats_history.specs.History.{subscribes, takes_ticket, Sub}
 use Rattle.nats_history.specs.Parts.{Parts}
-use Rattle.nats_history.specs.Schedule.{size_of, refusal, reply_by, accepted_reply, call_reply, is_closed_sub, oldest, take_reply_of}
+use Rattle.nats_history.specs.Schedule.{size_of, refusal, reply_by, accepted_reply, call_reply, is_closed_sub, oldest, take_reply_of, is_there}
 use Rattle.nats_tables.specs.Numbers.{item_of}
 use Rattle.nats_subs.specs.Delivery.{first_of}
+use Rattle.nats_session.specs.Handler.{can_play}
+use Rattle.nats_session.proofs.Handlers.{may_take}
 use Rattle.nats_core.specs.Journal.{reply_to}
 use Rattle.nats_core.specs.Replies.{IsPlain, IsPlainReply, message_of, taken_message, waiting_for}
 
@@ -53,11 +56,15 @@ by_waiting true [] = refl
 by_waiting false [] = refl
 by_waiting over (m ∷ waiting) = refl
 
-by_sub : (o : Option Sub) → first_of o ≡ taken_message (take_reply_of o)
-by_sub None = refl
-by_sub (Some sub) = by_waiting (is_closed_sub sub) sub.waiting
+by_gone : (gone : Bool) (waiting : List Message) → not gone ≡ true → cond gone None (first waiting) ≡ first waiting
+by_gone true waiting there = absurd (false≢true there)
+by_gone false waiting there = refl
 
-pub message_is : (p : Parts) (t : Turn) → waiting_for p t ≡ message_of (reply_to p t)
-message_is p (Take sid) = by_sub (item_of sid p.subs.rows)
-message_is p (Do call) = refl
-message_is p t = refl
+by_sub : (o : Option Sub) → is_there o ≡ true → first_of o ≡ taken_message (take_reply_of o)
+by_sub None there = refl
+by_sub (Some sub) there = by_gone sub.is_gone sub.waiting there ∙ by_waiting (is_closed_sub sub) sub.waiting
+
+pub message_is : (p : Parts) (t : Turn) → can_play p t ≡ true → waiting_for p t ≡ message_of (reply_to p t)
+message_is p (Take sid) may = by_sub (item_of sid p.subs.rows) (may_take p sid may)
+message_is p (Do call) may = refl
+message_is p t may = refl

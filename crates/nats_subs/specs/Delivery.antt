@@ -84,10 +84,13 @@ abbrev pub youngest : Option Sub → Option Message
 youngest None = None
 youngest (Some sub) = youngest_of sub
 
--- the oldest message that waits for one
+-- its oldest waiting message; none waits for one that its user let go
+abbrev pub oldest_of : Sub → Option Message
+oldest_of sub = if sub.is_gone then None else first sub.waiting
+
 abbrev pub first_of : Option Sub → Option Message
 first_of None = None
-first_of (Some sub) = first sub.waiting
+first_of (Some sub) = oldest_of sub
 
 -- the commands that are written of the subscription of a number
 abbrev pub commands_by : Texts → ℕ → Sub → List ClientOp

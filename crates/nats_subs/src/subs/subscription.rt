@@ -2,11 +2,10 @@
 ghost use Rattle.std.specs.Prelude.{◌≡◌, ◌∷◌, [], ◌++◌, true, OnErr, IfOk, OnOk};
 ghost use Rattle.std.proofs.Common.{refl};
 ghost use Rattle.std.specs.Option.{option_copied};
-ghost use Rattle.nats_history.specs.Queue.{first};
 ghost use Rattle.nats_history.specs.History.{is_open, is_over, has_room, forgotten, open_if, end_if, reached, again, unsubscribed, limit_commands};
 ghost use Rattle.nats_wire.specs.declared.op.ClientOp.TheVariants as client;
 ghost use Rattle.nats_history.specs.Schedule.{sub_take};
-ghost use Rattle.nats_subs.specs.Delivery.{asked_sub, altered, deliver, take_from, delivery, youngest_of, commands_by};
+ghost use Rattle.nats_subs.specs.Delivery.{asked_sub, altered, deliver, take_from, delivery, youngest_of, oldest_of, commands_by};
 ghost use Rattle.nats_subs.specs.Draining.{is_drained};
 ghost use Rattle.nats_subs.specs.Forgetting.{rests, over_rests, still, still_rests, rests_on};
 
@@ -401,8 +400,11 @@ impl Subscription {
 
     /// The oldest waiting message.
     pub fn first(&self) -> Option<&Message>
-        ensures { option_copied result ≡ first self.now.waiting }
+        ensures { option_copied result ≡ oldest_of self.now }
     {
+        if self.is_gone {
+            return None;
+        }
         self.waiting.front()
     }
 }

@@ -10,4 +10,4 @@ reply_again-requires-clause-plain c =
 
 pub reply_again-requires-clause-message : goal.reply_again-requires-clause-message
 reply_again-requires-clause-message c =
-    c.in_ok-message.ensures ∙ (message_is c.args.handler.now.parts c.args.turn ∙ ap message_of (sym c.in_ok-reply.ensures.reply))
+    c.in_ok-message.ensures ∙ (message_is c.args.handler.now.parts c.args.turn c.requires ∙ ap message_of (sym c.in_ok-reply.ensures.reply))
