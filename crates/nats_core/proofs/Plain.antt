@@ -1,17 +1,16 @@
 -- The reply of a call holds no message, and that of a take the one that waited first.
-use Rattle.std.proofs.Common.{◌≡◌, ℕ, Bool, true, false, not, cond, List, [], ◌∷◌, Option, Some, None, refl, ◌∙◌}
+use Rattle.std.proofs.Common.{◌≡◌, suc, Bool, true, false, not, cond, nat_lt, List, [], ◌∷◌, Option, Some, None, refl, ◌∙◌}
 use Rattle.std.proofs.lemmas.Bool.{false≢true}
 use Rattle.nats_wire.specs.declared.message.Message.{Message}
 use Rattle.nats_history.specs.declared.call.Call.{Call}
 use Rattle.nats_history.specs.declared.call.CallReply.{CallReply}
 use Rattle.nats_history.specs.declared.call.CallReply.TheVariants.{Accepted, Numbered, InvalidSubject, InvalidQueueName, MaxPayloadExceeded, Closed, NoNumber, Full}
-use Rattle.nats_history.specs.declared.call.TakeReply.TheVariants as takes
 use Rattle.nats_history.specs.declared.turn.Turn.{Turn}
 use Rattle.nats_history.specs.declared.turn.Turn.TheVariants.{Do, Take}
 use Rattle.nats_history.specs.Queue.{first}
 use Rattle.nats_history.specs.History.{subscribes, takes_ticket, Sub}
 use Rattle.nats_history.specs.Parts.{Parts}
-use Rattle.nats_history.specs.Schedule.{size_of, refusal, reply_by, accepted_reply, call_reply, is_closed_sub, oldest, take_reply_of, is_there}
+use Rattle.nats_history.specs.Schedule.{is_full, has_subjects, has_group, size_of, has_no_number, takes_no_call, refusal, reply_by, accepted_reply, call_reply, is_closed_sub, oldest, take_reply_of, is_there}
 use Rattle.nats_tables.specs.Numbers.{item_of}
 use Rattle.nats_subs.specs.Delivery.{first_of}
 use Rattle.nats_session.specs.Handler.{can_play}
@@ -23,9 +22,16 @@ abbrev IsPlainOrNone : Option CallReply → Type 0
 IsPlainOrNone None = Unit {0}
 IsPlainOrNone (Some reply) = IsPlain reply
 
-plain_if : (b : Bool) (reply : CallReply) (other : Option CallReply) → IsPlain reply → IsPlainOrNone other → IsPlainOrNone (cond b (Some reply) other)
-plain_if true reply other here there = here
-plain_if false reply other here there = there
+-- the first of these that holds refuses
+plain_first : (a b d e f g : Bool) (m : CallReply) → IsPlain m
+    → IsPlainOrNone (cond a (Some InvalidSubject) (cond b (Some InvalidQueueName) (cond d (Some m) (cond e (Some Closed) (cond f (Some NoNumber) (cond g (Some Full) None))))))
+plain_first true b d e f g m plain = tt
+plain_first false true d e f g m plain = tt
+plain_first false false true e f g m plain = plain
+plain_first false false false true f g m plain = tt
+plain_first false false false false true g m plain = tt
+plain_first false false false false false true m plain = tt
+plain_first false false false false false false m plain = tt
 
 plain_either : (b : Bool) (reply other : CallReply) → IsPlain reply → IsPlain other → IsPlain (cond b reply other)
 plain_either true reply other here there = here
@@ -33,11 +39,13 @@ plain_either false reply other here there = there
 
 plain_refusal : (p : Parts) (call : Call) → IsPlainOrNone (refusal p call)
 plain_refusal p call =
-    plain_if _ InvalidSubject _ tt (plain_if _ InvalidQueueName _ tt (plain_if _ (MaxPayloadExceeded p.link.max_payload (size_of call)) _ tt (plain_if _ Closed _ tt (plain_if _ NoNumber _ tt (plain_if _ Full None tt tt)))))
+    plain_first (not (has_subjects p.config call)) (not (has_group call)) (nat_lt p.link.max_payload (size_of call)) (takes_no_call p) (has_no_number p call) (is_full p)
+    (MaxPayloadExceeded p.link.max_payload (size_of call)) tt
 
 plain_accepted : (p : Parts) (call : Call) → IsPlain (accepted_reply p call)
 plain_accepted p call =
-    plain_either (subscribes call) _ _ tt (plain_either (takes_ticket call) _ Accepted tt tt)
+    let ticket = cond (takes_ticket call) (Numbered (suc p.tickets.given)) Accepted in
+    plain_either (subscribes call) (Numbered (suc p.subs.given)) ticket tt (plain_either (takes_ticket call) (Numbered (suc p.tickets.given)) Accepted tt tt)
 
 plain_by : (refused : Option CallReply) (reply : CallReply) → IsPlainOrNone refused → IsPlain reply → IsPlain (reply_by refused reply)
 plain_by None reply refused plain = plain

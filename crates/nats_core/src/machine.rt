@@ -243,12 +243,7 @@ impl Core {
         self.handler.is_up() && self.handler.link() == link
     }
 
-    fn step_once_on(
-        &mut self,
-        alloc: Global,
-        link: u64,
-        turn: Turn,
-    ) -> Result<StepReply, StepError>
+    fn step_once_on(&mut self, alloc: Global, link: u64, turn: Turn) -> Result<StepReply, StepError>
         ensures { StepsOn link self.old turn result self.new }
     {
         self.catch_up(alloc)?;
@@ -265,12 +260,7 @@ impl Core {
     ///
     /// `LinkGone` with the number of the link that is up, or 0, exactly where the given link is not up: the turn is not played
     /// then, and the journal is as it was. Where the link is up, those of `step`.
-    pub fn step_on(
-        &mut self,
-        alloc: Global,
-        link: u64,
-        turn: Turn,
-    ) -> Result<StepReply, StepError>
+    pub fn step_on(&mut self, alloc: Global, link: u64, turn: Turn) -> Result<StepReply, StepError>
         ensures steps { StepsOn link self.old turn result self.new }
         ensures journal { IfOk result (λ reply. self.new.entries
             ≡ entries_with self.old.is_kept (record { turn = turn; reply = reply }) self.old.entries) }

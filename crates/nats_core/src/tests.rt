@@ -30,9 +30,7 @@ fn subscribe(alloc: Global) -> Result<Turn, NoMemory> {
 
 // A core that keeps its journal, on link 1.
 fn on_a_link(alloc: Global) -> Result<Core, &'static str> {
-    let mut core = Core::new(alloc, config(alloc)?, true)
-        .ok()
-        .ok_or("memory")?;
+    let mut core = Core::new(alloc, config(alloc)?, true).ok().ok_or("memory")?;
     let up = core.step(alloc, Turn::Up(ServerInfo::default(alloc)));
     up.ok().ok_or("not up")?;
     Ok(core)
@@ -40,8 +38,8 @@ fn on_a_link(alloc: Global) -> Result<Core, &'static str> {
 
 fn takes(core: &mut Core, alloc: Global, wanted: &str) -> bool {
     match core.step(alloc, Turn::Take(1)) {
-        Ok(StepReply::Take(TakeReply::Message(message))) =>
-            message.payload.as_slice() == wanted.as_bytes(),
+        Ok(StepReply::Take(TakeReply::Message(message))) => message.payload.as_slice()
+            == wanted.as_bytes(),
         _ => false,
     }
 }
