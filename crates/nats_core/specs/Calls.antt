@@ -22,8 +22,9 @@ pub record PlaysDue (old new : Logged) : Type 0 where
 
 -- ---- turns
 
--- where no step is due, a turn that may come is played: it answers its reply, its own steps are played, its entry is the
--- journal's last, and then due steps are played; one that may not come, or that memory is wanting for, is not played
+-- where no step is due, a turn that may come is played: it answers its reply, its own steps are played, its entry is
+-- the journal's last, and then due steps are played; one that may not come, or that memory is wanting for, is not
+-- played
 abbrev pub Plays : Logged → Turn → Result StepReply StepError → Logged → Type 0
 Plays old turn (Ok reply) new =
     (is_valid_turn (parts_in old) turn ≡ true) × (reply ≡ reply_to (parts_in old) turn) × PlaysDue (played turn old) new
@@ -50,11 +51,14 @@ up_number p = if p.link.is_up then p.link.number else 0
 -- the same where the given link is the one that is up, else that one is answered and the turn is not played
 abbrev pub StepsOn : ℕ → Logged → Turn → Result StepReply StepError → Logged → Type 0
 StepsOn link old turn (Err (LinkGone current)) new =
-    (is_on link (parts_in (caught_up old)) ≡ false) × (current ≡ up_number (parts_in (caught_up old))) × (new ≡ caught_up old)
+    (is_on link (parts_in (caught_up old)) ≡ false) × (current ≡ up_number (parts_in (caught_up old)))
+    × (new ≡ caught_up old)
 StepsOn link old turn (Err Wanting) new =
     Steps old turn (Err Wanting) new × (due (parts_in new) ≡ None → is_on link (parts_in (caught_up old)) ≡ true)
-StepsOn link old turn (Err OutOfTurn) new = Steps old turn (Err OutOfTurn) new × (is_on link (parts_in (caught_up old)) ≡ true)
-StepsOn link old turn (Ok reply) new = Steps old turn (Ok reply) new × (is_on link (parts_in (caught_up old)) ≡ true)
+StepsOn link old turn (Err OutOfTurn) new =
+    Steps old turn (Err OutOfTurn) new × (is_on link (parts_in (caught_up old)) ≡ true)
+StepsOn link old turn (Ok reply) new =
+    Steps old turn (Ok reply) new × (is_on link (parts_in (caught_up old)) ≡ true)
 
 -- a call that may come is played in the same way; where memory is wanting it comes back
 abbrev pub Submits : Logged → Call → Result CallReply Call → Logged → Type 0

@@ -35,15 +35,16 @@ reply_to p turn = replies.Done
 -- the replies of some turns, the first of them at this place behind this history
 abbrev pub replies_from : Config → ℕ → List Turn → History → List StepReply
 replies_from c place [] h = []
-replies_from c place (turn ∷ turns) h = reply_to (parts_of c h) turn ∷ replies_from c (suc place) turns (after_turn c place turn h)
+replies_from c place (turn ∷ turns) h =
+    reply_to (parts_of c h) turn ∷ replies_from c (suc place) turns (after_turn c place turn h)
 
 -- a journal is right: each turn may come where it stands, and has its reply
 pub record IsRight (c : Config) (journal : List Entry) : Type 0 where
   pub valid : out_of_turn c (turns_of journal) ≡ None
   pub replied : replies_of journal ≡ replies_from c 1 (turns_of journal) []
 
--- a session stands for some turns less due steps of the last one: it stands for a history, of which something was handed out,
--- and the steps that are due behind that history make it the history of these turns
+-- a session stands for some turns less due steps of the last one: it stands for a history, of which something was
+-- handed out, and the steps that are due behind that history make it the history of these turns
 pub record StandsForTurns (c : Config) (turns : List Turn) (seen : Seen) : Type 0 where
   pub out : HandedOut
   pub history : History

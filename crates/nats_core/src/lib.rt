@@ -1,6 +1,6 @@
-//! A session with a journal of its turns: each turn that is played is noted with its reply, and what the session is at any time
-//! is what the journal's turns make of it. It has no clock, no lock and no thread; a link is lent to it. Lengths are in bytes;
-//! subscriptions, tickets and links are numbered from 1.
+//! A session with a journal of its turns: each turn that is played is noted with its reply, and what the session is at
+//! any time is what the journal's turns make of it. It has no clock, no lock and no thread; a link is lent to it.
+//! Lengths are in bytes; subscriptions, tickets and links are numbered from 1.
 #![tactic(auto)]
 
 mod again;

@@ -19,8 +19,9 @@ use nats_session::{Call, CallReply, Config, ConnectionHandler, Event, NoMemory, 
 use std::alloc::Global;
 use std::marker::Model;
 
-/// A session, and the journal of the turns that were played on it where that is kept. Each turn's due steps are played behind
-/// it, as memory allows: those that are left are played before the next turn. Our own: the crate has no journal.
+/// A session, and the journal of the turns that were played on it where that is kept. Each turn's due steps are played
+/// behind it, as memory allows: those that are left are played before the next turn. Our own: the crate has no
+/// journal.
 #[derive(Drop)]
 pub struct Core {
     handler: ConnectionHandler,
@@ -39,8 +40,8 @@ impl Model for Core {
 }
 
 impl Core {
-    /// A core whose session has these settings: no link came up, and its journal is empty. The journal is kept where `journal`
-    /// is true, and then takes memory for each turn.
+    /// A core whose session has these settings: no link came up, and its journal is empty. The journal is kept where
+    /// `journal` is true, and then takes memory for each turn.
     ///
     /// # Errors
     ///
@@ -56,8 +57,8 @@ impl Core {
         })
     }
 
-    /// The turns that were played, oldest first, each with its reply; none where the journal is not kept. The journal is always
-    /// right: each turn may come where it stands, and has the reply that a session gives there.
+    /// The turns that were played, oldest first, each with its reply; none where the journal is not kept. The journal
+    /// is always right: each turn may come where it stands, and has the reply that a session gives there.
     pub fn journal(&self) -> &[Entry]
         ensures entries { result.now ≡ self.now.entries }
         ensures right { IsRight (config_of self.now) self.now.entries }
@@ -65,18 +66,20 @@ impl Core {
         self.entries.as_slice()
     }
 
-    /// The session. Where the journal is kept it stands for the steps of the journal's turns, or while `is_behind` for those
-    /// less due steps of the last turn.
+    /// The session. Where the journal is kept it stands for the steps of the journal's turns, or while `is_behind` for
+    /// those less due steps of the last turn.
     pub fn handler(&self) -> &ConnectionHandler
         ensures session { result.now ≡ self.now.session }
-        ensures stands { self.now.is_kept ≡ true → StandsForTurns (config_of self.now) (journal_turns self.now) self.now.session }
+        ensures stands { self.now.is_kept ≡ true
+            → StandsForTurns (config_of self.now) (journal_turns self.now) self.now.session }
         ensures whole { self.now.is_kept ≡ true → due (parts_in self.now) ≡ None
             → StandsForAll (config_of self.now) (journal_turns self.now) self.now.session }
     {
         &self.handler
     }
 
-    /// Whether steps are due that were not played yet, for want of memory. The next turn, or `catch_up`, plays them first.
+    /// Whether steps are due that were not played yet, for want of memory. The next turn, or `catch_up`, plays them
+    /// first.
     pub fn is_behind(&self) -> bool
         ensures { result ≡ is_some (due (parts_in self.now)) }
     {
@@ -87,8 +90,8 @@ impl Core {
     ///
     /// # Errors
     ///
-    /// `NoMemory`, only where a step is still due: the due steps that were played before it stay played, and the journal is as it
-    /// was.
+    /// `NoMemory`, only where a step is still due: the due steps that were played before it stay played, and the
+    /// journal is as it was.
     pub fn catch_up(&mut self, alloc: Global) -> Result<(), NoMemory>
         ensures plays { PlaysDue self.old self.new }
         ensures ok { OnOk result (self.new ≡ caught_up self.old) }
@@ -184,18 +187,20 @@ impl Core {
         }
     }
 
-    /// Makes a call: it is accepted or refused as `ConnectionHandler::submit` says, once all steps that were due are played. Then
-    /// due steps are played, as memory allows. Its condition is that the call may come: the subscription that it names, if it
-    /// does, was given and not let go.
+    /// Makes a call: it is accepted or refused as `ConnectionHandler::submit` says, once all steps that were due are
+    /// played. Then due steps are played, as memory allows. Its condition is that the call may come: the subscription
+    /// that it names, if it does, was given and not let go.
     ///
     /// # Errors
     ///
-    /// Want of memory hands the call back. Due steps that were played before it stay played, and the journal is as it was.
+    /// Want of memory hands the call back. Due steps that were played before it stay played, and the journal is as it
+    /// was.
     pub fn submit(&mut self, alloc: Global, call: Call) -> Result<CallReply, Call>
         requires { IsTrue (is_valid_turn (parts_in (caught_up self.old)) (turns.Do call)) }
         ensures submits { Submits self.old call result self.new }
         ensures journal { IfOk result (λ reply. self.new.entries
-            ≡ entries_with self.old.is_kept (record { turn = turns.Do call; reply = replies.Call reply }) self.old.entries) }
+            ≡ entries_with self.old.is_kept (record { turn = turns.Do call; reply = replies.Call reply })
+                self.old.entries) }
         ensures others { OnErr result (self.new.entries ≡ self.old.entries) }
     {
         self.submit_once(alloc, call)
@@ -208,14 +213,14 @@ impl Core {
         self.play(alloc, turn)
     }
 
-    /// Plays a turn, once all steps that were due are played, and then due steps, as memory allows. Where the journal is kept, it
-    /// has one more entry then: this turn with the reply that is answered.
+    /// Plays a turn, once all steps that were due are played, and then due steps, as memory allows. Where the journal
+    /// is kept, it has one more entry then: this turn with the reply that is answered.
     ///
     /// # Errors
     ///
-    /// `OutOfTurn` exactly where the turn may not come once no step is due. `NoMemory` for want of memory; it is never answered
-    /// for a turn that may not come, once all steps that were due are played. The turn is not played then: due steps that were
-    /// played before stay played, and the journal is as it was.
+    /// `OutOfTurn` exactly where the turn may not come once no step is due. `NoMemory` for want of memory; it is never
+    /// answered for a turn that may not come, once all steps that were due are played. The turn is not played then:
+    /// due steps that were played before stay played, and the journal is as it was.
     pub fn step(&mut self, alloc: Global, turn: Turn) -> Result<StepReply, StepError>
         ensures steps { Steps self.old turn result self.new }
         ensures journal { IfOk result (λ reply. self.new.entries
@@ -258,8 +263,8 @@ impl Core {
     ///
     /// # Errors
     ///
-    /// `LinkGone` with the number of the link that is up, or 0, exactly where the given link is not up: the turn is not played
-    /// then, and the journal is as it was. Where the link is up, those of `step`.
+    /// `LinkGone` with the number of the link that is up, or 0, exactly where the given link is not up: the turn is
+    /// not played then, and the journal is as it was. Where the link is up, those of `step`.
     pub fn step_on(&mut self, alloc: Global, link: u64, turn: Turn) -> Result<StepReply, StepError>
         ensures steps { StepsOn link self.old turn result self.new }
         ensures journal { IfOk result (λ reply. self.new.entries
@@ -279,8 +284,8 @@ impl Core {
         self.handler.next_event()
     }
 
-    /// Hands out the reply by which ticket `t` settled. `None` exactly where it did not settle or its reply was handed out. The
-    /// journal stays. It takes no memory.
+    /// Hands out the reply by which ticket `t` settled. `None` exactly where it did not settle or its reply was handed
+    /// out. The journal stays. It takes no memory.
     pub fn reply_of(&mut self, t: u64) -> Option<CallReply>
         ensures reply { result ≡ reply_in t self.old.session.ready }
         ensures rest { self.new

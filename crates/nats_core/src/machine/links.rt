@@ -53,10 +53,10 @@ impl Core {
         )
     }
 
-    /// Reads once from a link, at most as many bytes as `buf` holds, and plays them as one piece: `Played` tells how many they
-    /// are. Where the link gives none, as it ended or failed, its loss is played and `Lost` is answered. Then due steps are
-    /// played, as memory allows. It never answers `Gone`. Its conditions: a link is up, no step is due, and `buf` isn't empty.
-    /// The crate's handler does so as it polls its stream.
+    /// Reads once from a link, at most as many bytes as `buf` holds, and plays them as one piece: `Played` tells how
+    /// many they are. Where the link gives none, as it ended or failed, its loss is played and `Lost` is answered.
+    /// Then due steps are played, as memory allows. It never answers `Gone`. Its conditions: a link is up, no step is
+    /// due, and `buf` isn't empty. The crate's handler does so as it polls its stream.
     ///
     /// # Errors
     ///
@@ -82,15 +82,16 @@ impl Core {
         Ok(ReadOnce::Played(count as u64))
     }
 
-    /// Writes once to a link: it is handed bytes that wait, from the first on, and `Wrote` tells how many of them it took, which
-    /// is played. `Idle`, with nothing written and nothing played, exactly where none waits. Where the link fails, its loss is
-    /// played and `Lost` is answered. Then due steps are played, as memory allows. It never answers `Gone`. Its conditions: a
-    /// link is up, and no step is due. The crate's handler does so as it polls its stream.
+    /// Writes once to a link: it is handed bytes that wait, from the first on, and `Wrote` tells how many of them it
+    /// took, which is played. `Idle`, with nothing written and nothing played, exactly where none waits. Where the
+    /// link fails, its loss is played and `Lost` is answered. Then due steps are played, as memory allows. It never
+    /// answers `Gone`. Its conditions: a link is up, and no step is due. The crate's handler does so as it polls its
+    /// stream.
     ///
     /// # Errors
     ///
-    /// `NoMemory`, only where something waits, leaves the core unchanged. The link may have taken bytes, so that it is to be used
-    /// no more.
+    /// `NoMemory`, only where something waits, leaves the core unchanged. The link may have taken bytes, so that it is
+    /// to be used no more.
     pub fn write_link<L: LinkWrite>(
         &mut self,
         alloc: Global,
@@ -117,8 +118,8 @@ impl Core {
         }
     }
 
-    /// Bytes that wait for the link, as `ConnectionHandler::pending_pieces` answers them: they stay until `Write` is played. The
-    /// journal stays. Own call, for a link that is written to while the core is not lent.
+    /// Bytes that wait for the link, as `ConnectionHandler::pending_pieces` answers them: they stay until `Write` is
+    /// played. The journal stays. Own call, for a link that is written to while the core is not lent.
     ///
     /// # Errors
     ///
