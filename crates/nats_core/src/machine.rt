@@ -200,7 +200,7 @@ impl Core {
         ensures submits { Submits self.old call result self.new }
         ensures journal { IfOk result (λ reply. self.new.entries
             ≡ entries_with self.old.is_kept (record { turn = turns.Do call; reply = replies.Call reply })
-                self.old.entries) }
+            self.old.entries) }
         ensures others { OnErr result (self.new.entries ≡ self.old.entries) }
     {
         self.submit_once(alloc, call)

@@ -99,13 +99,11 @@ fn submit_noted(
     ensures same { OnErr result (handler.new ≡ handler.old) }
     ensures stay { OnErr result (entries.new.items ≡ entries.old.items) }
 {
-    match entries.reserve(1) {
-        Ok(()) => {}
-        Err(_) => return Err(call),
-    }
-    let noted = match call.copy(alloc) {
-        Ok(noted) => noted,
-        Err(NoMemory) => return Err(call),
+    let Ok(()) = entries.reserve(1) else {
+        return Err(call);
+    };
+    let Ok(noted) = call.copy(alloc) else {
+        return Err(call);
     };
     let reply = submit(alloc, handler, call)?;
     entries.push_reserved(Entry {
