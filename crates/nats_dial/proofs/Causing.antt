@@ -1,5 +1,5 @@
 -- Why a try, a server, a round gave no link.
-use Rattle.std.proofs.Common.{◌≡◌, refl, ◌∙◌, sym, ap, ◌⊎◌, inl, inr, ℕ, ◌+◌, ◌≤◌, arith, Bool, true, false, List, [], ◌∷◌, length, drop, Option, Some, None, Result, Ok, Err, IfSome, if◌then◌else◌}
+use Rattle.std.proofs.Common.{◌≡◌, refl, ◌∙◌, sym, ap, ◌⊎◌, inl, inr, ℕ, ◌+◌, ◌≤◌, arith, Bool, true, false, List, [], ◌∷◌, length, drop, Option, Some, None, Result, Ok, Err, IfSome, if◌then◌else◌, option_map}
 use Rattle.std.proofs.lemmas.Bool.{false≢true}
 use Rattle.std.specs.List.{concat}
 use Rattle.std.specs.declared.net.socket_addr.SocketAddr.{SocketAddr}
@@ -27,7 +27,7 @@ use Rattle.nats_dial.specs.Lines.{Broke}
 use Rattle.nats_dial.specs.Taking.{TookIn}
 use Rattle.nats_pool.specs.Handing.{RoundTold, IsBegun, HandsNext, left_of, handed_on, told_of}
 use Rattle.nats_dial.specs.Tries.{Unreached, Notes, Tries, TriesEach, Asks, VisitsWhere, Visits, GoesThrough, Connects, ends_round, returned, undialed, rested, failure_text, no_address, no_websocket, unresolved, all_failed, too_many}
-use Rattle.nats_dial.specs.Causes.{Onward, EachDialed, LastGave, LinkCause, ServerCause, plain, sockets, HasTried, IsSpent, Why, RoundCause}
+use Rattle.nats_dial.specs.Causes.{Onward, EachDialed, LastGave, LinkCause, ServerCause, plain, sockets, HasTried, IsSpent, Why, RoundCause, asked_last, IsOneOf}
 use Rattle.nats_dial.proofs.Onwards.{onward_same, onward_on, dialed_on, one_each, is_fine, failed_word, ended_word, link_on, server_since, server_on}
 
 -- what the last link gave, of which the bytes taken are known
@@ -121,10 +121,11 @@ module _ {P R T : Type 0} (Takes : P → P → List (List ℕ) → Result (Unit 
     -- a dialed address that gave no link
     reached_cause : (addr : Parts) (to : SocketAddr) (a : Seen) (e : Failure) (b : Seen) → is_websocket addr ≡ false
         → Unreached Takes Counts Hands Begins told Offers by_option name no_echo timeout read_of write_of addr to a e b
-        → Onward a b × (b.resolver ≡ a.resolver) × (b.dialer.dials ≡ risen 1 a.dialer.dials)
+        → Onward a b × (b.resolver ≡ a.resolver) × (b.dialer.dials ≡ risen 1 a.dialer.dials) × (b.dialer.to ≡ Some to)
         × LinkCause Takes Offers by_option name no_echo timeout (is_tls addr) a e b
     reached_cause addr to a e b no_ws (inl (start, is, eq)) = rw eq (
       dial_onward to start a,
+      refl,
       refl,
       refl,
       inr (inr (inl (is, (omega arith, λ same. false≢true (ap is_fine same))))),
@@ -132,6 +133,7 @@ module _ {P R T : Type 0} (Takes : P → P → List (List ℕ) → Result (Unit 
     reached_cause addr to a e b no_ws (inr (start, look, r, w, eq, inl (is, ws))) = absurd (false≢true (sym no_ws ∙ ws))
     reached_cause addr to a e b no_ws (inr (start, look, r, w, eq, inr broke)) = rw eq (
       back_onward to start look r w a,
+      refl,
       refl,
       refl,
       broke_cause (is_tls addr) to start look r w a e broke,
@@ -159,14 +161,15 @@ module _ {P R T : Type 0} (Takes : P → P → List (List ℕ) → Result (Unit 
         tried_cause : (addr : Parts) (to : SocketAddr) (a : Seen) (p : P) (e : Failure) (b : Seen) (q : P)
             → is_websocket addr ≡ false
             → Tries Takes Counts Hands Begins told Offers by_option name no_echo timeout read_of write_of addr to a p (Err e) b q
-            → Onward a b × (b.resolver ≡ a.resolver) × (b.dialer.dials ≡ risen 1 a.dialer.dials)
+            → Onward a b × (b.resolver ≡ a.resolver) × (b.dialer.dials ≡ risen 1 a.dialer.dials) × (b.dialer.to ≡ Some to)
             × LinkCause Takes Offers by_option name no_echo timeout (is_tls addr) a e b × (told q ≡ told p)
         tried_cause addr to a p e b q no_ws t =
             let r = reached_cause addr to a t.0 b no_ws t.2.0 in (
               r.0,
               r.1,
               r.2,
-              noted_cause addr t.0 t.1 e q a b t.3 r.3,
+              r.3,
+              noted_cause addr t.0 t.1 e q a b t.3 r.4,
               noted_told addr t.0 t.1 e q t.3 ∙ took_told p t.1 t.2.1,
             )
 
@@ -174,19 +177,28 @@ module _ {P R T : Type 0} (Takes : P → P → List (List ℕ) → Result (Unit 
         err_of d (Ok l) = d
         err_of d (Err e) = e
 
+        -- one of these addresses was dialed last
+        abbrev DialedIn : List SocketAddr → Seen → Type 0
+        DialedIn xs b = (to : SocketAddr) × (b.dialer.to ≡ Some to) × IsOneOf to xs
+
         -- tries of a server's addresses that gave no link
         abbrev EachFacts : Parts → List SocketAddr → Failure → Seen → P → Failure → Seen → P → Type 0
         EachFacts addr xs last a p e b q = Onward a b × (b.resolver ≡ a.resolver)
             × (ends_round e.0 ≡ false → RoseBy (length xs) a.dialer.dials b.dialer.dials)
-            × (((xs ≡ []) × (e ≡ last) × (b ≡ a)) ⊎ LinkCause Takes Offers by_option name no_echo timeout (is_tls addr) a e b)
+            × (((xs ≡ []) × (e ≡ last) × (b ≡ a))
+            ⊎ (LinkCause Takes Offers by_option name no_echo timeout (is_tls addr) a e b × DialedIn xs b))
             × (told q ≡ told p)
 
-        each_why : (addr : Parts) (more : List SocketAddr) (a : Seen) (e1 : Failure) (c : Seen) (e : Failure) (b : Seen) → Onward a c
-            → LinkCause Takes Offers by_option name no_echo timeout (is_tls addr) a e1 c
-            → ((more ≡ []) × (e ≡ e1) × (b ≡ c)) ⊎ LinkCause Takes Offers by_option name no_echo timeout (is_tls addr) c e b
-            → LinkCause Takes Offers by_option name no_echo timeout (is_tls addr) a e b
-        each_why addr more a e1 c e b on why (inl (none, is, same)) = rw (is, same) why
-        each_why addr more a e1 c e b on why (inr later) = link_on Takes Offers by_option name no_echo timeout (is_tls addr) a c e b on later
+        each_why : (addr : Parts) (to : SocketAddr) (more : List SocketAddr) (a : Seen) (e1 : Failure) (c : Seen) (e : Failure) (b : Seen)
+            → Onward a c → c.dialer.to ≡ Some to → LinkCause Takes Offers by_option name no_echo timeout (is_tls addr) a e1 c
+            → ((more ≡ []) × (e ≡ e1) × (b ≡ c))
+            ⊎ (LinkCause Takes Offers by_option name no_echo timeout (is_tls addr) c e b × DialedIn more b)
+            → LinkCause Takes Offers by_option name no_echo timeout (is_tls addr) a e b × DialedIn (to ∷ more) b
+        each_why addr to more a e1 c e b on at why (inl (none, is, same)) = rw (is, same) (why, (to, at, inl refl))
+        each_why addr to more a e1 c e b on at why (inr (later, (last, dialed, there))) = (
+          link_on Takes Offers by_option name no_echo timeout (is_tls addr) a c e b on later,
+          (last, dialed, inr there),
+        )
 
         each_cause : (addr : Parts) (xs : List SocketAddr) (last : Failure) (a : Seen) (p : P) (e : Failure) (b : Seen) (q : P)
             → is_websocket addr ≡ false
@@ -201,15 +213,15 @@ module _ {P R T : Type 0} (Takes : P → P → List (List ℕ) → Result (Unit 
         )
         each_cause addr (to ∷ more) last a p e b q no_ws (inl (tries, ends)) =
             let t = tried_cause addr to a p e b q no_ws tries in
-            (t.0, t.1, λ goes. absurd (false≢true (sym goes ∙ ends)), inr t.3, t.4)
+            (t.0, t.1, λ goes. absurd (false≢true (sym goes ∙ ends)), inr (t.4, (to, t.3, inl refl)), t.5)
         each_cause addr (to ∷ more) last a p e b q no_ws (inr (e1, c, m, tries, goes, rest)) =
             let t = tried_cause addr to a p e1 c m no_ws tries in
             let f = each_cause addr more e1 c m e b q no_ws rest in (
               onward_on a c b t.0 f.0,
               f.1 ∙ t.1,
               λ going. omega (arith, t.2, f.2 going),
-              inr (each_why addr more a e1 c e b t.0 t.3 f.3),
-              f.4 ∙ t.4,
+              inr (each_why addr to more a e1 c e b t.0 t.3 t.4 f.3),
+              f.4 ∙ t.5,
             )
 
         -- a server that gave no link
@@ -218,18 +230,25 @@ module _ {P R T : Type 0} (Takes : P → P → List (List ℕ) → Result (Unit 
             × RoseBy (if is_websocket s.addr then 0 else 1) a.resolver.askings b.resolver.askings
             × (ends_round e.0 ≡ false → EachDialed a b)
             × ServerCause Takes Offers by_option name no_echo timeout (s ∷ []) a e b
-            × (told q ≡ told p)
+            × (told q ≡ told p) × ((e ≡ wanting) ⊎ (b.resolver.asked ≡ asked_last (s ∷ []) a.resolver.asked))
+
+        given_list : (to : SocketAddr) (xs : List SocketAddr) (list : Option (List SocketAddr)) → IsOneOf to xs
+            → IfSome (option_map (λ (before : List SocketAddr). xs) list) (IsOneOf to)
+        given_list to xs None there = tt
+        given_list to xs (Some before) there = there
 
         given_cause : (s : Planned) (xs : List SocketAddr) (a : Seen) (e : Failure) (b : Seen)
             → b.resolver ≡ (asked s.addr xs a).resolver
             → ((xs ≡ []) × (e ≡ no_address) × (b ≡ asked s.addr xs a))
-            ⊎ LinkCause Takes Offers by_option name no_echo timeout (is_tls s.addr) (asked s.addr xs a) e b
+            ⊎ (LinkCause Takes Offers by_option name no_echo timeout (is_tls s.addr) (asked s.addr xs a) e b × DialedIn xs b)
             → ServerCause Takes Offers by_option name no_echo timeout (s ∷ []) a e b
         given_cause s xs a e b asking (inl (none, is, same)) =
             inr (inl (is, rw (asking, none) (omega arith), ap (λ (r : ResolverTold). r.word) asking ∙ rw none refl))
-        given_cause s xs a e b asking (inr why) = inr (inr (inr
-            (link_on Takes Offers by_option name no_echo timeout (is_tls s.addr) a (asked s.addr xs a) e b
-            (asked_onward s.addr xs a) why)))
+        given_cause s xs a e b asking (inr (why, (to, dialed, there))) = inr (inr (inr (
+          link_on Takes Offers by_option name no_echo timeout (is_tls s.addr) a (asked s.addr xs a) e b
+              (asked_onward s.addr xs a) why,
+          inr (to, dialed, rw asking (given_list to xs a.resolver.list there)),
+        )))
 
         asks_cause : (s : Planned) (answer : Result (List SocketAddr) ResolveError) (a : Seen) (p : P) (e : Failure) (b : Seen) (q : P)
             → is_websocket s.addr ≡ false
@@ -242,6 +261,7 @@ module _ {P R T : Type 0} (Takes : P → P → List (List ℕ) → Result (Unit 
               λ goes. rw f.1 (omega (arith, f.2 goes)),
               given_cause s xs a e b f.1 f.3,
               f.4,
+              inr (rw (no_ws, f.1) refl),
             )
         asks_cause s (Err refusal.Failed) a p e b q no_ws (is, same, stays) = rw (same, no_ws) (
           record {
@@ -258,6 +278,7 @@ module _ {P R T : Type 0} (Takes : P → P → List (List ℕ) → Result (Unit 
           λ goes. omega arith,
           inl (ap (err_of unresolved) is, omega arith, refl),
           ap told stays,
+          inr refl,
         )
         asks_cause s (Err refusal.NoMemory) a p e b q no_ws (is, same, stays) = rw (same, no_ws) (
           record {
@@ -272,12 +293,16 @@ module _ {P R T : Type 0} (Takes : P → P → List (List ℕ) → Result (Unit 
           },
           omega arith,
           λ goes. omega arith,
-          inr (inr (inr (inl (ap (err_of wanting) is)))),
+          inr (inr (inr (inl (ap (err_of wanting) is), inl (ap (err_of wanting) is)))),
           ap told stays,
+          inl (ap (err_of wanting) is),
         )
 
         none_asked : (x : Bool) (n : ℕ) → x ≡ true → RoseBy (if x then 0 else 1) n n
         none_asked x n is = rw is (omega arith)
+
+        asked_before : (x : Bool) (before other : Option (List ℕ × ℕ)) → x ≡ true → before ≡ (if x then before else other)
+        asked_before x before other is = rw is refl
 
         visits_where : (is_ws : Bool) (s : Planned) (a : Seen) (p : P) (e : Failure) (b : Seen) (q : P) → is_websocket s.addr ≡ is_ws
             → VisitsWhere Takes Counts Hands Begins told Offers by_option name no_echo timeout read_of write_of is_ws s.addr a p (Err e) b q
@@ -288,6 +313,7 @@ module _ {P R T : Type 0} (Takes : P → P → List (List ℕ) → Result (Unit 
           λ goes. omega arith,
           inr (inr (inl (ap (err_of no_websocket) is, ws))),
           ap told stays,
+          inr (asked_before (is_websocket s.addr) a.resolver.asked (Some (host_name s.addr, port_of s.addr)) ws),
         )
         visits_where false s a p e b q no_ws (answer, asks) = asks_cause s answer a p e b q no_ws asks
 
@@ -299,6 +325,7 @@ module _ {P R T : Type 0} (Takes : P → P → List (List ℕ) → Result (Unit 
           f.2,
           server_since Takes Offers by_option name no_echo timeout (s ∷ []) a (rested delay a) e b (rested_onward delay a) f.3,
           f.4,
+          f.5,
         )
 
         -- one that was visited
@@ -326,6 +353,16 @@ module _ {P R T : Type 0} (Takes : P → P → List (List ℕ) → Result (Unit 
             abbrev RoundFacts : List Planned → Failure → Seen → P → Failure → Seen → P → Type 0
             RoundFacts left last a p e b q = (tried : List Planned) × (rest : List Planned) × HasTried left tried rest a b
                 × GoesOn tried (told p) (told q) × WhyHere tried rest last a e b (told q)
+                × ((e ≡ wanting) ⊎ (b.resolver.asked ≡ asked_last tried a.resolver.asked))
+
+            asked_on : (s : Planned) (tried : List Planned) (a : Seen) (e1 : Failure) (c : Seen) (e : Failure) (b : Seen)
+                → ends_round e1.0 ≡ false → (e1 ≡ wanting) ⊎ (c.resolver.asked ≡ asked_last (s ∷ []) a.resolver.asked)
+                → (e ≡ wanting) ⊎ (b.resolver.asked ≡ asked_last tried c.resolver.asked)
+                → (e ≡ wanting) ⊎ (b.resolver.asked ≡ asked_last (s ∷ tried) a.resolver.asked)
+            asked_on s tried a e1 c e b goes (inl is) later =
+                absurd (false≢true (sym goes ∙ ap (λ (f : Failure). ends_round f.0) is))
+            asked_on s tried a e1 c e b goes (inr first) (inl is) = inl is
+            asked_on s tried a e1 c e b goes (inr first) (inr later) = inr (later ∙ ap (asked_last tried) first)
 
             later_why : (s : Planned) (tried rest : List Planned) (a : Seen) (e1 : Failure) (c : Seen) (e : Failure) (b : Seen)
                 (after : RoundTold) → Onward a c → Onward c b → EachDialed a c
@@ -371,6 +408,7 @@ module _ {P R T : Type 0} (Takes : P → P → List (List ℕ) → Result (Unit 
                     attempts = omega (arith, ap (λ (t : RoundTold). t.attempts) h.1);
                   },
                   inl (ap (err_of last) is, refl, refl, refl),
+                  inr refl,
                 )
             goes_cause (s ∷ more) last a p e b q (inl (hands, is, same)) =
                 let h = hands_round p q next.MaxReconnects hands in
@@ -384,6 +422,7 @@ module _ {P R T : Type 0} (Takes : P → P → List (List ℕ) → Result (Unit 
                     attempts = omega (arith, ap (λ (t : RoundTold). t.attempts) h.2);
                   },
                   inr (inl (ap (err_of too_many) is, rw h.2 h.1, omega arith)),
+                  inr refl,
                 )
             goes_cause (s ∷ more) last a p e b q (inr (attempt, n, hands, there, inl (visits, ends))) =
                 let h = hands_round p n (next.Try attempt) hands in
@@ -397,6 +436,7 @@ module _ {P R T : Type 0} (Takes : P → P → List (List ℕ) → Result (Unit 
                     attempts = omega arith;
                   }),
                   inr (inr (v.3, omega arith, λ goes. absurd (false≢true (sym goes ∙ ends)))),
+                  v.5,
                 )
             goes_cause (s ∷ more) last a p e b q (inr (attempt, n, hands, there, inr (e1, c, m, visits, goes, later))) =
                 let h = hands_round p n (next.Try attempt) hands in
@@ -411,6 +451,7 @@ module _ {P R T : Type 0} (Takes : P → P → List (List ℕ) → Result (Unit 
                   },
                   goes_on_later s i.0 (told p) (told n) (told m) (told q) h.4 v.4 i.3,
                   inr (later_why s i.0 i.1 a e1 c e b (told q) v.0 i.2.onward (v.2 goes) v.3 i.4),
+                  asked_on s i.0 a e1 c e b goes v.5 i.5,
                 )
 
             spent : (tried : List Planned) (p n q : RoundTold) (a b : Seen) → IsBegun p n → GoesOn tried n q
@@ -427,6 +468,13 @@ module _ {P R T : Type 0} (Takes : P → P → List (List ℕ) → Result (Unit 
                 inr (inl (is, spent tried p n q a b begun on passed rose, each))
             why_of tried rest p n q a e b begun on rose (inr (inr (cause, some, done))) = inr (inr (cause, done))
 
+            named_cause : (tried rest : List Planned) (p q : RoundTold) (a : Seen) (e : Failure) (b : Seen)
+                → (e ≡ wanting) ⊎ (b.resolver.asked ≡ asked_last tried a.resolver.asked) → HasTried q.round tried rest a b
+                → q.handed ≡ length tried → Why Takes Offers by_option name no_echo timeout tried rest p q a e b
+                → RoundCause Takes Offers by_option name no_echo timeout p q a e b
+            named_cause tried rest p q a e b (inl is) has handed why = inl is
+            named_cause tried rest p q a e b (inr asked) has handed why = inr (tried, rest, has, handed, asked, why)
+
             -- why a round gave no link
             pub connects_cause : (last : ServerInfo) (a : Seen) (p : P) (e : Failure) (b : Seen) (q : P)
                 → Connects Takes Counts Hands Begins told Offers by_option name no_echo timeout read_of write_of last a p (Err e) b q
@@ -435,14 +483,8 @@ module _ {P R T : Type 0} (Takes : P → P → List (List ℕ) → Result (Unit 
             connects_cause last a p e b q (inr (chosen, n, begins, goes)) =
                 let begun = begins_round last p n chosen begins in
                 let g = goes_cause (left_of (told n)) all_failed a n e b q goes in
-                inr (
-                  g.0,
-                  g.1,
-                  record {
-                    all = g.3.round ∙ sym (ap (λ (k : ℕ). drop k (told n).round) begun.0) ∙ g.2.all;
-                    onward = g.2.onward;
-                    askings = g.2.askings;
-                  },
-                  omega (arith, g.3.handed, begun.0),
-                  why_of g.0 g.1 (told p) (told n) (told q) a e b begun g.3 g.2.askings g.4,
-                )
+                named_cause g.0 g.1 (told p) (told q) a e b g.5 (record {
+                  all = g.3.round ∙ sym (ap (λ (k : ℕ). drop k (told n).round) begun.0) ∙ g.2.all;
+                  onward = g.2.onward;
+                  askings = g.2.askings;
+                }) (omega (arith, g.3.handed, begun.0)) (why_of g.0 g.1 (told p) (told n) (told q) a e b begun g.3 g.2.askings g.4)

@@ -122,7 +122,8 @@ module _ {P : Type 0} (Takes : P → P → List (List ℕ) → Result (Unit {0})
       last,
     ))
     server_since tried a c e b on (inr (inr (inl why))) = inr (inr (inl why))
-    server_since tried a c e b on (inr (inr (inr why))) = inr (inr (inr (link_on (last_tls tried) a c e b on why)))
+    server_since tried a c e b on (inr (inr (inr (why, dialed)))) =
+        inr (inr (inr (link_on (last_tls tried) a c e b on why, dialed)))
 
     -- the same with one more that was tried before them
     pub server_on : (first second : Planned) (more : List Planned) (a c : Seen) (e : Failure) (b : Seen) → Onward a c

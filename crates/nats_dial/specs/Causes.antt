@@ -1,9 +1,10 @@
 -- Why a round gave no link, over what the outside and the pool told before it and after it.
-use Rattle.std.specs.Prelude.{◌≡◌, ◌≢◌, ◌⊎◌, ℕ, ◌+◌, ◌-◌, ◌≤◌, Bool, true, false, if◌then◌else◌, List, [], ◌∷◌, ◌++◌, length, Option, None, Result, IfSome}
+use Rattle.std.specs.Prelude.{◌≡◌, ◌≢◌, ◌⊎◌, ℕ, ◌+◌, ◌-◌, ◌≤◌, Bool, true, false, if◌then◌else◌, List, [], ◌∷◌, ◌++◌, length, Option, Some, None, Result, IfSome}
 use Rattle.std.specs.List.{concat}
+use Rattle.std.specs.declared.net.socket_addr.SocketAddr.{SocketAddr}
 use Rattle.nats_names.specs.declared.addr_error.AddrError.{AddrError}
 use Rattle.nats_names.specs.declared.cause.Cause.TheVariants as cause
-use Rattle.nats_addr.specs.Addr.{is_tls, is_websocket}
+use Rattle.nats_addr.specs.Addr.{is_tls, is_websocket, host_name, port_of}
 use Rattle.nats_addr.specs.declared.resolver.AskWord.TheVariants as ask
 use Rattle.nats_pool.specs.Auths.{AuthValue}
 use Rattle.nats_pool.specs.Pools.{passes}
@@ -48,6 +49,21 @@ LinkFailed a b = Rose a.dialer.faults b.dialer.faults × (b.dialer.word ≢ word
 -- a link ended, and its end or a failure is the dialer's last word
 abbrev pub LinkEnded : Seen → Seen → Type 0
 LinkEnded a b = Rose a.dialer.ends b.dialer.ends × (b.dialer.word ≢ word.Fine)
+
+-- the host and port that the resolver was asked for last: those of the last of these servers that is no websocket's, else as before
+abbrev pub asked_last : List Planned → Option (List ℕ × ℕ) → Option (List ℕ × ℕ)
+asked_last [] before = before
+asked_last (p ∷ more) before =
+    asked_last more (if is_websocket p.addr then before else Some (host_name p.addr, port_of p.addr))
+
+-- this address is one of these
+abbrev pub IsOneOf : SocketAddr → List SocketAddr → Type 0
+IsOneOf to [] = ⊥
+IsOneOf to (x ∷ more) = (to ≡ x) ⊎ IsOneOf to more
+
+-- the address that was dialed last is one of those that the resolver gave last, where they are known
+abbrev pub DialedLast : Seen → Type 0
+DialedLast b = (to : SocketAddr) × (b.dialer.to ≡ Some to) × IfSome b.resolver.list (IsOneOf to)
 
 -- the last of these links gave pieces that are this text
 pub record LastGave (text : List ℕ) (links : List (List (List ℕ) × List ℕ)) : Type 0 where
@@ -99,7 +115,8 @@ module _ {P : Type 0} (Takes : P → P → List (List ℕ) → Result (Unit {0})
     ServerCause tried a e b =
         ((e ≡ unresolved) × Rose a.resolver.faults b.resolver.faults × (b.resolver.word ≡ ask.Failed))
         ⊎ (((e ≡ no_address) × Rose a.resolver.empties b.resolver.empties × (b.resolver.word ≡ ask.Empty))
-        ⊎ (((e ≡ no_websocket) × EndsInSocket tried) ⊎ LinkCause (last_tls tried) a e b))
+        ⊎ (((e ≡ no_websocket) × EndsInSocket tried)
+        ⊎ (LinkCause (last_tls tried) a e b × ((e ≡ wanting) ⊎ DialedLast b))))
 
 -- the attempts passed their limit; they rose by at most one more than the askings and the websockets together
 pub record IsSpent (tried : List Planned) (before after : RoundTold) (a b : Seen) : Type 0 where
@@ -124,7 +141,8 @@ module _ {P : Type 0} (Takes : P → P → List (List ℕ) → Result (Unit {0})
         ⊎ (ServerCause Takes Offers by_option name no_echo timeout tried a e b
         × (ends_round e.0 ≡ false → (rest ≡ []) × EachDialed a b)))
 
-    -- why a round gave no link: want of memory, or so
+    -- why a round gave no link: want of memory, or so, and the resolver was asked last for the last of the servers that were tried
     abbrev pub RoundCause : RoundTold → RoundTold → Seen → Failure → Seen → Type 0
     RoundCause before after a e b = (e ≡ wanting) ⊎ ((tried : List Planned) × (rest : List Planned)
-        × HasTried after.round tried rest a b × (after.handed ≡ length tried) × Why tried rest before after a e b)
+        × HasTried after.round tried rest a b × (after.handed ≡ length tried)
+        × (b.resolver.asked ≡ asked_last tried a.resolver.asked) × Why tried rest before after a e b)
