@@ -121,6 +121,18 @@ impl OutBuf {
         self.chunks.first(alloc, PIECES_MOST)
     }
 
+    /// A copy of the first `n` bytes. Own call, for whoever keeps what a link took.
+    pub fn copy_first(&self, alloc: Global, n: usize) -> Result<Vec<u8>, NoMemory>
+        requires { n ≤ length self.now }
+        ensures { IfOk result (λ copy. copy.items ≡ take n self.now) }
+    {
+        let whole = n.min(self.chunks.len());
+        let mut copy = Vec::with_capacity(alloc, n)?;
+        self.chunks.copy_to(whole, &mut copy)?;
+        copy.extend_from_slice(&self.tail.as_slice()[..n - whole])?;
+        Ok(copy)
+    }
+
     /// Takes the first `n` bytes away, which were written.
     pub fn taken(&mut self, n: usize)
         requires { n ≤ length self.old }

@@ -64,7 +64,7 @@ impl Model for ConnectionHandler {
           info = option_map (λ info. info.value) h.info;
           reads = h.reads;
           pings = h.pings;
-          wire = h.connection;
+          wire = h.connection.wire;
         };
         calls = h.calls;
         subs = h.subs;

@@ -273,8 +273,10 @@ fn say_link(out: &mut Vec<u8>, handler: &ConnectionHandler) -> Result<(), NoMemo
 }
 
 fn say_pieces(out: &mut Vec<u8>, pieces: &[Bytes]) -> Result<(), NoMemory> {
-    for piece in pieces {
+    if !pieces.is_empty() {
         say(out, " ")?;
+    }
+    for piece in pieces {
         out.extend_from_slice(piece.as_slice())?;
     }
     Ok(())

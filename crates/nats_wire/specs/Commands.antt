@@ -61,8 +61,3 @@ command_texts ops = flat_map command_text ops
 -- the bytes of some parts, one after another
 abbrev pub joined : List (Bor (List ℕ)) → List ℕ
 joined parts = flat_map (λ part. part.now) parts
-
--- some bytes as the pieces that hold them: one, or none where there are none
-abbrev pub one_piece : List ℕ → List (List ℕ)
-one_piece [] = []
-one_piece (byte ∷ bytes) = (byte ∷ bytes) ∷ []

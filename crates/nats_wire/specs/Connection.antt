@@ -1,5 +1,7 @@
 -- What a connection keeps, and what its calls make of it.
-use Rattle.std.specs.Prelude.{◌≡◌, Bool, IsTrue, drop, Option, Some, None, Result, Ok, Err}
+use Rattle.std.specs.Prelude.{◌≡◌, ℕ, Bool, IsTrue, nat_lt, if◌then◌else◌, drop, Option, Some, None, Result, Ok, Err}
+use Rattle.nats_outbuf.specs.declared.outbuf.ShouldFlush.{ShouldFlush}
+use Rattle.nats_outbuf.specs.declared.outbuf.ShouldFlush.TheVariants as flush
 use Rattle.nats_wire.specs.declared.op.ServerOp.{ServerOp}
 use Rattle.nats_wire.specs.declared.op.WireError.{WireError}
 use Rattle.nats_wire.specs.declared.op.WireError.TheVariants as refused
@@ -26,3 +28,7 @@ Reads (fault n) takes old (Err refused.ReadFault) new = new ≡ record old { unr
 Reads (got operation n) takes old (Err refused.NoMemory) new = new ≡ old
 Reads (fault n) takes old (Err refused.NoMemory) new = IsTrue takes × (new ≡ old)
 Reads front takes old result new = ⊥
+
+-- whether a writer is to be flushed, by whether bytes were written since the last flush and how many wait
+abbrev pub flush_by : Bool → ℕ → ShouldFlush
+flush_by is_written waiting = if is_written then (if nat_lt 0 waiting then flush.May else flush.Yes) else flush.No

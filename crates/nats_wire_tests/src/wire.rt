@@ -2,7 +2,7 @@
 use nats_names::NoMemory;
 use nats_wire::{
     Bytes, ClientOp, ConnectInfo, Connection, HeaderMap, Message, OutboundMessage, Protocol,
-    ServerOp, Subject, Text, WireError,
+    ServerOp, ShouldFlush, Subject, Text, WireError,
 };
 use std::alloc::Global;
 use std::str;
@@ -150,6 +150,11 @@ fn subscribe(queue_group: Option<Subject>) -> ClientOp {
     }
 }
 
+// All bytes that wait.
+fn waiting(alloc: Global, connection: &Connection) -> Result<Vec<u8>, NoMemory> {
+    connection.copy_waiting(alloc, connection.pending())
+}
+
 #[test]
 fn commands_are_written_in_order(rt: HostRuntime) -> Result<(), Fail> {
     let mut connection = Connection::new(rt.alloc());
@@ -165,8 +170,9 @@ fn commands_are_written_in_order(rt: HostRuntime) -> Result<(), Fail> {
         ClientOp::Pong,
     ];
     connection.enqueue_write_ops(rt.alloc(), &ops)?;
+    let text = waiting(rt.alloc(), &connection)?;
     assert_eq!(rt;
-        connection.waiting(),
+        text.as_slice(),
         b"PING\r\nSUB FOO 7\r\nSUB FOO g 7\r\nUNSUB 7\r\nUNSUB 7 3\r\nPONG\r\n".as_slice()
     );
     Ok(())
@@ -183,11 +189,18 @@ fn a_payload_is_written_behind_its_length(rt: HostRuntime) -> Result<(), Fail> {
         ),
     ];
     connection.enqueue_write_ops(rt.alloc(), &ops)?;
+    let text = waiting(rt.alloc(), &connection)?;
     assert_eq!(rt;
-        connection.waiting(),
+        text.as_slice(),
         b"PUB FOO 2\r\nhi\r\nHPUB FOO r 23 25\r\nNATS/1.0\r\nHeader: X\r\n\r\nhi\r\n".as_slice()
     );
     Ok(())
+}
+
+// A link that took `n` bytes, or all where fewer wait.
+fn take_some(connection: &mut Connection, n: usize) -> ShouldFlush {
+    connection.written(n.min(connection.pending()));
+    connection.should_flush()
 }
 
 #[test]
@@ -197,9 +210,47 @@ fn what_was_written_no_longer_waits(rt: HostRuntime) -> Result<(), Fail> {
     assert_eq!(rt; connection.pending(), 6);
     assert!(rt; !connection.is_write_buf_full());
     let pieces = connection.pending_pieces(rt.alloc())?;
-    assert_eq!(rt; pieces[0].as_slice(), b"PING\r\n".as_slice());
-    connection.written(4);
-    assert_eq!(rt; connection.waiting(), b"\r\n".as_slice());
+    let first = pieces
+        .first()
+        .map_or(b"".as_slice(), |piece| piece.as_slice());
+    assert_eq!(rt; first, b"PING\r\n".as_slice());
+    take_some(&mut connection, 4);
+    let left = waiting(rt.alloc(), &connection)?;
+    assert_eq!(rt; left.as_slice(), b"\r\n".as_slice());
+    Ok(())
+}
+
+#[test]
+fn a_writer_is_flushed_once_something_was_written(rt: HostRuntime) -> Result<(), Fail> {
+    let mut connection = Connection::new(rt.alloc());
+    assert_eq!(rt; connection.should_flush(), ShouldFlush::No);
+    connection.enqueue_write_op(rt.alloc(), &ClientOp::Ping)?;
+    assert_eq!(rt; connection.should_flush(), ShouldFlush::No);
+    assert_eq!(rt; take_some(&mut connection, 3), ShouldFlush::May);
+    assert_eq!(rt; take_some(&mut connection, 3), ShouldFlush::Yes);
+    connection.flushed();
+    assert_eq!(rt; connection.should_flush(), ShouldFlush::No);
+    Ok(())
+}
+
+// How many pieces hold a publication with a payload of `count` bytes, and how many bytes they have.
+fn published(alloc: Global, count: usize) -> Result<(usize, usize), NoMemory> {
+    let mut connection = Connection::new(alloc);
+    let op = ClientOp::Publish {
+        subject: Subject::from_static("FOO"),
+        payload: Bytes::from_vec(vec![in alloc; b'x'; count]?)?,
+        respond: None,
+        headers: None,
+    };
+    connection.enqueue_write_op(alloc, &op)?;
+    let pieces = connection.pending_pieces(alloc)?;
+    Ok((pieces.len(), connection.pending()))
+}
+
+#[test]
+fn a_large_payload_is_a_piece_of_its_own(rt: HostRuntime) -> Result<(), Fail> {
+    assert_eq!(rt; published(rt.alloc(), 4_095)?, (1, 4_111));
+    assert_eq!(rt; published(rt.alloc(), 4_096)?, (3, 4_112));
     Ok(())
 }
 
@@ -240,7 +291,8 @@ fn plain_info(alloc: Global) -> Result<ConnectInfo, NoMemory> {
 fn is_connect(alloc: Global, info: ConnectInfo, text: &str) -> Result<bool, NoMemory> {
     let mut connection = Connection::new(alloc);
     connection.enqueue_write_op(alloc, &ClientOp::Connect(info))?;
-    Ok(connection.waiting() == text.as_bytes())
+    let waiting = waiting(alloc, &connection)?;
+    Ok(waiting.as_slice() == text.as_bytes())
 }
 
 #[test]

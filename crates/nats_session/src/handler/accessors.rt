@@ -1,5 +1,5 @@
 //! What a session tells of itself.
-ghost use Rattle.std.specs.Prelude.{◌≡◌, length, drop, is_some, not};
+ghost use Rattle.std.specs.Prelude.{◌≡◌, length, take, drop, min, is_some, not, IfOk};
 ghost use Rattle.std.specs.Option.{option_copied};
 ghost use Rattle.nats_history.specs.Queue.{first};
 ghost use Rattle.nats_tables.specs.Numbers.{item_of};
@@ -12,8 +12,11 @@ ghost use Rattle.nats_session.specs.Handler.{can_play, HandsOut, HandsReply, end
 
 use super::{ConnectionHandler, TICK_LIMIT};
 use nats_history::refusals::{has_group, has_subjects, size_of, subscribes, takes_ticket};
-use nats_history::{Call, CallReply, Event, LinkWord, Message, ServerInfo, Statistics, Turn};
+use nats_history::{
+    Call, CallReply, Event, LinkWord, Message, NoMemory, ServerInfo, Statistics, Turn,
+};
 use nats_names::State;
+use std::alloc::Global;
 
 impl ConnectionHandler {
     /// The number of the newest link, from 1; 0 before any. Our own count: the crate numbers no links.
@@ -205,11 +208,21 @@ impl ConnectionHandler {
         self.connection.pending() as u64
     }
 
-    /// The bytes that wait to be taken.
-    pub(crate) fn waiting(&self) -> &[u8]
-        ensures { result.now ≡ self.now.parts.link.wire.waiting }
+    /// A copy of the first `n` bytes that wait to be taken, or of all where fewer wait.
+    pub(crate) fn copy_waiting(&self, alloc: Global, n: u64) -> Result<Vec<u8>, NoMemory>
+        ensures { IfOk result (λ copy. copy.items
+            ≡ take (min n (length self.now.parts.link.wire.waiting)) self.now.parts.link.wire.waiting) }
     {
-        self.connection.waiting()
+        let count = (n as usize).min(self.connection.pending());
+        self.connection.copy_waiting(alloc, count)
+    }
+
+    /// A copy of all bytes that wait to be taken.
+    pub(crate) fn copy_left(&self, alloc: Global) -> Result<Vec<u8>, NoMemory>
+        ensures { IfOk result (λ copy. copy.items ≡ self.now.parts.link.wire.waiting) }
+    {
+        self.connection
+            .copy_waiting(alloc, self.connection.pending())
     }
 
     /// The youngest waiting message of the subscription of number `s`, from 1; `None` where none waits, or the number was not

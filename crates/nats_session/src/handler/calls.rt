@@ -1,7 +1,7 @@
 //! The calls that play a session, turn by turn and step by step.
 ghost use Rattle.std.specs.Prelude.{◌≡◌, ◌<◌, [], ◌∷◌, ◌++◌, OnOk, OnErr, IfOk, IfErr, IsTrue, min, length, is_some, Some, None};
 ghost use Rattle.nats_names.specs.declared.event.Event.TheVariants.{Connected};
-ghost use Rattle.nats_wire.specs.Commands.{one_piece};
+ghost use Rattle.nats_outbuf.specs.Buffers.{IsFront};
 ghost use Rattle.nats_history.specs.declared.turn.Turn.TheVariants as turns;
 ghost use Rattle.nats_history.specs.History.{opened, fed, ticked, taken, took, all_again, waits_as, inbox_commands};
 ghost use Rattle.nats_history.specs.After.{after, write_all};
@@ -17,7 +17,7 @@ use nats_history::{
     Waits,
 };
 use nats_subs::{Alteration, Subscriptions};
-use nats_wire::{ClientOp, Connection};
+use nats_wire::{ClientOp, Connection, PIECES_MOST};
 use std::alloc::Global;
 
 /// A new link's buffers, where the texts wait that subscribe again, those of the inbox where a request was handled.
@@ -27,7 +27,7 @@ fn subscribed_again(
     requested: bool,
     subs: &Subscriptions,
 ) -> Result<Connection, NoMemory>
-    ensures { IfOk result (λ connection. connection ≡ record {
+    ensures { IfOk result (λ connection. connection.wire ≡ record {
       unread = [];
       waiting = write_all (all_again 1 subs.now.rows ++ inbox_commands config.now requested) [];
     }) }
@@ -43,7 +43,7 @@ impl ConnectionHandler {
     /// What wants memory as a link comes up: its buffers, and its event.
     fn new_link(&mut self, alloc: Global) -> Result<Connection, NoMemory>
         ensures buffers { IfOk result
-            (λ connection. connection ≡ record {
+            (λ connection. connection.wire ≡ record {
               unread = [];
               waiting = write_all
                   (all_again 1 self.old.parts.subs.rows ++ inbox_commands self.old.parts.config self.old.parts.requested) [];
@@ -59,7 +59,7 @@ impl ConnectionHandler {
     /// The link is up, with these buffers.
     fn use_link(&mut self, info: Box<ServerInfo>, connection: Connection)
         ensures { self.new
-            ≡ with_buffers connection (record self.old { parts = after self.old.parts (opened info.value) }) }
+            ≡ with_buffers connection.wire (record self.old { parts = after self.old.parts (opened info.value) }) }
     {
         self.link = self.link.saturating_add(1);
         self.statistics = with_link(self.statistics);
@@ -387,13 +387,14 @@ impl ConnectionHandler {
         self.play_next(alloc)
     }
 
-    /// All bytes that wait, as one piece; no piece where none waits. They stay until `written` tells that they were taken.
+    /// The first bytes that wait, in `PIECES_MOST` nonempty pieces at most, joined a front of all that wait; no piece where
+    /// none waits. They share their memory, and stay until `written` tells that they were taken.
     ///
     /// # Errors
     ///
     /// `NoMemory`, only where something waits, leaves the session unchanged.
     pub fn pending_pieces(&mut self, alloc: Global) -> Result<Vec<Bytes>, NoMemory>
-        ensures pieces { IfOk result (λ v. v.items ≡ one_piece self.old.parts.link.wire.waiting) }
+        ensures front { IfOk result (λ v. IsFront PIECES_MOST v.items self.old.parts.link.wire.waiting) }
         ensures wants { OnErr result (0 < length self.old.parts.link.wire.waiting) }
         ensures same { self.new ≡ self.old }
     {
