@@ -7,6 +7,7 @@ mod inbuf;
 pub mod laws;
 mod outbuf;
 mod steps;
+mod store;
 
 pub use inbuf::InBuf;
 pub use nats_names::{Bytes, NoMemory};

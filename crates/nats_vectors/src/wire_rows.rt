@@ -58,7 +58,7 @@ fn told(alloc: Global, op: &ServerOp) -> Result<String, NoMemory> {
 }
 
 fn told_next(alloc: Global, connection: &mut Connection) -> Result<String, NoMemory> {
-    match connection.try_read_op(alloc) {
+    match connection.read_op(alloc) {
         Ok(Some(op)) => told(alloc, &op),
         Ok(None) => Ok(String::from_str(alloc, "unfinished")?),
         Err(WireError::ReadFault) => Ok(String::from_str(alloc, "fault")?),

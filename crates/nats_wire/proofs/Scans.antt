@@ -1,13 +1,14 @@
 -- What is remembered of unread bytes stays true as they grow, and a search that goes on from there cuts the whole text.
-use Rattle.std.proofs.Common.{◌≡◌, ℕ, zero, suc, ◌+◌, ◌-◌, ◌<◌, ◌≤◌, Bool, true, false, not, List, [], ◌∷◌, ◌++◌, length, take, drop, Option, Some, None, refl, ap, sym, ◌∙◌, arith, tests, lit<, length-append, length-drop, length-take-le, take-add, drop-drop}
-use Rattle.std.specs.Prelude.{◌==◌, ◌&&◌, nat_eq, slice_index, if◌then◌else◌, codes}
+use Rattle.std.proofs.Common.{◌≡◌, ℕ, zero, suc, ◌+◌, ◌-◌, ◌<◌, ◌≤◌, Bool, true, false, not, List, [], ◌∷◌, ◌++◌, length, take, drop, Option, Some, None, refl, ap, sym, ◌∙◌, arith, tests, lit<, length-append, length-drop, length-take-le, take-add, drop-drop, append_assoc}
+use Rattle.std.specs.Prelude.{◌==◌, ◌&&◌, nat_eq, slice_index, if◌then◌else◌, codes, IsTrue, OnTrue, OnFalse}
 use Rattle.std.specs.Option.{option_map}
 use Rattle.std.specs.List.{starts_with}
 use Rattle.std.proofs.lemmas.List.{length-take}
 use Rattle.memchr.specs.Find.{FindsNeedle, IsFirstByte, is_byte}
 use Rattle.nats_wire.specs.Commands.{crlf}
 use Rattle.nats_wire.specs.Operations.{Cut, onto_line, cut_line, sight}
-use Rattle.nats_wire.specs.Scan.{is_crlf_at, clear_to, cut_at, Needs, Awaits}
+use Rattle.nats_outbuf.specs.Buffers.{is_crlf_at}
+use Rattle.nats_wire.specs.Scan.{clear_to, Looked, EndsBefore, tested, untested, cut_at, Needs, Awaits}
 use Rattle.nats_wire.proofs.Lines.{cut_none, cut_by_search}
 use Rattle.nats_wire.proofs.Fronts.{cut_more, cut_length}
 
@@ -177,6 +178,150 @@ no_lf bytes none = cut_none bytes (λ k occurs. none (k + 1) (omega arith) (omeg
 -- a text without an LF behind a clear front isn't cut
 pub uncut : (n : ℕ) (bytes : List ℕ) → clear_to n bytes ≡ true → IsFirstByte (is_byte 10) (drop n bytes) None → cut_line bytes ≡ None
 uncut n bytes is none = cut_behind n bytes is ∙ ap (option_map (onto_front (take n bytes))) (no_lf (drop n bytes) none)
+
+-- ---- by steps
+
+-- the first LF behind a place stands within the text
+pub lf_fits : (n i : ℕ) (bytes : List ℕ) → IsFirstByte (is_byte 10) (drop n bytes) (Some i) → n + i < length bytes
+lf_fits n i bytes found = omega (arith, found.0.high, length-drop n bytes)
+
+not_pair : (test : Bool) (a b : ℕ) (rest : List ℕ) → (a == 13 && b == 10) ≡ test → starts_with nat_eq (a ∷ b ∷ rest) (codes "\r\n") ≡ false
+    → (not test && true) ≡ true
+not_pair true a b rest is no =
+    let p : a ≡ 13 = grind (arith, tests) in
+    let q : b ≡ 10 = grind (arith, tests) in
+    let e : true ≡ false = rw (p, q) at no in
+    cc
+not_pair false a b rest is no = refl
+
+clear_one : (bytes : List ℕ) → 1 < length bytes → starts_with nat_eq bytes (codes "\r\n") ≡ false → clear_to 1 bytes ≡ true
+clear_one [] within no = absurd (omega arith)
+clear_one (a ∷ []) within no = absurd (omega arith)
+clear_one (a ∷ b ∷ rest) within no = not_pair (a == 13 && b == 10) a b rest refl no
+
+-- a clear front grows by a place where no line's end stands
+clear_next : (n : ℕ) (bytes : List ℕ) → clear_to n bytes ≡ true → is_crlf_at bytes n ≡ false → n + 1 < length bytes → clear_to (n + 1) bytes ≡ true
+clear_next n bytes is no within = clear_join n 1 bytes is (clear_one (drop n bytes) (omega (arith, length-drop n bytes)) no)
+
+-- a text is clear up to its first LF where that ends no line
+pub clear_before_lf : (n i : ℕ) (bytes : List ℕ) → clear_to n bytes ≡ true → IsFirstByte (is_byte 10) (drop n bytes) (Some i) → 0 < i
+    → is_crlf_at bytes (n + i - 1) ≡ false → clear_to (n + i) bytes ≡ true
+clear_before_lf n i bytes is found some no =
+    let place : n + i - 1 ≡ n + (i - 1) = omega arith in
+    let next : n + (i - 1) + 1 ≡ n + i = omega arith in
+    rw next at (clear_next (n + (i - 1)) bytes (clear_before n i bytes is found) (rw place at no) (omega (arith, lf_fits n i bytes found)))
+
+no_end_at_lf : (i : ℕ) (bytes : List ℕ) → is_byte 10 (slice_index bytes i) ≡ true → i < length bytes → is_crlf_at bytes i ≡ false
+no_end_at_lf zero [] lf within = absurd (omega arith)
+no_end_at_lf zero (b ∷ rest) lf within = let p : b ≡ 10 = grind (arith, tests) in rw p refl
+no_end_at_lf (suc i) [] lf within = absurd (omega arith)
+no_end_at_lf (suc i) (b ∷ rest) lf within = no_end_at_lf i rest lf (omega arith)
+
+-- and past it, where a byte follows
+pub clear_past_lf : (n i : ℕ) (bytes : List ℕ) → clear_to (n + i) bytes ≡ true → IsFirstByte (is_byte 10) (drop n bytes) (Some i)
+    → n + i + 1 < length bytes → clear_to (n + i + 1) bytes ≡ true
+clear_past_lf n i bytes is found within =
+    let there : is_crlf_at (drop n bytes) i ≡ is_crlf_at bytes (n + i) = ap (λ text. starts_with nat_eq text (codes "\r\n")) (drop-drop i n bytes) in
+    clear_next (n + i) bytes is (sym there ∙ no_end_at_lf i (drop n bytes) found.1 found.0.high) within
+
+cut_short : (bytes : List ℕ) → length bytes ≤ 1 → cut_line bytes ≡ None
+cut_short [] within = refl
+cut_short (a ∷ []) within = refl
+cut_short (a ∷ b ∷ rest) within = absurd (omega arith)
+
+-- a text that is clear up to its last byte isn't cut
+pub uncut_end : (n : ℕ) (bytes : List ℕ) → clear_to n bytes ≡ true → length bytes ≤ n + 1 → cut_line bytes ≡ None
+uncut_end n bytes is within =
+    cut_behind n bytes is ∙ ap (option_map (onto_front (take n bytes))) (cut_short (drop n bytes) (omega (arith, length-drop n bytes)))
+
+-- what a step at the byte before the first LF tells
+pub ends_by : (told : Bool) (n i : ℕ) (bytes : List ℕ) → clear_to n bytes ≡ true → IsFirstByte (is_byte 10) (drop n bytes) (Some i) → 0 < i
+    → told ≡ is_crlf_at bytes (n + i - 1) → OnTrue told (EndsBefore n i bytes)
+ends_by true n i bytes is found some tells =
+    let place : n + i - 1 ≡ n + (i - 1) = omega arith in
+    (some, rw place (clear_before n i bytes is found), sym tells)
+ends_by false n i bytes is found some tells = tt
+
+pub none_by : (told : Bool) (n i : ℕ) (bytes : List ℕ) → clear_to n bytes ≡ true → IsFirstByte (is_byte 10) (drop n bytes) (Some i) → 0 < i
+    → told ≡ is_crlf_at bytes (n + i - 1) → OnFalse told (IsTrue (clear_to (n + i) bytes))
+none_by true n i bytes is found some tells = tt
+none_by false n i bytes is found some tells = clear_before_lf n i bytes is found some (sym tells)
+
+-- ---- as the text grows, and as its front goes
+
+starts_more : (bytes more : List ℕ) → starts_with nat_eq bytes (codes "\r\n") ≡ true → starts_with nat_eq (bytes ++ more) (codes "\r\n") ≡ true
+starts_more [] more is = cc
+starts_more (a ∷ []) more is = absurd (no_pair (nat_eq 13 a) is)
+starts_more (a ∷ b ∷ rest) more is = is
+
+crlf_more : (n : ℕ) (bytes more : List ℕ) → is_crlf_at bytes n ≡ true → is_crlf_at (bytes ++ more) n ≡ true
+crlf_more zero bytes more is = starts_more bytes more is
+crlf_more (suc n) [] more is = cc
+crlf_more (suc n) (a ∷ bytes) more is = crlf_more n bytes more is
+
+-- what was looked for is found in more bytes too
+pub looked_more : (place : ℕ) (ended : Bool) (bytes more : List ℕ) → Looked place ended bytes → Looked place ended (bytes ++ more)
+looked_more place false bytes more is = (omega (arith, is.0, length-append bytes more), clear_more place bytes more is.1, tt)
+looked_more place true bytes more is =
+    (omega (arith, is.0, length-append bytes more), clear_more place bytes more is.1, crlf_more place bytes more is.2)
+
+-- a line's end that was found fits into the text, with both its bytes
+pub found_fits : (place : ℕ) (bytes : List ℕ) → Looked place true bytes → place + 2 ≤ length bytes
+found_fits place bytes is = end_fits bytes place (cut_there place bytes is.1 is.2)
+
+pub tested_fits : (place : ℕ) (ended : Bool) (bytes : List ℕ) → Looked place ended bytes → tested place ended ≤ length bytes
+tested_fits place false bytes is = is.0
+tested_fits place true bytes is = omega (arith, found_fits place bytes is)
+
+more_left : (tested size more : ℕ) → tested ≤ size → size + more - tested ≡ size - tested + more
+more_left tested size more fits = omega arith
+
+-- all bytes that come are not tested yet
+pub untested_more : (place : ℕ) (ended : Bool) (bytes more : List ℕ) → Looked place ended bytes
+    → untested place ended (bytes ++ more) ≡ untested place ended bytes + length more
+untested_more place ended bytes more is =
+    ap (λ size. size - tested place ended) (length-append bytes more)
+    ∙ more_left (tested place ended) (length bytes) (length more) (tested_fits place ended bytes is)
+
+-- what is needed is needed of more bytes too
+pub needs_more : (bytes more : List ℕ) (size : ℕ) → Needs bytes size → Needs (bytes ++ more) size
+needs_more bytes more size needs = λ others short.
+    let e = append_assoc bytes more others in
+    rw e (needs (more ++ others) (rw e at short))
+
+kept_clear : (test inner : Bool) → (not test && inner) ≡ true → inner ≡ true
+kept_clear true inner is = cc
+kept_clear false inner is = is
+
+clear_drop : (n k : ℕ) (bytes : List ℕ) → clear_to n bytes ≡ true → clear_to (n - k) (drop k bytes) ≡ true
+clear_drop n zero bytes is = let e : n - zero ≡ n = omega arith in rw e is
+clear_drop zero (suc k) bytes is = let e : zero - suc k ≡ zero = omega arith in rw e refl
+clear_drop (suc n) (suc k) [] is = cc
+clear_drop (suc n) (suc k) (a ∷ []) is = cc
+clear_drop (suc n) (suc k) (a ∷ b ∷ rest) is =
+    let e : suc n - suc k ≡ n - k = omega arith in
+    rw e (clear_drop n k (b ∷ rest) (kept_clear (a == 13 && b == 10) (clear_to n (b ∷ rest)) is))
+
+crlf_drop : (n k : ℕ) (bytes : List ℕ) → k ≤ n → is_crlf_at (drop k bytes) (n - k) ≡ is_crlf_at bytes n
+crlf_drop n k bytes within =
+    let e : k + (n - k) ≡ n = omega arith in
+    ap (λ text. starts_with nat_eq text (codes "\r\n")) (drop-drop (n - k) k bytes) ∙ ap (is_crlf_at bytes) e
+
+-- what was found stands nearer to the front once some bytes before it go
+pub looked_drop : (place n : ℕ) (ended : Bool) (bytes : List ℕ) → Looked place ended bytes → n ≤ place → Looked (place - n) ended (drop n bytes)
+looked_drop place n false bytes is within = (omega (arith, is.0, length-drop n bytes), clear_drop place n bytes is.1, tt)
+looked_drop place n true bytes is within =
+    (omega (arith, is.0, length-drop n bytes), clear_drop place n bytes is.1, crlf_drop place n bytes within ∙ is.2)
+
+pub untested_drop : (place n : ℕ) (ended : Bool) (bytes : List ℕ) → n ≤ place
+    → untested (place - n) ended (drop n bytes) ≤ untested place ended bytes
+untested_drop place n false bytes within = omega (arith, length-drop n bytes)
+untested_drop place n true bytes within = omega (arith, length-drop n bytes)
+
+-- nothing is known once more than was tested goes
+pub untested_all : (place n : ℕ) (ended : Bool) (bytes : List ℕ) → place < n → untested 0 false (drop n bytes) ≤ untested place ended bytes
+untested_all place n false bytes past = omega (arith, length-drop n bytes)
+untested_all place n true bytes past = omega (arith, length-drop n bytes)
 
 -- ---- how many bytes are needed
 

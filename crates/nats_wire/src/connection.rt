@@ -1,20 +1,20 @@
 //! A connection to a server: bytes in, operations out; commands in, bytes out. It reads and writes nothing itself.
-ghost use Rattle.std.specs.Prelude.{◌≡◌, ◌<◌, ◌≤◌, ◌++◌, length, take, drop, true, false, OnOk, OnErr, IfOk, IfSome, nat_le};
+ghost use Rattle.std.specs.Prelude.{◌≡◌, ◌<◌, ◌≤◌, ◌++◌, length, take, drop, true, OnOk, OnErr, IfOk, IfSome, nat_le};
 ghost use Rattle.nats_outbuf.specs.Buffers.{IsFront};
-ghost use Rattle.nats_wire.specs.Wire.{new_channel, with_unread, with_waiting};
+ghost use Rattle.nats_wire.specs.Wire.{new_channel, with_fed, with_unread, with_waiting, Paid};
 ghost use Rattle.nats_wire.specs.Operations.{front, takes_memory, is_unfinished};
 ghost use Rattle.nats_wire.specs.Commands.{command_text, command_texts};
 ghost use Rattle.nats_wire.specs.Connection.{Looks, Reads, flush_by};
 
 use crate::command;
-use crate::decode::Sight;
 use crate::front::Front;
 use crate::op::{ClientOp, PeekedOp, ServerOp, WireError};
 use crate::unread::Unread;
 use nats_names::{Bytes, NoMemory};
-use nats_outbuf::{OutBuf, PIECES_MOST, SOFT_WRITE_BUF_LIMIT, ShouldFlush};
+use nats_outbuf::{OutBuf, PIECES_MOST, SOFT_WRITE_BUF_LIMIT, ShouldFlush, Steps};
 use std::alloc::Global;
-use std::marker::Model;
+use std::marker::{Brand, Model};
+use std::sync::ledger::{Blank, Ledger};
 
 /// An operation at the front of the unread bytes, and how many bytes it takes there.
 #[derive(Debug, Drop, PartialEq, Eq)]
@@ -37,8 +37,9 @@ impl Model for Connection {
     ghost Value = { Channel };
 
     ghost view = { λ c. record {
-      wire = record { unread = c.unread; waiting = c.out };
+      wire = record { unread = c.unread.bytes; waiting = c.out };
       is_written = c.is_written;
+      untested = c.unread.untested;
     } };
 }
 
@@ -56,7 +57,7 @@ impl Connection {
 
     /// Appends bytes that the server sent, whole.
     pub fn feed(&mut self, alloc: Global, bytes: &[u8]) -> Result<(), NoMemory>
-        ensures ok { OnOk result (self.new ≡ with_unread (self.old.wire.unread ++ bytes.now) self.old) }
+        ensures ok { OnOk result (self.new ≡ with_fed bytes.now self.old) }
         ensures err { OnErr result (self.new ≡ self.old) }
     {
         self.unread.feed(alloc, bytes)
@@ -83,12 +84,29 @@ impl Connection {
         }
     }
 
+    /// Looks at the front of the unread bytes and remembers what that told, so that `peek_op` and `is_unfinished` cost little
+    /// until bytes come or go: for a caller that asks by them. Own call.
+    pub fn look(&mut self)
+        ensures same { self.new ≡ record self.old { untested = self.new.untested } }
+        ensures untested { self.new.untested ≤ self.old.untested }
+    {
+        self.look_counted::<Brand>(Blank::new(1));
+    }
+
+    fn look_counted<L: Ledger>(&mut self, blank: Blank)
+        requires name { blank.name ≡ L.name }
+        requires parts { (blank.parts ≡ L.parts) × (0 < L.parts) }
+        ensures same { self.new ≡ record self.old { untested = self.new.untested } }
+        ensures untested { self.new.untested ≤ self.old.untested }
+    {
+        self.unread.look(&mut Steps::<L>::new(blank));
+    }
+
     /// Whether less than an operation stands at the front of the unread bytes. It takes no memory. Own call.
     pub fn is_unfinished(&self) -> bool
         ensures { result ≡ is_unfinished (front self.now.wire.unread) }
     {
-        let sight = self.unread.sight();
-        matches!(sight, Sight::Unfinished)
+        self.unread.is_unfinished()
     }
 
     /// The number of unread bytes. Own call.
@@ -98,38 +116,64 @@ impl Connection {
         self.unread.len()
     }
 
+    /// The number of unread bytes that were not tested yet for the end of a line. Own call.
+    pub fn untested(&self) -> usize
+        ensures value { result ≡ self.now.untested }
+        ensures bound { self.now.untested ≤ length self.now.wire.unread }
+    {
+        self.unread.untested()
+    }
+
     /// Takes the first `n` unread bytes away. Own call, for use after `peek_op`.
     pub fn consume(&mut self, n: usize)
         requires { n ≤ length self.old.wire.unread }
-        ensures { self.new ≡ with_unread (drop n self.old.wire.unread) self.old }
+        ensures bytes { self.new ≡ with_unread (drop n self.old.wire.unread) self.new.untested self.old }
+        ensures untested { self.new.untested ≤ self.old.untested }
     {
-        self.unread.consume(n);
+        self.unread.advance(n);
     }
 
-    /// Takes the operation at the front of the unread bytes, `None` where that is less than an operation. The crate's
-    /// `try_read_op`.
+    /// Takes the operation at the front of the unread bytes, `None` where that is less than an operation. Each step is a place
+    /// that is tested for the end of a line; no byte is tested twice, so that over one connection there are at most as many
+    /// steps as bytes were fed, on every answer. The crate's `try_read_op`; the count is our own.
     ///
     /// # Errors
     ///
     /// `ReadFault` exactly where the bytes at the front are no operation: a line that begins with no word of the protocol is
     /// taken away, so is a message with a bad header block, and else nothing is. `NoMemory` as in `peek_op`, and nothing is
     /// taken.
-    pub fn try_read_op(&mut self, alloc: Global) -> Result<Option<ServerOp>, WireError>
-        ensures reads { Reads (front self.old.wire.unread) (takes_memory self.old.wire.unread) self.old.wire result self.new.wire }
-        ensures flag { self.new.is_written ≡ self.old.is_written }
+    pub fn try_read_op<L: Ledger>(&mut self, alloc: Global, steps: &mut Steps<L>) -> Result<Option<ServerOp>, WireError>
+        ensures reads { Reads (front self.old.wire.unread) (takes_memory self.old.wire.unread)
+            self.old.wire.unread result self.new.wire.unread }
+        ensures paid { Paid steps.old self.old.untested steps.new self.new.untested }
+        ensures rest { self.new ≡ with_unread self.new.wire.unread self.new.untested self.old }
     {
-        match self.unread.front(alloc) {
-            Ok(Front::Unfinished) => Ok(None),
-            Ok(Front::Got(op, len)) => {
-                self.consume(len);
-                Ok(Some(op.into_op()))
-            }
-            Ok(Front::Fault(n)) => {
-                self.consume(n);
-                Err(WireError::ReadFault)
-            }
-            Err(NoMemory) => Err(WireError::NoMemory),
-        }
+        self.unread.read(alloc, steps)
+    }
+
+    /// `try_read_op` for a caller that counts nothing. Own call.
+    ///
+    /// # Errors
+    ///
+    /// Those of `try_read_op`.
+    pub fn read_op(&mut self, alloc: Global) -> Result<Option<ServerOp>, WireError>
+        ensures reads { Reads (front self.old.wire.unread) (takes_memory self.old.wire.unread)
+            self.old.wire.unread result self.new.wire.unread }
+        ensures untested { self.new.untested ≤ self.old.untested }
+        ensures rest { self.new ≡ with_unread self.new.wire.unread self.new.untested self.old }
+    {
+        self.read_counted::<Brand>(alloc, Blank::new(1))
+    }
+
+    fn read_counted<L: Ledger>(&mut self, alloc: Global, blank: Blank) -> Result<Option<ServerOp>, WireError>
+        requires name { blank.name ≡ L.name }
+        requires parts { (blank.parts ≡ L.parts) × (0 < L.parts) }
+        ensures reads { Reads (front self.old.wire.unread) (takes_memory self.old.wire.unread)
+            self.old.wire.unread result self.new.wire.unread }
+        ensures untested { self.new.untested ≤ self.old.untested }
+        ensures rest { self.new ≡ with_unread self.new.wire.unread self.new.untested self.old }
+    {
+        self.try_read_op(alloc, &mut Steps::<L>::new(blank))
     }
 
     /// Puts the text of an operation behind the bytes that wait to be written, whole or not at all. A payload of
@@ -174,10 +218,7 @@ impl Connection {
     /// Takes the first `n` waiting bytes away, which were written. From now on the writer is to be flushed. Own call.
     pub fn written(&mut self, n: usize)
         requires { n ≤ length self.old.wire.waiting }
-        ensures { self.new ≡ record {
-          wire = record self.old.wire { waiting = drop n self.old.wire.waiting };
-          is_written = true;
-        } }
+        ensures { self.new ≡ record (with_waiting (drop n self.old.wire.waiting) self.old) { is_written = true } }
     {
         self.out.taken(n);
         self.is_written = true;

@@ -12,7 +12,7 @@ mod json;
 pub mod laws;
 mod message;
 mod op;
-mod store;
+mod search;
 mod unread;
 
 pub use connection::{Connection, Peeked};
@@ -22,5 +22,5 @@ pub use nats_connect::{ConnectInfo, Protocol};
 pub use nats_header::{HeaderError, HeaderMap, HeaderName, HeaderValue, JsonError};
 pub use nats_info::ServerInfo;
 pub use nats_names::{Bytes, Event, NoMemory, Seq, ServerError, StatusCode, Subject, Text, Token};
-pub use nats_outbuf::{CHUNK_LEAST, PIECES_MOST, SOFT_WRITE_BUF_LIMIT, ShouldFlush};
+pub use nats_outbuf::{CHUNK_LEAST, PIECES_MOST, SOFT_WRITE_BUF_LIMIT, ShouldFlush, Steps};
 pub use op::{ClientOp, PeekedOp, ServerOp, WireError};

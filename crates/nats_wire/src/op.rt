@@ -1,5 +1,5 @@
 //! Operations: what a server sends, and what a client sends.
-ghost use Rattle.std.specs.Prelude.{◌≡◌, Some};
+ghost use Rattle.std.specs.Prelude.{◌≡◌, Some, IfOk};
 ghost use Rattle.nats_wire.specs.Operations.{op_view, peeked_view};
 ghost use Rattle.nats_wire.specs.Wire.{wire_error_text};
 ghost use Rattle.nats_wire.specs.declared.op.WireError.TheVariants as refused;
@@ -9,6 +9,7 @@ use nats_connect::ConnectInfo;
 use nats_header::HeaderMap;
 use nats_info::ServerInfo;
 use nats_names::{Bytes, NoMemory, ServerError, Subject};
+use std::alloc::Global;
 use std::error::Error;
 use std::fmt;
 
@@ -47,21 +48,21 @@ pub enum PeekedOp {
 }
 
 impl PeekedOp {
-    /// The operation itself. It takes no memory.
-    pub fn into_op(self) -> ServerOp
-        ensures { op_view result ≡ peeked_view self }
+    /// The same operation, a message in a box. Memory is taken for a message alone.
+    pub fn boxed(alloc: Global, op: ServerOp) -> Result<PeekedOp, NoMemory>
+        ensures { IfOk result (λ boxed. peeked_view boxed ≡ op_view op) }
     {
-        match self {
-            PeekedOp::Ok => ServerOp::Ok,
-            PeekedOp::Info(info) => ServerOp::Info(info),
-            PeekedOp::Ping => ServerOp::Ping,
-            PeekedOp::Pong => ServerOp::Pong,
-            PeekedOp::Error(error) => ServerOp::Error(error),
-            PeekedOp::Message { sid, message } => ServerOp::Message {
+        Ok(match op {
+            ServerOp::Ok => PeekedOp::Ok,
+            ServerOp::Info(info) => PeekedOp::Info(info),
+            ServerOp::Ping => PeekedOp::Ping,
+            ServerOp::Pong => PeekedOp::Pong,
+            ServerOp::Error(error) => PeekedOp::Error(error),
+            ServerOp::Message { sid, message } => PeekedOp::Message {
                 sid,
-                message: Box::into_inner(message),
+                message: Box::new(alloc, message)?,
             },
-        }
+        })
     }
 }
 

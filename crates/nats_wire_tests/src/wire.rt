@@ -64,7 +64,7 @@ fn told(alloc: Global, op: &ServerOp) -> Result<String, NoMemory> {
 }
 
 fn told_read(alloc: Global, connection: &mut Connection) -> Result<String, NoMemory> {
-    match connection.try_read_op(alloc) {
+    match connection.read_op(alloc) {
         Ok(Some(op)) => told(alloc, &op),
         Ok(None) => Ok(String::from_str(alloc, "unfinished")?),
         Err(WireError::ReadFault) => Ok(String::from_str(alloc, "fault")?),
@@ -107,7 +107,7 @@ fn a_message_is_read_at_its_last_byte(rt: HostRuntime) -> Result<(), Fail> {
 #[test]
 fn messages_outlive_the_bytes_that_they_share(rt: HostRuntime) -> Result<(), Fail> {
     let mut connection = fed(rt.alloc(), b"MSG a 1 2\r\nhi\r\nMSG b 2 r 3\r\nyo")?;
-    let first = connection.try_read_op(rt.alloc())?.ok_or("no message")?;
+    let first = connection.read_op(rt.alloc())?.ok_or("no message")?;
     assert!(rt; connection.is_unfinished());
     connection.feed(rt.alloc(), b"u\r\nPING\r\n")?;
     let second = told_read(rt.alloc(), &mut connection)?;
@@ -122,7 +122,7 @@ fn messages_outlive_the_bytes_that_they_share(rt: HostRuntime) -> Result<(), Fai
 #[test]
 fn bytes_that_are_no_text_are_a_fault(rt: HostRuntime) -> Result<(), Fail> {
     let mut connection = fed(rt.alloc(), b"MSG a.\xff 1 2\r\nhi\r\n")?;
-    let read = connection.try_read_op(rt.alloc());
+    let read = connection.read_op(rt.alloc());
     assert_eq!(rt; read.err(), Some(WireError::ReadFault));
     Ok(())
 }

@@ -104,7 +104,9 @@ impl ConnectionHandler {
         ensures ok { OnOk result (self.new ≡ seen_after self.old (fed bytes.now)) }
         ensures err { OnErr result (self.new ≡ self.old) }
     {
-        self.connection.feed(alloc, bytes)
+        self.connection.feed(alloc, bytes)?;
+        self.connection.look();
+        Ok(())
     }
 
     /// The link gave these bytes. Its condition is `check` of that turn; `advance` then reads what they complete.

@@ -354,6 +354,7 @@ impl ConnectionHandler {
     {
         self.count_read();
         self.connection.consume(len);
+        self.connection.look();
     }
 
     /// One more message was read, of such a length; it took so many bytes.

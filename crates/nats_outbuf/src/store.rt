@@ -1,6 +1,6 @@
 //! Where unread bytes are kept: in a buffer that grows, or in one that messages share.
-ghost use Rattle.std.specs.Prelude.{◌≡◌, ◌++◌, ◌≤◌, [], length, drop, IfOk, OnOk, OnErr};
-ghost use Rattle.nats_wire.specs.Store.{store_bytes};
+ghost use Rattle.std.specs.Prelude.{◌≡◌, ◌++◌, ◌≤◌, [], length, take, drop, IfOk, OnOk, OnErr};
+ghost use Rattle.nats_outbuf.specs.Store.{store_bytes};
 
 use bytes::BytesMut;
 use nats_names::{Bytes, NoMemory};
@@ -39,6 +39,19 @@ impl Store {
         match self {
             Store::Growing(bytes) => bytes.advance(n),
             Store::Shared(bytes) => bytes.advance(n),
+        }
+    }
+
+    /// Takes the first `n` bytes out, with no copy: what is left and what was taken share one memory.
+    pub fn split(&mut self, n: usize) -> Result<Bytes, NoMemory>
+        requires { n ≤ length (store_bytes self.old) }
+        ensures front { IfOk result (λ front. front ≡ take n (store_bytes self.old)) }
+        ensures rest { OnOk result (store_bytes self.new ≡ drop n (store_bytes self.old)) }
+        ensures err { OnErr result (store_bytes self.new ≡ store_bytes self.old) }
+    {
+        match self {
+            Store::Growing(bytes) => Ok(bytes.freeze_to(n)?),
+            Store::Shared(bytes) => Ok(bytes.split_to(n)?),
         }
     }
 
