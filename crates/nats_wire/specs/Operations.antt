@@ -272,6 +272,12 @@ front_of_sight (whole text n) = got_or_fault n (lost_at text n) (op_of text)
 unfoldable pub front : List ℕ → Front
 front bytes = front_of_sight (sight bytes)
 
+-- how many bytes what stands at the front takes
+abbrev pub size_of : Front → ℕ
+size_of unfinished = 0
+size_of (got operation n) = n
+size_of (fault n) = n
+
 -- whether memory is taken to read what stands at the front: the text of an operation is there whole. Where that turns out to
 -- be none, it is an INFO or a header block
 abbrev pub is_whole : Sight → Bool

@@ -1,5 +1,6 @@
 -- What is remembered of unread bytes, so that none of them is searched again.
-use Rattle.std.specs.Prelude.{◌≡◌, ℕ, zero, suc, ◌+◌, ◌-◌, ◌<◌, ◌≤◌, Bool, true, false, not, ◌&&◌, ◌==◌, List, [], ◌∷◌, ◌++◌, length, take, drop, IsTrue, OnTrue, if◌then◌else◌}
+use Rattle.std.specs.Prelude.{◌≡◌, ℕ, zero, suc, ◌+◌, ◌-◌, ◌<◌, ◌≤◌, Bool, true, false, not, ◌&&◌, ◌==◌, List, [], ◌∷◌, ◌++◌, length, take, drop, IsTrue, if◌then◌else◌}
+use Rattle.std.specs.Bool.{OnTrue}
 use Rattle.nats_outbuf.specs.Buffers.{is_crlf_at}
 use Rattle.nats_wire.specs.Operations.{less, Cut, word_of, sight_of_word, sight}
 
@@ -15,10 +16,14 @@ abbrev pub Looked : ℕ → Bool → List ℕ → Type 0
 Looked place ended bytes =
     (place ≤ length bytes) × IsTrue (clear_to place bytes) × OnTrue ended (IsTrue (is_crlf_at bytes place))
 
--- the first line ends a byte before the LF that stands so many bytes behind a place
+-- the first line ends a byte before an LF, which stands behind a place
 abbrev pub EndsBefore : ℕ → ℕ → List ℕ → Type 0
-EndsBefore place lf bytes =
-    (0 < lf) × IsTrue (clear_to (place + lf - 1) bytes) × IsTrue (is_crlf_at bytes (place + lf - 1))
+EndsBefore place lf bytes = (place < lf) × IsTrue (clear_to (lf - 1) bytes) × IsTrue (is_crlf_at bytes (lf - 1))
+
+-- how far it was looked for, once so many bytes at the front are gone: what was found is nearer, or nothing is known
+abbrev pub Behind : ℕ → ℕ → Bool → ℕ → Bool → Type 0
+Behind n place ended new_place new_ended =
+    (n ≤ place → (new_place ≡ place - n) × (new_ended ≡ ended)) × (place < n → (new_place ≡ 0) × (new_ended ≡ false))
 
 -- how many bytes were tested: those before the place, and the one there where a line's end was found
 abbrev pub tested : ℕ → Bool → ℕ

@@ -1,7 +1,8 @@
 //! The bytes that came over a link and that no operation took yet, with what is remembered of them: no byte is tested twice
 //! for the end of a line, and a line that announces a body isn't read again while the body comes.
-ghost use Rattle.std.specs.Prelude.{◌≡◌, ◌++◌, ◌+◌, ◌-◌, ◌<◌, ◌≤◌, [], length, drop, option_map, true, None, IsTrue, OnFalse, IfOk, OnOk, OnErr};
-ghost use Rattle.nats_wire.specs.Operations.{cut_line, sight, front, takes_memory, is_unfinished, got_or_fault, op_view};
+ghost use Rattle.std.specs.Prelude.{◌≡◌, ◌++◌, ◌+◌, ◌-◌, ◌<◌, ◌≤◌, [], length, drop, option_map, true, None, IsTrue, IfOk, OnOk, OnErr};
+ghost use Rattle.std.specs.Bool.{OnFalse};
+ghost use Rattle.nats_wire.specs.Operations.{cut_line, sight, front, takes_memory, is_unfinished, got_or_fault, size_of, op_view};
 ghost use Rattle.nats_wire.specs.Decoder.{sight_view, front_view, taken_by};
 ghost use Rattle.nats_wire.specs.Scan.{Looked, untested, Needs};
 ghost use Rattle.nats_wire.specs.Wire.{Paid};
@@ -11,7 +12,7 @@ use crate::copies;
 use crate::decode::{self, Sight};
 use crate::front::{Front, front_kept};
 use crate::op::{ServerOp, WireError};
-use crate::search::{Search, search};
+use crate::search::{Found, NOT_LOOKED, search};
 use nats_names::NoMemory;
 use nats_outbuf::{InBuf, Steps};
 use std::alloc::Global;
@@ -21,18 +22,12 @@ use std::sync::ledger::{Blank, Ledger};
 /// From this length on bytes are shared that begin with no message. Own choice.
 const SHARED_LEAST: usize = 256;
 
-/// Nothing was looked for yet.
-const NOT_LOOKED: Search = Search {
-    place: 0,
-    ended: false,
-};
-
 /// Unread bytes. Contracts see them as a list, with the number of those that were not tested yet for the end of a line.
 #[derive(Drop)]
 pub struct Unread {
     buf: InBuf,
     /// How far the end of the first line was looked for.
-    found: Search,
+    found: Found,
     /// Fewer bytes than these are less than an operation; 0 where that isn't known.
     needed: usize,
     /// An operation or a fault is known to stand at the front.
@@ -42,7 +37,8 @@ pub struct Unread {
 }
 
 impl Model for Unread {
-    ghost use Rattle.std.specs.Prelude.{◌≡◌, false, OnTrue};
+    ghost use Rattle.std.specs.Prelude.{◌≡◌, false};
+    ghost use Rattle.std.specs.Bool.{OnTrue};
     ghost use Rattle.nats_wire.specs.Operations.{front, is_unfinished};
     ghost use Rattle.nats_wire.specs.Scan.{Looked, untested, Needs};
     ghost use Rattle.nats_wire.specs.Wire.{Unread};
@@ -81,12 +77,13 @@ impl Unread {
         ensures value { result ≡ self.now.untested }
         ensures bound { self.now.untested ≤ length self.now.bytes }
     {
+        let len = self.buf.len();
         let tested = if self.found.ended {
             self.found.place + 1
         } else {
             self.found.place
         };
-        self.buf.len() - tested
+        len - tested
     }
 
     /// Appends bytes, whole or not at all.
@@ -111,17 +108,11 @@ impl Unread {
         self.buf.advance(n);
         self.needed = 0;
         self.ready = false;
-        self.found = match self.found.place.checked_sub(n) {
-            Some(place) => Search {
-                place,
-                ended: self.found.ended,
-            },
-            None => NOT_LOOKED,
-        };
+        self.found = self.found.behind(n);
     }
 
     // Looks on for the end of the first line.
-    fn search_on<L: Ledger>(&self, steps: &mut Steps<L>) -> Search
+    fn search_on<L: Ledger>(&self, steps: &mut Steps<L>) -> Found
         ensures looked { Looked result.place result.ended self.now.bytes }
         ensures none { OnFalse result.ended (cut_line self.now.bytes ≡ None) }
         ensures paid { Paid steps.old self.now.untested steps.new (untested result.place result.ended self.now.bytes) }
@@ -249,7 +240,7 @@ impl Unread {
 
     // Takes an operation that was read, with its bytes, or those of a text that turned out to be none.
     fn take(&mut self, found: Option<ServerOp>, len: usize, lost: usize) -> Result<Option<ServerOp>, WireError>
-        requires fits { (len ≤ length self.old.bytes) × (lost ≤ length self.old.bytes) }
+        requires { size_of (got_or_fault len lost (option_map op_view found)) ≤ length self.old.bytes }
         ensures reads { Reads (got_or_fault len lost (option_map op_view found)) true self.old.bytes result self.new.bytes }
         ensures untested { self.new.untested ≤ self.old.untested }
     {
