@@ -7,7 +7,7 @@ ghost use Rattle.nats_history.specs.History.{next_number, is_open_at, kept, all_
 ghost use Rattle.nats_history.specs.Schedule.{take_reply_of, is_there};
 ghost use Rattle.nats_subs.specs.Forgetting.{LeavesResting};
 ghost use Rattle.nats_subs.specs.Draining.{drained_at, Covers};
-ghost use Rattle.nats_subs.specs.Delivery.{deliver, take_from, delivery_at, youngest, given_one, subscribed_one, with_rows, rows_with, rows_named, rows_each, commands_by, commands_at};
+ghost use Rattle.nats_subs.specs.Delivery.{deliver, take_from, delivery_at, youngest, first_of, given_one, subscribed_one, with_rows, rows_with, rows_named, rows_each, commands_by, commands_at};
 
 mod subscription;
 
@@ -260,6 +260,13 @@ impl Subscriptions {
         ensures { option_copied result ≡ youngest (item_of sid self.now.rows) }
     {
         self.table.item(sid)?.last()
+    }
+
+    /// The oldest waiting message of a subscription.
+    pub fn first(&self, sid: u64) -> Option<&Message>
+        ensures { option_copied result ≡ first_of (item_of sid self.now.rows) }
+    {
+        self.table.item(sid)?.first()
     }
 
     /// Whether a subscription is open.

@@ -7,13 +7,13 @@ ghost use Rattle.nats_history.specs.declared.turn.Turn.TheVariants as turns;
 ghost use Rattle.nats_history.specs.History.{names};
 ghost use Rattle.nats_tickets.specs.Kept.{reply_in, without};
 ghost use Rattle.nats_history.specs.Schedule.{due, refusal, has_no_number, may_name, is_full, is_valid_turn, own_steps};
-ghost use Rattle.nats_subs.specs.Delivery.{youngest};
+ghost use Rattle.nats_subs.specs.Delivery.{youngest, first_of};
 ghost use Rattle.nats_session.specs.Handler.{can_play, HandsOut, HandsReply, end_in, state_of};
 
 use super::{ConnectionHandler, TICK_LIMIT};
 use nats_history::refusals::{has_group, has_subjects, size_of, subscribes, takes_ticket};
 use nats_history::{
-    Call, CallReply, Event, LinkWord, Message, NoMemory, ServerInfo, Statistics, Turn,
+    Call, CallReply, Config, Event, LinkWord, Message, NoMemory, ServerInfo, Statistics, Turn,
 };
 use nats_names::State;
 use std::alloc::Global;
@@ -231,6 +231,21 @@ impl ConnectionHandler {
         ensures { option_copied result ≡ youngest (item_of s self.now.parts.subs.rows) }
     {
         self.subs.last(s)
+    }
+
+    /// The oldest waiting message of the subscription of number `s`, from 1, which is the one that `take` takes; `None` exactly
+    /// where none waits. Own call.
+    pub fn first_waiting(&self, s: u64) -> Option<&Message>
+        ensures { option_copied result ≡ first_of (item_of s self.now.parts.subs.rows) }
+    {
+        self.subs.first(s)
+    }
+
+    /// The settings that the session was made with. Own call.
+    pub fn config(&self) -> &Config
+        ensures { result.now ≡ self.now.parts.config }
+    {
+        &self.config
     }
 
     fn take_event(&mut self) -> Option<Event>
