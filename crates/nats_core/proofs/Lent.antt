@@ -1,14 +1,15 @@
 -- What a link that is lent gives and takes.
-use Rattle.std.proofs.Common.{◌≡◌, ℕ, zero, suc, ◌+◌, ◌-◌, ◌^◌, ◌<◌, ◌≤◌, List, [], ◌∷◌, ◌++◌, length, take, true, None, Result, Ok, Err, IsErr, inl, inr, refl, sym, ◌∙◌, ap, subst, arith}
+use Rattle.std.proofs.Common.{◌≡◌, ℕ, zero, suc, ◌+◌, ◌-◌, ◌^◌, ◌<◌, ◌≤◌, List, [], ◌∷◌, ◌++◌, length, take, drop, All, true, None, Result, Ok, Err, IsErr, inl, inr, refl, sym, ◌∙◌, ap, subst, arith}
 use Rattle.std.specs.List.{concat}
 use Rattle.std.specs.Io.KnownBytes.{append_known, Consumes}
 use Rattle.std.proofs.Math.Nat.{max-eq_left, min-le_left}
-use Rattle.std.proofs.lemmas.List.{append-nil, length-append, take-append-le}
+use Rattle.std.proofs.lemmas.List.{length-append, take-append-le, take-append-drop}
+use Rattle.std.proofs.lemmas.List.Elements.{All-head}
 use Rattle.nats_addr.specs.Resolving.{risen}
 use Rattle.nats_names.specs.declared.failed.Failed.{Failed}
 use Rattle.nats_names.specs.declared.failed.NoMemory.{NoMemory}
 use Rattle.nats_outside.specs.Told.{ReadTold, WriteTold}
-use Rattle.nats_wire.specs.Commands.{one_piece}
+use Rattle.nats_outbuf.specs.Buffers.{IsFront}
 use Rattle.nats_history.specs.declared.turn.Turn.TheVariants as turns
 use Rattle.nats_history.specs.Parts.{Parts}
 use Rattle.nats_history.specs.Schedule.{due}
@@ -48,16 +49,22 @@ reads_played old mid new (suc n) buf before after some gives own due =
 
 -- ---- a write
 
-pub first_pieces : (pieces : List (List ℕ)) (waiting : List ℕ) → pieces ≡ one_piece waiting → AreFirst pieces waiting
-first_pieces pieces waiting is = subst (λ ps. AreFirst ps waiting) (sym is) (by waiting)
-  where
-    by : (bytes : List ℕ) → AreFirst (one_piece bytes) bytes
-    by [] = record { rest = []; joined = refl; none = λ e. refl }
-    by (b ∷ bytes) = record {
-      rest = [];
-      joined = append-nil (concat ((b ∷ bytes) ∷ [])) ∙ append-nil (b ∷ bytes);
-      none = λ e. sym (append-nil (b ∷ bytes)) ∙ e;
-    }
+some_joined : (pieces : List (List ℕ)) → All (λ piece. 0 < length piece) pieces → 0 < length pieces → concat pieces ≡ [] → ⊥
+some_joined [] all some empty = absurd (omega arith)
+some_joined (piece ∷ pieces) all some empty =
+    absurd (omega (arith, All-head (λ piece. 0 < length piece) piece pieces all, length-append piece (concat pieces), ap length empty))
+
+none_waits : (pieces : List (List ℕ)) (waiting : List ℕ) → (0 < length waiting → 0 < length pieces) → All (λ piece. 0 < length piece) pieces → concat pieces ≡ []
+    → waiting ≡ []
+none_waits pieces [] some all empty = refl
+none_waits pieces (b ∷ waiting) some all empty = absurd (some_joined pieces all (some (omega arith)) empty)
+
+pub first_pieces : (most : ℕ) (pieces : List (List ℕ)) (waiting : List ℕ) → IsFront most pieces waiting → AreFirst pieces waiting
+first_pieces most pieces waiting is = record {
+  rest = drop (length (concat pieces)) waiting;
+  joined = ap (λ (bytes : List ℕ). bytes ++ drop (length (concat pieces)) waiting) is.joined ∙ take-append-drop (length (concat pieces)) waiting;
+  none = none_waits pieces waiting is.some is.nonempty;
+}
 
 pub writes_took : (old mid new : Logged) (pieces : List (List ℕ)) (n : ℕ) (before after : WriteTold) → AreFirst pieces (waiting_in old) → 0 < n → n ≤ length (concat pieces)
     → after ≡ wrote_after (Ok n) (concat pieces) before → mid ≡ played (turns.Write n) old → PlaysDue mid new → Writes old before after (Ok (writes.Wrote n)) new

@@ -2,7 +2,7 @@
 ghost use Rattle.std.specs.Prelude.{◌≡◌, ◌<◌, length, OnOk, OnErr, IfOk, IsTrue, None};
 ghost use Rattle.nats_history.specs.declared.turn.Turn.TheVariants as turns;
 ghost use Rattle.nats_history.specs.Schedule.{due};
-ghost use Rattle.nats_wire.specs.Commands.{one_piece};
+ghost use Rattle.nats_outbuf.specs.Buffers.{IsFront};
 ghost use Rattle.nats_session.specs.Handler.{can_play};
 ghost use Rattle.nats_core.specs.Journal.{played};
 ghost use Rattle.nats_core.specs.Calls.{parts_in, PlaysDue};
@@ -13,6 +13,7 @@ use crate::answers::{ReadOnce, WriteOnce};
 use crate::notes::piece_own;
 use nats_outside::{Failed, LinkRead, LinkWrite};
 use nats_session::{Bytes, NoMemory, Turn};
+use nats_wire::PIECES_MOST;
 use std::alloc::Global;
 
 /// One read: how many bytes the link gave, or 0 where it ended or failed.
@@ -125,7 +126,7 @@ impl Core {
     ///
     /// `NoMemory`, only where something waits, leaves the core unchanged.
     pub fn pending_pieces(&mut self, alloc: Global) -> Result<Vec<Bytes>, NoMemory>
-        ensures pieces { IfOk result (λ v. v.items ≡ one_piece (waiting_in self.old)) }
+        ensures front { IfOk result (λ v. IsFront PIECES_MOST v.items (waiting_in self.old)) }
         ensures wants { OnErr result (0 < length (waiting_in self.old)) }
         ensures same { self.new ≡ self.old }
     {
