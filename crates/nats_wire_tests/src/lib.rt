@@ -21,4 +21,6 @@ mod message_json;
 #[cfg(test)]
 mod names;
 #[cfg(test)]
+mod steps;
+#[cfg(test)]
 mod wire;
