@@ -1,5 +1,5 @@
-//! Writes what a client's operations are on the wire: a line of standard input is an operation, standard output is their bytes.
-//! docs/ENCODED.md says how lines are spelled.
+//! Writes what a client's operations are on the wire: a line of standard input is an operation, standard output is
+//! their bytes. docs/ENCODED.md says how lines are spelled.
 #![tactic(auto)]
 
 mod connect;

@@ -68,8 +68,8 @@ impl InBuf {
         self.store.as_slice()
     }
 
-    /// Whether the end of a line, CR LF, stands at `place`. It is one step: whoever looks for lines by this call alone has
-    /// told what the search costs.
+    /// Whether the end of a line, CR LF, stands at `place`. It is one step: whoever looks for lines by this call
+    /// alone has told what the search costs.
     pub fn crlf_at<L: Ledger>(&self, place: usize, steps: &mut Steps<L>) -> bool
         requires { place + 1 < length self.now }
         ensures tells { result ≡ is_crlf_at self.now place }
@@ -106,8 +106,8 @@ impl InBuf {
         self.store.advance(n);
     }
 
-    /// From now on parts of the bytes share their memory, where the memory for the count of its owners is found. What comes
-    /// next is put behind a copy of them, unless all parts were let go. Own call.
+    /// From now on parts of the bytes share their memory, where the memory for the count of its owners is found.
+    /// What comes next is put behind a copy of them, unless all parts were let go. Own call.
     pub fn share(&mut self)
         ensures { self.new ≡ self.old }
     {

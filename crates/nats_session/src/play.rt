@@ -371,8 +371,9 @@ fn finish(
     Ok(draft.finish())
 }
 
-/// Plays the turns in order, each with all its due steps, and answers their transcript. A turn that may not come where it
-/// stands is answered with its place, and none is played from it on. It plays them by the calls of `ConnectionHandler`.
+/// Plays the turns in order, each with all its due steps, and answers their transcript. A turn that may not come
+/// where it stands is answered with its place, and none is played from it on. It plays them by the calls of
+/// `ConnectionHandler`.
 pub fn run(alloc: Global, config: Config, turns: &[Turn]) -> Result<Transcript, RunError>
     ensures { Plays config turns.now result }
 {

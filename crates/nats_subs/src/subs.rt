@@ -146,8 +146,8 @@ impl Subscriptions {
         self.table.give(Subscription::new(alloc, interest))
     }
 
-    /// The commands that subscribe all again on a new link: each one that is open and not shut, by number, with what is left
-    /// of its limit.
+    /// The commands that subscribe all again on a new link: each one that is open and not shut, by number, with
+    /// what is left of its limit.
     pub fn again(&self, alloc: Global) -> Result<Vec<ClientOp>, NoMemory>
         ensures { IfOk result (λ ops. ops.items ≡ all_again 1 self.now.rows) }
     {
@@ -182,7 +182,8 @@ impl Subscriptions {
         self.drained.settle(sid, is_drained);
     }
 
-    /// Takes the memory for the drain of a subscription before it is drained, so that a link's end need not go through others.
+    /// Takes the memory for the drain of a subscription before it is drained, so that a link's end need not go
+    /// through others.
     ///
     /// # Errors
     ///

@@ -83,9 +83,9 @@ pub trait TryChange<T: Row> {
     ghost leaves_resting: { (c : Self) (row : T) → T.rests row ≡ true → T.rests (changes c row) ≡ true };
 }
 
-/// Rows by their numbers, from 1. Contracts see all rows that got a number, in the order of their numbers; in memory are
-/// those that are not over, and once more the numbers of those that do not rest. A call costs at most the logarithm of what
-/// is in memory. Our own; the crate has a `HashMap`.
+/// Rows by their numbers, from 1. Contracts see all rows that got a number, in the order of their numbers; in
+/// memory are those that are not over, and once more the numbers of those that do not rest. A call costs at most
+/// the logarithm of what is in memory. Our own; the crate has a `HashMap`.
 #[derive(Drop)]
 pub struct Table<T: Row> {
     given: u64,
@@ -180,8 +180,9 @@ impl<T: Row> Table<T> {
         self.kept.get(&number)
     }
 
-    /// The first number above this one whose row does not rest, so that those can be gone through in order; `None` where each
-    /// row above it rests. It takes no memory. Our own; the crate goes through its `HashMap`, in no order.
+    /// The first number above this one whose row does not rest, so that those can be gone through in order; `None`
+    /// where each row above it rests. It takes no memory. Our own; the crate goes through its `HashMap`, in no
+    /// order.
     pub fn next_after(&self, number: u64) -> Option<u64>
         ensures { result ≡ first_awake T.rests (suc number) (drop number self.now) }
     {

@@ -23,8 +23,8 @@ impl Mark {
     }
 }
 
-/// Settles the flushes that the link reaches with `n` more bytes. The result is what it took then, as the marks that are left
-/// count it.
+/// Settles the flushes that the link reaches with `n` more bytes. The result is what it took then, as the marks
+/// that are left count it.
 pub fn settle_reached(
     marks: &mut VecDeque<Mark>,
     ready: &mut VecDeque<(u64, CallReply)>,

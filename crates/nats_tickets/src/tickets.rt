@@ -21,9 +21,9 @@ use std::marker::Model;
 /// The status of a reply that says that nobody answers. The protocol's.
 const NO_RESPONDERS: u16 = 503;
 
-/// The tickets of flushes and requests, from 1, in memory that is in the order of those that are unsettled or were not handed
-/// out, and of the runs of tickets of one kind. Each unsettled one has its room among those that are to be handed out. Our own;
-/// the crate has a channel for each.
+/// The tickets of flushes and requests, from 1, in memory that is in the order of those that are unsettled or were
+/// not handed out, and of the runs of tickets of one kind. Each unsettled one has its room among those that are to
+/// be handed out. Our own; the crate has a channel for each.
 #[derive(Drop)]
 pub struct Tickets {
     given: u64,
@@ -286,8 +286,8 @@ impl Tickets {
         Ok(())
     }
 
-    /// The oldest call that waits is a request, and is handled: its reply is to come to `subject`. Only where its deadline did
-    /// not come yet it takes memory.
+    /// The oldest call that waits is a request, and is handled: its reply is to come to `subject`. Only where its
+    /// deadline did not come yet it takes memory.
     pub fn handle_request(&mut self, alloc: Global, subject: &Subject) -> Result<(), NoMemory>
         ensures ok { OnOk result (self.new ≡ request_one subject.now self.old) }
         ensures err { OnErr result (self.new ≡ self.old) }
@@ -369,8 +369,8 @@ impl Tickets {
         self.taken = 0;
     }
 
-    /// The session closed: flushes that await bytes fail, requests that wait for a reply are dropped, then the tickets whose call
-    /// waits settle. It takes no memory.
+    /// The session closed: flushes that await bytes fail, requests that wait for a reply are dropped, then the
+    /// tickets whose call waits settle. It takes no memory.
     pub fn drop_waiting(&mut self)
         ensures { self.new ≡ dropped self.old }
     {
@@ -381,8 +381,8 @@ impl Tickets {
         self.handled = self.given;
     }
 
-    /// Hands out the reply of a ticket, once; `None` exactly where it did not settle yet, was not given or was handed out. It
-    /// takes no memory, and looks through the settled tickets that were not handed out.
+    /// Hands out the reply of a ticket, once; `None` exactly where it did not settle yet, was not given or was
+    /// handed out. It takes no memory, and looks through the settled tickets that were not handed out.
     pub fn reply_of(&mut self, ticket: u64) -> Option<CallReply>
         ensures reply { result ≡ reply_in ticket self.old.ready }
         ensures rest { self.new ≡ record self.old { ready = without ticket self.old.ready } }

@@ -4,8 +4,8 @@ use serde_json::Value;
 use std::alloc::Global;
 use std::test::Fail;
 
-/// A kind and a JSON text, and behind a `=` what is read of it: a name or a value itself, the names of a map in order and its JSON,
-/// the JSON of a message; `none` where it is none of the kind.
+/// A kind and a JSON text, and behind a `=` what is read of it: a name or a value itself, the names of a map in
+/// order and its JSON, the JSON of a message; `none` where it is none of the kind.
 const JSON: &str = r#"headers {}={}
 |headers {"inner": {}}={}
 |headers {"inner": ["some-value"], "Other-Header": ["other-value"]}

@@ -7,8 +7,8 @@ use std::alloc::Global;
 use std::str;
 use std::test::Fail;
 
-/// Bytes, and behind a `=` what two readings answer and how many bytes are left. A message is its number, subject, reply, payload,
-/// length, status, description and the JSON of its headers.
+/// Bytes, and behind a `=` what two readings answer and how many bytes are left. A message is its number, subject,
+/// reply, payload, length, status, description and the JSON of its headers.
 const READ: &str = "HMSG FOO.BAR 10 INBOX.35 28 28\r\nNATS/1.0 404 No Messages\r\n\r\n\r\n\
 =10 FOO.BAR INBOX.35  43 404 No Messages {}, unfinished, 0\
 |HMSG FOO.BAR 10 INBOX.35 23 34\r\nNATS/1.0\r\nHeader: X\r\n\r\nHello World\r\n\

@@ -36,8 +36,8 @@ sent_block None = None
 sent_block (Some []) = None
 sent_block (Some (field ∷ fields)) = Some (block_text (field ∷ fields))
 
--- `PUB s n` or `PUB s r n` and n bytes of payload; with a block of h bytes `HPUB s h t` or `HPUB s r h t`, the block and the
--- payload, which have t bytes together
+-- `PUB s n` or `PUB s r n` and n bytes of payload; with a block of h bytes `HPUB s h t` or `HPUB s r h t`, the
+-- block and the payload, which have t bytes together
 abbrev pub publication_text : List ℕ → Option (List ℕ) → Option (List ℕ) → List ℕ → List ℕ
 publication_text subject respond None payload =
     codes "PUB " ++ subject ++ codes " " ++ word_and_space respond ++ decimal (length payload) ++ crlf ++ payload ++ crlf

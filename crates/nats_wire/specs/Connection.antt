@@ -8,8 +8,8 @@ use Rattle.nats_wire.specs.declared.op.WireError.TheVariants as refused
 use Rattle.nats_wire.specs.declared.connection.Peeked.{Peeked}
 use Rattle.nats_wire.specs.Operations.{Front, unfinished, got, fault, op_view, peeked_view}
 
--- a look at the front of the unread bytes tells what stands there; memory can be wanting only for an operation, and at a fault
--- where memory is taken to tell it
+-- a look at the front of the unread bytes tells what stands there; memory can be wanting only for an operation, and
+-- at a fault where memory is taken to tell it
 abbrev pub Looks : Front → Bool → Result (Option Peeked) WireError → Type 0
 Looks (got operation n) takes (Ok (Some peeked)) = (peeked_view peeked.op ≡ operation) × (peeked.len ≡ n)
 Looks unfinished takes (Ok None) = Unit {0}

@@ -17,8 +17,8 @@ pub record Unread : Type 0 where
   pub bytes : List ℕ
   pub untested : ℕ
 
--- the bytes of a connection, whether some were written since its writer was flushed, and how many unread bytes were not tested
--- yet for the end of a line
+-- the bytes of a connection, whether some were written since its writer was flushed, and how many unread bytes were
+-- not tested yet for the end of a line
 pub record Channel : Type 0 where
   pub wire : Wire
   pub is_written : Bool

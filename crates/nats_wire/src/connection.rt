@@ -69,9 +69,9 @@ impl Connection {
     ///
     /// # Errors
     ///
-    /// `ReadFault` exactly where the bytes at the front are no operation. `NoMemory` only where an operation stands there, or
-    /// the whole line of an INFO or the whole of a message with headers, which are faults only once they are read: any other
-    /// fault and an unfinished rest are told without taking memory.
+    /// `ReadFault` exactly where the bytes at the front are no operation. `NoMemory` only where an operation stands
+    /// there, or the whole line of an INFO or the whole of a message with headers, which are faults only once they
+    /// are read: any other fault and an unfinished rest are told without taking memory.
     pub fn peek_op(&self, alloc: Global) -> Result<Option<Peeked>, WireError>
         ensures looks { Looks (front self.now.wire.unread) (takes_memory self.now.wire.unread) result }
         ensures fits { IfOk result (λ peeked. IfSome peeked (λ p. p.len ≤ length self.now.wire.unread)) }
@@ -84,8 +84,8 @@ impl Connection {
         }
     }
 
-    /// Looks at the front of the unread bytes and remembers what that told, so that `peek_op` and `is_unfinished` cost little
-    /// until bytes come or go: for a caller that asks by them. Own call.
+    /// Looks at the front of the unread bytes and remembers what that told, so that `peek_op` and `is_unfinished`
+    /// cost little until bytes come or go: for a caller that asks by them. Own call.
     pub fn look(&mut self)
         ensures same { self.new ≡ record self.old { untested = self.new.untested } }
         ensures untested { self.new.untested ≤ self.old.untested }
@@ -133,15 +133,16 @@ impl Connection {
         self.unread.advance(n);
     }
 
-    /// Takes the operation at the front of the unread bytes, `None` where that is less than an operation. Each step is a place
-    /// that is tested for the end of a line; no byte is tested twice, so that over one connection there are at most as many
-    /// steps as bytes were fed, on every answer. The crate's `try_read_op`; the count is our own.
+    /// Takes the operation at the front of the unread bytes, `None` where that is less than an operation. Each step
+    /// is a place that is tested for the end of a line; no byte is tested twice, so that over one connection there
+    /// are at most as many steps as bytes were fed, on every answer. The crate's `try_read_op`; the count is our
+    /// own.
     ///
     /// # Errors
     ///
-    /// `ReadFault` exactly where the bytes at the front are no operation: a line that begins with no word of the protocol is
-    /// taken away, so is a message with a bad header block, and else nothing is. `NoMemory` as in `peek_op`, and nothing is
-    /// taken.
+    /// `ReadFault` exactly where the bytes at the front are no operation: a line that begins with no word of the
+    /// protocol is taken away, so is a message with a bad header block, and else nothing is. `NoMemory` as in
+    /// `peek_op`, and nothing is taken.
     pub fn try_read_op<L: Ledger>(&mut self, alloc: Global, steps: &mut Steps<L>) -> Result<Option<ServerOp>, WireError>
         ensures reads { Reads (front self.old.wire.unread) (takes_memory self.old.wire.unread)
             self.old.wire.unread result self.new.wire.unread }
@@ -185,7 +186,8 @@ impl Connection {
         command::append(alloc, op, &mut self.out)
     }
 
-    /// Puts the texts of some operations in order behind the bytes that wait to be written, all of them or none. Own call.
+    /// Puts the texts of some operations in order behind the bytes that wait to be written, all of them or none.
+    /// Own call.
     pub fn enqueue_write_ops(&mut self, alloc: Global, ops: &[ClientOp]) -> Result<(), NoMemory>
         ensures ok { OnOk result (self.new ≡ with_waiting (self.old.wire.waiting ++ command_texts ops.now) self.old) }
         ensures err { OnErr result (self.new ≡ self.old) }
@@ -224,8 +226,8 @@ impl Connection {
         self.is_written = true;
     }
 
-    /// Whether the writer is to be flushed: `No` before anything was written since the last flush, else `May` where bytes
-    /// wait and `Yes` where none do. The crate's `should_flush`.
+    /// Whether the writer is to be flushed: `No` before anything was written since the last flush, else `May` where
+    /// bytes wait and `Yes` where none do. The crate's `should_flush`.
     pub fn should_flush(&self) -> ShouldFlush
         ensures { result ≡ flush_by self.now.is_written (length self.now.wire.waiting) }
     {
@@ -253,9 +255,9 @@ impl Connection {
         self.out.cut(n);
     }
 
-    /// The first waiting bytes in pieces to be written in order: `PIECES_MOST` at most, each nonempty, none where nothing
-    /// waits. They share their memory and stay until `written` takes them. Memory is taken only where something waits. Own
-    /// call.
+    /// The first waiting bytes in pieces to be written in order: `PIECES_MOST` at most, each nonempty, none where
+    /// nothing waits. They share their memory and stay until `written` takes them. Memory is taken only where
+    /// something waits. Own call.
     pub fn pending_pieces(&mut self, alloc: Global) -> Result<Vec<Bytes>, NoMemory>
         ensures front { IfOk result (λ pieces. IsFront PIECES_MOST pieces.items self.old.wire.waiting) }
         ensures memory { OnErr result (0 < length self.old.wire.waiting) }

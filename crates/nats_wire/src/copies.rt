@@ -55,7 +55,8 @@ fn subject_in(alloc: Global, bytes: &Bytes, at: usize, text: &str) -> Result<Sub
     Subject::from_text(alloc, text)
 }
 
-// The message of a text that takes the first `len` of some bytes, whose first word takes the first `at`. It shares the bytes.
+// The message of a text that takes the first `len` of some bytes, whose first word takes the first `at`. It shares
+// the bytes.
 fn message_in(
     alloc: Global,
     bytes: &Bytes,
@@ -112,8 +113,8 @@ fn headed(sid: u64, plain: Message, block: Block) -> ServerOp
     ServerOp::Message { sid, message }
 }
 
-// The message of a text with what its header block says, where that is a header block. The block is read first: it may be
-// none, and then nothing else is copied.
+// The message of a text with what its header block says, where that is a header block. The block is read first: it
+// may be none, and then nothing else is copied.
 fn header_message(
     alloc: Global,
     sid: u64,
@@ -178,7 +179,8 @@ fn header_message_in(
     }
 }
 
-// The operation of a text that takes the first `len` of some bytes, which it shares; `None` where it turns out to be none.
+// The operation of a text that takes the first `len` of some bytes, which it shares; `None` where it turns out to
+// be none.
 fn operation_in(
     alloc: Global,
     bytes: &Bytes,
@@ -204,8 +206,8 @@ fn operation_in(
     }
 }
 
-/// The operation of a text that takes the first `len` of kept bytes, which it shares where they can be shared; `None` where it
-/// turns out to be none.
+/// The operation of a text that takes the first `len` of kept bytes, which it shares where they can be shared;
+/// `None` where it turns out to be none.
 pub fn operation_kept(
     alloc: Global,
     buf: &InBuf,

@@ -8,8 +8,8 @@ use crate::error_line::{ErrorText, read_error};
 use crate::head::{Head, HeaderHead, read_head, read_header_head};
 use memchr::memmem;
 
-/// What stands at the front of a text: less than an operation, the text of one and the number of its bytes, or a fault that
-/// takes some bytes.
+/// What stands at the front of a text: less than an operation, the text of one and the number of its bytes, or a
+/// fault that takes some bytes.
 #[derive(Clone, Copy)]
 pub enum Sight<'a> {
     Unfinished,
@@ -39,7 +39,8 @@ pub enum OpText<'a> {
 }
 
 impl<'a> OpText<'a> {
-    /// How many of its `len` bytes the text takes where it turns out to be no operation: a message goes whole, an INFO stays.
+    /// How many of its `len` bytes the text takes where it turns out to be no operation: a message goes whole, an
+    /// INFO stays.
     pub fn lost_at(&self, len: usize) -> usize
         ensures { result ≡ lost_at (op_text_view self.now) len }
     {
@@ -64,8 +65,8 @@ pub struct MessageText<'a> {
     pub length: usize,
 }
 
-/// The words of the protocol that a line may begin with. `+OK`, `PING` and `PONG` are operations whatever follows them in
-/// the line.
+/// The words of the protocol that a line may begin with. `+OK`, `PING` and `PONG` are operations whatever follows
+/// them in the line.
 #[derive(Clone, Copy)]
 pub enum Word {
     Ok,
@@ -228,8 +229,8 @@ fn announced(line: &[u8]) -> Option<usize>
     }
 }
 
-/// How many bytes the operation at the front of `bytes`, whose first line ends at `end`, needs by that line; 0 where the line
-/// tells no number.
+/// How many bytes the operation at the front of `bytes`, whose first line ends at `end`, needs by that line; 0
+/// where the line tells no number.
 pub fn needed(bytes: &[u8], end: usize) -> usize
     requires fits { end + 2 ≤ length bytes.now }
     requires cut { cut_line bytes.now ≡ Some (cut_at bytes.now end) }

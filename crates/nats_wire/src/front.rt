@@ -10,8 +10,8 @@ use nats_names::NoMemory;
 use nats_outbuf::InBuf;
 use std::alloc::Global;
 
-/// What stands at the front of a text: less than an operation, one and the number of its bytes, or a fault that takes some
-/// bytes.
+/// What stands at the front of a text: less than an operation, one and the number of its bytes, or a fault that
+/// takes some bytes.
 #[derive(Drop)]
 pub enum Front {
     Unfinished,
@@ -50,7 +50,8 @@ fn front_by(alloc: Global, seen: Sight<'_>) -> Result<Front, NoMemory>
     }
 }
 
-/// What stands at the front of kept bytes, by what is seen there. The parts of a message share the bytes where they can.
+/// What stands at the front of kept bytes, by what is seen there. The parts of a message share the bytes where they
+/// can.
 pub(crate) fn front_kept(alloc: Global, buf: &InBuf, seen: Sight<'_>) -> Result<Front, NoMemory>
     requires { sight_view seen ≡ sight buf.now }
     ensures front { IfOk result (λ f. front_view f ≡ front_of_sight (sight_view seen.entry)) }

@@ -30,7 +30,8 @@ pub enum ServerOp {
     Message { sid: u64, message: Message },
 }
 
-/// A `ServerOp` as it is handed on before it is consumed: a message is in a box of its own, so that it costs little. Own type.
+/// A `ServerOp` as it is handed on before it is consumed: a message is in a box of its own, so that it costs
+/// little. Own type.
 #[derive(Debug, Drop, PartialEq, Eq)]
 pub enum PeekedOp {
     /// The protocol's `+OK`.
@@ -69,19 +70,21 @@ impl PeekedOp {
 /// An operation for the server, by the NATS client protocol. The crate's `ClientOp`.
 #[derive(Debug, Drop, PartialEq, Eq)]
 pub enum ClientOp {
-    /// The protocol's `SUB`: asks for the messages of `subject`, under the number `sid`, shared with the others of the queue group.
+    /// The protocol's `SUB`: asks for the messages of `subject`, under the number `sid`, shared with the others of
+    /// the queue group.
     Subscribe {
         sid: u64,
         subject: Subject,
         queue_group: Option<Subject>,
     },
-    /// The protocol's `UNSUB`: ends the subscription of the number `sid`, at once or once `max` messages were delivered to it.
+    /// The protocol's `UNSUB`: ends the subscription of the number `sid`, at once or once `max` messages were
+    /// delivered to it.
     Unsubscribe {
         sid: u64,
         max: Option<u64>,
     },
-    /// The protocol's `PUB`, and `HPUB` where headers are there and not empty: sends a payload to the subscribers of `subject`,
-    /// and says where an answer is asked to go.
+    /// The protocol's `PUB`, and `HPUB` where headers are there and not empty: sends a payload to the subscribers
+    /// of `subject`, and says where an answer is asked to go.
     Publish {
         subject: Subject,
         payload: Bytes,
@@ -92,7 +95,8 @@ pub enum ClientOp {
     Ping,
     /// The protocol's `PONG`: the answer to a `PING`.
     Pong,
-    /// The protocol's `CONNECT`: what the client tells of itself when a link begins. The crate's rule: it comes before all else.
+    /// The protocol's `CONNECT`: what the client tells of itself when a link begins. The crate's rule: it comes
+    /// before all else.
     Connect(ConnectInfo),
 }
 

@@ -39,8 +39,8 @@ impl Found {
     }
 }
 
-// Whether the first LF behind a place, which stands at `at`, ends a line. It is one step, or none where the LF stands at the
-// place: that it ends no line is known then.
+// Whether the first LF behind a place, which stands at `at`, ends a line. It is one step, or none where the LF
+// stands at the place: that it ends no line is known then.
 fn ends_line<L: Ledger>(buf: &InBuf, place: usize, at: usize, steps: &mut Steps<L>) -> bool
     requires within { (place ≤ at) × (at < length buf.now) }
     requires clear { IsTrue (clear_to place buf.now) }
@@ -56,8 +56,8 @@ fn ends_line<L: Ledger>(buf: &InBuf, place: usize, at: usize, steps: &mut Steps<
     buf.crlf_at(at - 1, steps)
 }
 
-/// Looks for the end of the first line from a place on, where none stands before it. No byte is tested twice, so that the steps
-/// are at most as many as the bytes that were not tested before and are now.
+/// Looks for the end of the first line from a place on, where none stands before it. No byte is tested twice, so
+/// that the steps are at most as many as the bytes that were not tested before and are now.
 pub fn search<L: Ledger>(buf: &InBuf, from: usize, steps: &mut Steps<L>) -> Found
     requires within { from ≤ length buf.now }
     requires clear { IsTrue (clear_to from buf.now) }

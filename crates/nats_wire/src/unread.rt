@@ -1,5 +1,5 @@
-//! The bytes that came over a link and that no operation took yet, with what is remembered of them: no byte is tested twice
-//! for the end of a line, and a line that announces a body isn't read again while the body comes.
+//! The bytes that came over a link and that no operation took yet, with what is remembered of them: no byte is
+//! tested twice for the end of a line, and a line that announces a body isn't read again while the body comes.
 ghost use Rattle.std.specs.Prelude.{◌≡◌, ◌++◌, ◌+◌, ◌-◌, ◌<◌, ◌≤◌, [], length, drop, option_map, true, None, IsTrue, IfOk, OnOk, OnErr};
 ghost use Rattle.std.specs.Bool.{OnFalse};
 ghost use Rattle.nats_wire.specs.Operations.{cut_line, sight, front, takes_memory, is_unfinished, got_or_fault, size_of, op_view};
@@ -163,7 +163,8 @@ impl Unread {
         !self.ready && matches!(self.sight(), Sight::Unfinished)
     }
 
-    // What stands at the front is less than an operation: how many bytes it needs is remembered, where its line tells that.
+    // What stands at the front is less than an operation: how many bytes it needs is remembered, where its line
+    // tells that.
     fn await_body(&mut self)
         ensures { self.new ≡ self.old }
     {
@@ -172,8 +173,9 @@ impl Unread {
         }
     }
 
-    // Whether messages are to share the bytes: an operation may stand there, and what is left of the bytes at the next piece,
-    // which is copied then, is at most twice what the last piece had. A short text that begins with no message isn't worth it.
+    // Whether messages are to share the bytes: an operation may stand there, and what is left of the bytes at the
+    // next piece, which is copied then, is at most twice what the last piece had. A short text that begins with no
+    // message isn't worth it.
     fn is_worth_sharing(&self) -> bool {
         let bytes = self.buf.as_slice();
         let begins = bytes.starts_with(b"MSG ") || bytes.starts_with(b"HMSG ");

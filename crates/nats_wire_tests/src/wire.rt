@@ -8,8 +8,8 @@ use std::alloc::Global;
 use std::str;
 use std::test::Fail;
 
-// Texts, and behind `~` what is read at their front and how many bytes stay. A message is its number, subject, reply, payload,
-// length, status, description and its header `K`; rows end at `|`.
+// Texts, and behind `~` what is read at their front and how many bytes stay. A message is its number, subject,
+// reply, payload, length, status, description and its header `K`; rows end at `|`.
 const READ: &str = "+OK\r\n~ok 0|PINGX\r\n~ping 0|PONG\r\nPI~pong 2\
 |ONE\r\nPING\r\n~fault 6|ONE\nPING\r~unfinished 9\
 |INFO {\"port\":42}\r\n~info 42 0|INFO {\"port\":-1}\r\n~fault 18|INFO {\"po~unfinished 9\

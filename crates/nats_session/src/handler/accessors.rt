@@ -26,9 +26,9 @@ impl ConnectionHandler {
         self.link
     }
 
-    /// Whether a step is due, which `advance` plays: an operation or a fault is at the front of the unread bytes, or a call
-    /// waits while fewer bytes than the soft limit of the write buffer do. It takes no memory. Our own name for what the
-    /// crate's loop does next.
+    /// Whether a step is due, which `advance` plays: an operation or a fault is at the front of the unread bytes,
+    /// or a call waits while fewer bytes than the soft limit of the write buffer do. It takes no memory. Our own
+    /// name for what the crate's loop does next.
     pub fn is_due(&self) -> bool
         ensures { result ≡ is_some (due self.now.parts) }
     {
@@ -41,9 +41,9 @@ impl ConnectionHandler {
         !self.connection.is_write_buf_full() && !self.calls.is_empty()
     }
 
-    /// Whether a turn may be played: it may come here, and no step is due. It is the condition of the call of that turn; a
-    /// `Do` may come where the subscription that it names, if it does, was given and not let go, a `Deadline` where its ticket was
-    /// given to a request. It takes no memory.
+    /// Whether a turn may be played: it may come here, and no step is due. It is the condition of the call of that
+    /// turn; a `Do` may come where the subscription that it names, if it does, was given and not let go, a
+    /// `Deadline` where its ticket was given to a request. It takes no memory.
     pub fn check(&self, turn: &Turn) -> bool
         ensures { result ≡ can_play self.now.parts turn.now }
     {
@@ -119,8 +119,8 @@ impl ConnectionHandler {
         self.is_up
     }
 
-    /// How the session stands: `Pending` before its first link, `Connected` while a link is up, else `Disconnected`. The
-    /// crate's `connection_state`.
+    /// How the session stands: `Pending` before its first link, `Connected` while a link is up, else
+    /// `Disconnected`. The crate's `connection_state`.
     pub fn state(&self) -> State
         ensures { result ≡ state_of self.now.parts }
     {
@@ -141,7 +141,8 @@ impl ConnectionHandler {
         !is_full
     }
 
-    /// The limit of a payload's size with its header block, in bytes: that of the newest link's server, 1,048,576 before any.
+    /// The limit of a payload's size with its header block, in bytes: that of the newest link's server, 1,048,576
+    /// before any.
     pub fn max_payload(&self) -> u64
         ensures { result ≡ self.now.parts.link.max_payload }
     {
@@ -165,9 +166,10 @@ impl ConnectionHandler {
         self.reads
     }
 
-    /// What was counted over all links, each count up to 2^64 - 1: the messages that were read and their lengths, whatever became
-    /// of them; those of publishes and requests that were handled, with the bytes of subject, reply, header block and payload;
-    /// the links that came up. It takes no memory. The crate's `Client::statistics`; the crate counts the bytes of the link.
+    /// What was counted over all links, each count up to 2^64 - 1: the messages that were read and their lengths,
+    /// whatever became of them; those of publishes and requests that were handled, with the bytes of subject,
+    /// reply, header block and payload; the links that came up. It takes no memory. The crate's
+    /// `Client::statistics`; the crate counts the bytes of the link.
     pub fn statistics(&self) -> Statistics
         ensures { result ≡ self.now.parts.statistics }
     {
@@ -225,16 +227,16 @@ impl ConnectionHandler {
             .copy_waiting(alloc, self.connection.pending())
     }
 
-    /// The youngest waiting message of the subscription of number `s`, from 1; `None` where none waits, or the number was not
-    /// given or was let go. After `Due::Put(s)` it is the message that was put.
+    /// The youngest waiting message of the subscription of number `s`, from 1; `None` where none waits, or the
+    /// number was not given or was let go. After `Due::Put(s)` it is the message that was put.
     pub fn last_put(&self, s: u64) -> Option<&Message>
         ensures { option_copied result ≡ youngest (item_of s self.now.parts.subs.rows) }
     {
         self.subs.last(s)
     }
 
-    /// The oldest waiting message of the subscription of number `s`, from 1, which is the one that `take` takes; `None` exactly
-    /// where none waits. Own call.
+    /// The oldest waiting message of the subscription of number `s`, from 1, which is the one that `take` takes;
+    /// `None` exactly where none waits. Own call.
     pub fn first_waiting(&self, s: u64) -> Option<&Message>
         ensures { option_copied result ≡ first_of (item_of s self.now.parts.subs.rows) }
     {
@@ -280,9 +282,9 @@ impl ConnectionHandler {
         self.tickets.reply_of(t)
     }
 
-    /// Hands out the reply by which ticket `t` settled. `None` exactly where it did not settle or its reply was handed out, as
-    /// `laws::reply_once` says. It takes no memory, and looks through the settled tickets that were not handed out. Own call:
-    /// the crate has a channel for each.
+    /// Hands out the reply by which ticket `t` settled. `None` exactly where it did not settle or its reply was
+    /// handed out, as `laws::reply_once` says. It takes no memory, and looks through the settled tickets that were
+    /// not handed out. Own call: the crate has a channel for each.
     pub fn reply_of(&mut self, t: u64) -> Option<CallReply>
         ensures reply { result ≡ reply_in t self.old.ready }
         ensures rest { self.new ≡ record self.old { ready = without t self.old.ready } }

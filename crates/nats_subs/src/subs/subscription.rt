@@ -355,7 +355,8 @@ impl Subscription {
         Ok(())
     }
 
-    /// Adds the commands that subscribe it again on a new link: where it is open and not shut, with what is left of its limit.
+    /// Adds the commands that subscribe it again on a new link: where it is open and not shut, with what is left of
+    /// its limit.
     fn push_again(&self, alloc: Global, sid: u64, ops: &mut Vec<ClientOp>) -> Result<(), NoMemory>
         ensures { OnOk result (ops.new.items ≡ ops.old.items ++ again sid self.now) }
     {

@@ -1,4 +1,5 @@
--- A text without an LF behind a clear front has no line's end; where its first one ends no line, the search goes on past it.
+-- A text without an LF behind a clear front has no line's end; where its first one ends no line, the search goes on
+-- past it.
 use Rattle.std.proofs.Common.{◌≡◌, ◌+◌, ◌-◌, length, take, drop, None, Some, refl, ap, arith, ◌∙◌}
 use Rattle.std.proofs.lemmas.List.{take_rest}
 use Rattle.memchr.specs.Find.{IsFirstByte, is_byte}
