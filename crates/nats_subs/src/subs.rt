@@ -242,7 +242,8 @@ impl Subscriptions {
         message: Box<Message>,
     ) -> Result<(), NoMemory>
         ensures ok { OnOk result
-            (self.new ≡ with_rows (at_number sid (λ sub. kept (deliver config.now message.value sub)) self.old.rows) self.old) }
+            (self.new
+            ≡ with_rows (at_number sid (λ sub. kept (deliver config.now message.value sub)) self.old.rows) self.old) }
         ensures err { OnErr result (self.new ≡ self.old) }
     {
         self.table.try_alter(sid, Arrival { config, message })

@@ -52,7 +52,8 @@ pub trait Change<T: Row> {
         ensures { result ≡ answers self.now T.forgotten };
 
     /// What is forgotten stays so.
-    ghost leaves_forgotten: { (c : Self) → T.over T.forgotten ≡ true → tidied T.over T.forgotten (changes c T.forgotten) ≡ T.forgotten };
+    ghost leaves_forgotten: { (c : Self) → T.over T.forgotten ≡ true
+        → tidied T.over T.forgotten (changes c T.forgotten) ≡ T.forgotten };
 
     /// One that rests does so for good.
     ghost leaves_resting: { (c : Self) (row : T) → T.rests row ≡ true → T.rests (changes c row) ≡ true };
@@ -77,7 +78,8 @@ pub trait TryChange<T: Row> {
         ensures { result ≡ answers self T.forgotten };
 
     /// What is forgotten stays so.
-    ghost leaves_forgotten: { (c : Self) → T.over T.forgotten ≡ true → tidied T.over T.forgotten (changes c T.forgotten) ≡ T.forgotten };
+    ghost leaves_forgotten: { (c : Self) → T.over T.forgotten ≡ true
+        → tidied T.over T.forgotten (changes c T.forgotten) ≡ T.forgotten };
 
     /// One that rests does so for good.
     ghost leaves_resting: { (c : Self) (row : T) → T.rests row ≡ true → T.rests (changes c row) ≡ true };
@@ -101,7 +103,8 @@ impl<T: Row> Model for Table<T> {
 
     ghost view = { λ t. rows_in T.forgotten t.given t.kept.entries };
 
-    ghost invariant = { λ t. Keeps T.over T.forgotten t.given t.kept.entries × Indexes T.rests t.kept.entries t.awake.entries };
+    ghost invariant = { λ t. Keeps T.over T.forgotten t.given t.kept.entries
+        × Indexes T.rests t.kept.entries t.awake.entries };
 }
 
 fn forget<V: Drop>(map: &mut BTreeMap<u64, V>, number: u64)
@@ -202,7 +205,8 @@ impl<T: Row> Table<T> {
 
     /// Changes the row of a number, if it was given, and forgets it where it is over then. It takes no memory.
     pub fn alter<C: Change<T>>(&mut self, number: u64, change: &C) -> C::Answer
-        ensures changed { self.new ≡ at_number number (λ row. tidied T.over T.forgotten (C.changes change.now row)) self.old }
+        ensures changed { self.new
+            ≡ at_number number (λ row. tidied T.over T.forgotten (C.changes change.now row)) self.old }
         ensures answer { result ≡ C.answers change.now (row_at T.forgotten number self.old) }
     {
         let Some(row) = self.kept.get_mut(&number) else {
@@ -226,7 +230,8 @@ impl<T: Row> Table<T> {
         number: u64,
         change: C,
     ) -> Result<C::Answer, NoMemory>
-        ensures ok { OnOk result (self.new ≡ at_number number (λ row. tidied T.over T.forgotten (C.changes change row)) self.old) }
+        ensures ok { OnOk result (self.new
+            ≡ at_number number (λ row. tidied T.over T.forgotten (C.changes change row)) self.old) }
         ensures answer { IfOk result (λ a. a ≡ C.answers change (row_at T.forgotten number self.old)) }
         ensures err { OnErr result (self.new ≡ self.old) }
     {

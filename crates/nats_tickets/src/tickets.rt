@@ -58,7 +58,8 @@ impl Model for Tickets {
     } };
 
     ghost invariant = { λ t. (t.handled + deque_len t.queued ≡ t.given) × AllBelow t.handled t.asking
-        × (deque_len t.ready + (deque_len t.marks + (length t.asking + pending t.queued.items)) ≤ deque_capacity t.ready) };
+        × (deque_len t.ready + (deque_len t.marks + (length t.asking + pending t.queued.items))
+        ≤ deque_capacity t.ready) };
 }
 
 /// Drops all requests that wait for a reply.
@@ -181,7 +182,8 @@ fn push_replied(ready: &mut VecDeque<(u64, CallReply)>, ticket: Option<u64>, mes
 /// A request settles by its deadline, where it is unsettled.
 fn push_timed_out(ready: &mut VecDeque<(u64, CallReply)>, ticket: u64, is_unsettled: bool)
     requires { deque_len ready.old + bit is_unsettled ≤ deque_capacity ready.old }
-    ensures ready { ready.new.items ≡ ready.old.items ++ (if is_unsettled then (ticket, replies.TimedOut) ∷ [] else []) }
+    ensures ready { ready.new.items
+        ≡ ready.old.items ++ (if is_unsettled then (ticket, replies.TimedOut) ∷ [] else []) }
     ensures len { deque_len ready.new ≡ deque_len ready.old + bit is_unsettled }
     ensures capacity { deque_capacity ready.new ≡ deque_capacity ready.old }
 {

@@ -46,7 +46,8 @@ impl ConnectionHandler {
             (λ connection. connection.wire ≡ record {
               unread = [];
               waiting = write_all
-                  (all_again 1 self.old.parts.subs.rows ++ inbox_commands self.old.parts.config self.old.parts.requested) [];
+                  (all_again 1 self.old.parts.subs.rows
+                  ++ inbox_commands self.old.parts.config self.old.parts.requested) [];
             }) }
         ensures ok { OnOk result (self.new ≡ record self.old { events = self.old.events ++ Connected ∷ [] }) }
         ensures err { OnErr result (self.new ≡ self.old) }

@@ -408,7 +408,8 @@ impl ConnectionHandler {
         sid: u64,
         message: Box<Message>,
     ) -> Result<Due, NoMemory>
-        ensures ok { OnOk result (self.new ≡ after_message sid message.value (delivery_of self.old.parts sid) self.old) }
+        ensures ok { OnOk result
+            (self.new ≡ after_message sid message.value (delivery_of self.old.parts sid) self.old) }
         ensures name { IfOk result (λ name. name ≡ delivery_name sid message.value (delivery_of self.old.parts sid)) }
         ensures err { OnErr result (self.new ≡ self.old) }
     {
