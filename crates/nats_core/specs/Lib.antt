@@ -1,4 +1,0 @@
-pub mod Journal
-pub mod Replies
-pub mod Calls
-pub mod Links
