@@ -143,7 +143,11 @@ impl Connection {
     /// `ReadFault` exactly where the bytes at the front are no operation: a line that begins with no word of the
     /// protocol is taken away, so is a message with a bad header block, and else nothing is. `NoMemory` as in
     /// `peek_op`, and nothing is taken.
-    pub fn try_read_op<L: Ledger>(&mut self, alloc: Global, steps: &mut Steps<L>) -> Result<Option<ServerOp>, WireError>
+    pub fn try_read_op<L: Ledger>(
+        &mut self,
+        alloc: Global,
+        steps: &mut Steps<L>,
+    ) -> Result<Option<ServerOp>, WireError>
         ensures reads { Reads (front self.old.wire.unread) (takes_memory self.old.wire.unread)
             self.old.wire.unread result self.new.wire.unread }
         ensures paid { Paid steps.old self.old.untested steps.new self.new.untested }
@@ -166,7 +170,11 @@ impl Connection {
         self.read_counted::<Brand>(alloc, Blank::new(1))
     }
 
-    fn read_counted<L: Ledger>(&mut self, alloc: Global, blank: Blank) -> Result<Option<ServerOp>, WireError>
+    fn read_counted<L: Ledger>(
+        &mut self,
+        alloc: Global,
+        blank: Blank,
+    ) -> Result<Option<ServerOp>, WireError>
         requires name { blank.name ≡ L.name }
         requires parts { (blank.parts ≡ L.parts) × (0 < L.parts) }
         ensures reads { Reads (front self.old.wire.unread) (takes_memory self.old.wire.unread)

@@ -217,7 +217,11 @@ impl Unread {
     }
 
     /// Takes the operation at their front, `None` where that is less than an operation.
-    pub fn read<L: Ledger>(&mut self, alloc: Global, steps: &mut Steps<L>) -> Result<Option<ServerOp>, WireError>
+    pub fn read<L: Ledger>(
+        &mut self,
+        alloc: Global,
+        steps: &mut Steps<L>,
+    ) -> Result<Option<ServerOp>, WireError>
         ensures reads { Reads (front self.old.bytes) (takes_memory self.old.bytes)
             self.old.bytes result self.new.bytes }
         ensures paid { Paid steps.old self.old.untested steps.new self.new.untested }
@@ -242,7 +246,12 @@ impl Unread {
     }
 
     // Takes an operation that was read, with its bytes, or those of a text that turned out to be none.
-    fn take(&mut self, found: Option<ServerOp>, len: usize, lost: usize) -> Result<Option<ServerOp>, WireError>
+    fn take(
+        &mut self,
+        found: Option<ServerOp>,
+        len: usize,
+        lost: usize,
+    ) -> Result<Option<ServerOp>, WireError>
         requires { size_of (got_or_fault len lost (option_map op_view found)) ≤ length self.old.bytes }
         ensures reads { Reads (got_or_fault len lost (option_map op_view found)) true
             self.old.bytes result self.new.bytes }

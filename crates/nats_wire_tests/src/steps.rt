@@ -40,7 +40,9 @@ fn count_by_bytes<L: Ledger>(alloc: Global, blank: Blank, bytes: &[u8]) -> Resul
 }
 
 #[test]
-fn a_message_that_comes_byte_by_byte_costs_a_step_a_byte_at_most(rt: HostRuntime) -> Result<(), Fail> {
+fn a_message_that_comes_byte_by_byte_costs_a_step_a_byte_at_most(
+    rt: HostRuntime,
+) -> Result<(), Fail> {
     let alloc = rt.alloc();
     let mut bytes = Vec::from_slice(alloc, b"MSG a 1 1000\r\n")?;
     for _ in 0..PAYLOAD {
