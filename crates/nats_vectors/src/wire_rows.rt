@@ -136,6 +136,7 @@ fn a_client_with_nothing_to_tell_connects(rt: HostRuntime) -> Result<(), Fail> {
     let alloc = rt.alloc();
     let mut connection = Connection::new(alloc);
     connection.enqueue_write_op(alloc, &ClientOp::Connect(plain_info(alloc)?))?;
-    assert_eq!(rt; connection.waiting(), CONNECT.as_bytes());
+    let text = connection.copy_waiting(alloc, connection.pending())?;
+    assert_eq!(rt; text.as_slice(), CONNECT.as_bytes());
     Ok(())
 }
