@@ -63,7 +63,7 @@ pub(crate) fn reply_again(reply: &StepReply, message: Option<Message>) -> StepRe
 
 /// A copy of a message, if there is one.
 fn copied(alloc: Global, message: Option<&Message>) -> Result<Option<Message>, NoMemory>
-    ensures { IfOk result (λ m. m ≡ option_copied message) }
+    ensures { IfOk result (λ m. m ≡ option_copied message.entry) }
 {
     match message {
         Some(message) => Ok(Some(message.copy(alloc)?)),
