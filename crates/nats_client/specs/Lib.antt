@@ -1,0 +1,4 @@
+pub mod Aside
+pub mod Errors
+pub mod Spawning
+pub mod System
