@@ -1,0 +1,264 @@
+-- How far a session is on the one link of its life, over the bytes that the link gave and took behind the handshake.
+use Rattle.std.specs.Prelude.{◌≡◌, ◌⊎◌, ◌≤◌, ◌<◌, ℕ, ◌+◌, Bool, true, false, List, [], ◌∷◌, ◌++◌, length, take, drop, Option, Some, None, option_map, Result, Ok, Err, codes}
+use Rattle.std.specs.Global.{Vec}
+use Rattle.std.specs.List.{concat, flat_map}
+use Rattle.nats_names.specs.Names.{is_publishable, is_valid}
+use Rattle.nats_names.specs.declared.cause.Cause.TheVariants as cause
+use Rattle.nats_wire.specs.declared.op.ClientOp.TheVariants as client
+use Rattle.nats_wire.specs.Commands.{command_text}
+use Rattle.nats_wire.specs.declared.message.Message.{Message}
+use Rattle.nats_wire.specs.Operations.{Operation, operations}
+use Rattle.nats_outside.specs.Told.{ReadTold, WriteTold}
+use Rattle.nats_dial.specs.Lines.{Took}
+use Rattle.nats_history.specs.declared.call.Call.TheVariants as call
+use Rattle.nats_history.specs.declared.call.CallReply.TheVariants as replies
+use Rattle.nats_core.specs.declared.entry.StepReply.{StepReply}
+use Rattle.nats_core.specs.declared.entry.StepReply.TheVariants as answers
+use Rattle.nats_core.specs.Journal.{Logged, with_session}
+use Rattle.nats_core.specs.Calls.{parts_in}
+use Rattle.nats_tickets.specs.Kept.{reply_in, without}
+use Rattle.nats_history.specs.declared.config.Config.{Config}
+use Rattle.nats_history.specs.declared.stage.Stage.TheVariants as stages
+use Rattle.nats_history.specs.declared.waits.Waits.{Waits}
+use Rattle.nats_history.specs.declared.waits.Waits.TheVariants as waits
+use Rattle.nats_history.specs.History.{Sub, Tickets, Awaits, no_tickets}
+use Rattle.nats_history.specs.Parts.{Parts, Subs}
+use Rattle.nats_history.specs.Schedule.{due}
+use Rattle.nats_session.specs.Handler.{Seen}
+use Rattle.nats_client.specs.declared.errors.PublishErrorKind.TheVariants as publishing
+use Rattle.nats_client.specs.declared.errors.SubscribeErrorKind.TheVariants as subscribing
+use Rattle.nats_script.specs.Printed.{message_line}
+use Rattle.nats_live.specs.declared.error.LiveError.{LiveError}
+use Rattle.nats_live.specs.declared.error.LiveError.TheVariants as refused
+use Rattle.nats_live.specs.Ended.{messages, pongs, ends_in_fault}
+
+-- ---- what is read
+
+-- what is unread goes on with some bytes behind the operations that were read of them: whatever comes behind both
+pub record GoesOn (joined : List ℕ) (done : List Operation) (unread : List ℕ) : Type 0 where
+  pub ops : (more : List ℕ) → operations (joined ++ more) ≡ done ++ operations (unread ++ more)
+  pub faults : (more : List ℕ) → ends_in_fault (joined ++ more) ≡ ends_in_fault (unread ++ more)
+
+-- ---- the session
+
+-- the settings of default options, with this mux id
+abbrev pub default_config : List ℕ → Config
+default_config mux = record {
+  client_capacity = 2048;
+  subscription_capacity = 65536;
+  skip_subject_validation = false;
+  inbox_prefix = codes "_INBOX";
+  mux_id = mux;
+}
+
+-- it did not close and is not drained, wrote no PING, and asked for no reply
+pub record IsCalm (p : Parts) : Type 0 where
+  pub mux : List ℕ
+  pub config : p.config ≡ default_config mux
+  pub unclosed : p.is_closed ≡ false
+  pub undrained : p.drain ≡ record { is_accepted = false; is_handled = false }
+  pub unpinged : p.link.pings ≡ []
+  pub unasked : p.requested ≡ false
+
+abbrev pub no_subs : Subs
+no_subs = record { given = 0; subscribed = 0; rows = [] }
+
+-- the link came up with this limit of payloads, gave these bytes, and all that they made due is done: each PING of theirs is
+-- answered, or they end in what is no operation, and the link is over
+pub record HasBegun (most : ℕ) (joined : List ℕ) (seen : Seen) : Type 0 where
+  pub calm : IsCalm seen.parts
+  pub limit : seen.parts.link.max_payload ≡ most
+  pub settled : due seen.parts ≡ None
+  pub calls : seen.parts.calls ≡ []
+  pub subs : seen.parts.subs ≡ no_subs
+  pub tickets : seen.parts.tickets ≡ no_tickets
+  pub ready : seen.ready ≡ []
+  pub up : seen.parts.link.is_up ≡ true → GoesOn joined (operations joined) seen.parts.link.wire.unread
+      × (seen.parts.link.wire.waiting ≡ pongs (operations joined))
+  pub down : seen.parts.link.is_up ≡ false → ends_in_fault joined ≡ true
+
+-- the same, but for want of memory, where nothing else is refused
+abbrev pub HasBegunOr : ℕ → List ℕ → Result (Unit {0}) LiveError → Seen → Type 0
+HasBegunOr most joined (Ok done) seen = HasBegun most joined seen
+HasBegunOr most joined (Err e) seen = e ≡ refused.NoMemory
+
+-- ---- a flush
+
+-- the one ticket is of a flush, handled or not, that awaits so many bytes
+abbrev pub one_flush : ℕ → List Waits → List Awaits → Tickets
+one_flush handled queued flushing = record {
+  given = 1;
+  handled = handled;
+  of_request = false ∷ [];
+  queued = queued;
+  flushing = flushing;
+  asking = [];
+}
+
+-- it waits to be handled, or it awaits all bytes that wait, or it is done and none waits
+abbrev pub IsFlushing : Seen → Type 0
+IsFlushing seen =
+    ((seen.parts.calls ≡ call.Flush ∷ []) × (seen.parts.tickets ≡ one_flush 0 (waits.Flush ∷ []) []) × (seen.ready ≡ []))
+    ⊎ (((seen.parts.calls ≡ []) × (0 < length seen.parts.link.wire.waiting)
+    × (seen.parts.tickets ≡ one_flush 1 [] (record { ticket = 1; ahead = length seen.parts.link.wire.waiting } ∷ [])) × (seen.ready ≡ []))
+    ⊎ ((seen.parts.calls ≡ []) × (seen.parts.link.wire.waiting ≡ []) × (seen.ready ≡ (1, replies.Flushed) ∷ [])))
+
+-- no step is due; while the link is up, what it took and what waits are this text, and the flush is so far
+pub record Flushes (text took : List ℕ) (seen : Seen) : Type 0 where
+  pub calm : IsCalm seen.parts
+  pub settled : due seen.parts ≡ None
+  pub up : seen.parts.link.is_up ≡ true → (took ++ seen.parts.link.wire.waiting ≡ text) × IsFlushing seen
+  pub down : seen.parts.link.is_up ≡ false → (seen.ready ≡ []) ⊎ (seen.ready ≡ (1, replies.FlushFailed) ∷ [])
+
+-- what a flush comes to: the link took all of the text behind what it had taken; or it was over before, or failed
+abbrev pub FlushEnds : Bool → List ℕ → Result (Unit {0}) LiveError → WriteTold → Type 0
+FlushEnds up all (Ok done) w = Took all w
+FlushEnds up all (Err refused.LinkEnded) w = (up ≡ false) ⊎ (1 ≤ w.faults)
+FlushEnds up all (Err refused.NoMemory) w = Unit {0}
+FlushEnds up all (Err (refused.Connect e)) w = ⊥
+FlushEnds up all (Err (refused.Publish e)) w = ⊥
+FlushEnds up all (Err (refused.Subscribe e)) w = ⊥
+
+-- ---- a subscription
+
+-- the one subscription is open, asks for this subject, has no limit, and these messages wait
+abbrev pub open_sub : List ℕ → ℕ → List Message → Sub
+open_sub subject puts waiting = record {
+  interest = Some (record { subject = subject; queue_group = None });
+  stage = stages.Open;
+  is_shut = false;
+  is_gone = false;
+  is_draining = false;
+  limit = None;
+  puts = puts;
+  waiting = waiting;
+}
+
+-- the text of a session that subscribed once it had read some operations, and read more since
+abbrev pub subscribed_text : List ℕ → List Operation → List Operation → List ℕ
+subscribed_text subject first since =
+    pongs first ++ command_text (client.Subscribe 1 subject None) ++ pongs since
+
+-- the link gave these bytes, whose operations are the first ones, read before the subscribe, and those since; of the messages of
+-- subscription 1 since then so many were taken, and the others wait; it took these bytes of the session's text
+pub record Receives (subject joined : List ℕ) (first since : List Operation) (took : List ℕ) (taken : ℕ) (seen : Seen) : Type 0 where
+  pub calm : IsCalm seen.parts
+  pub settled : due seen.parts ≡ None
+  pub calls : seen.parts.calls ≡ []
+  pub all : operations joined ≡ first ++ since
+  pub fits : taken ≤ length (messages 1 since)
+  pub puts : ℕ
+  pub subs : seen.parts.subs ≡ record {
+    given = 1;
+    subscribed = 1;
+    rows = open_sub subject puts (drop taken (messages 1 since)) ∷ [];
+  }
+  pub up : seen.parts.link.is_up ≡ true → GoesOn joined (first ++ since) seen.parts.link.wire.unread
+      × (took ++ seen.parts.link.wire.waiting ≡ subscribed_text subject first since)
+  pub left : List ℕ
+  pub text : took ++ left ≡ subscribed_text subject first since
+
+-- ---- calls
+
+-- what comes of publishing on a session that has begun: the publish is written behind the PONGs, unless the link is over, and a flush
+-- awaits all of it; or the subject or the payload is refused
+abbrev pub published_text : List ℕ → List ℕ → List ℕ → List ℕ
+published_text joined subject payload =
+    pongs (operations joined) ++ command_text (client.Publish subject payload None None)
+
+abbrev pub Accepts : ℕ → List ℕ → List ℕ → List ℕ → Result ℕ LiveError → Seen → Seen → Type 0
+Accepts limit joined subject payload (Ok ticket) old new = (ticket ≡ 1)
+    × Flushes (published_text joined subject payload) [] new × (new.parts.link.is_up ≡ old.parts.link.is_up)
+Accepts limit joined subject payload (Err (refused.Publish (publishing.InvalidSubject, source))) old new =
+    (source ≡ Some cause.Format) × (is_publishable subject ≡ false)
+Accepts limit joined subject payload (Err (refused.Publish (publishing.MaxPayloadExceeded, Some (cause.Payload most size)))) old new =
+    (most ≡ limit) × (size ≡ length payload) × (limit < size)
+Accepts limit joined subject payload (Err (refused.Publish e)) old new = ⊥
+Accepts limit joined subject payload (Err (refused.Subscribe e)) old new = ⊥
+Accepts limit joined subject payload (Err (refused.Connect e)) old new = ⊥
+Accepts limit joined subject payload (Err refused.LinkEnded) old new = ⊥
+Accepts limit joined subject payload (Err refused.NoMemory) old new = Unit {0}
+
+-- what the reply to a publish comes to, and to a flush
+abbrev pub publish_answer : StepReply → Result (Unit {0}) LiveError
+publish_answer (answers.Call replies.Accepted) = Ok tt
+publish_answer (answers.Call replies.InvalidSubject) =
+    Err (refused.Publish (publishing.InvalidSubject, Some cause.Format))
+publish_answer (answers.Call (replies.MaxPayloadExceeded limit size)) =
+    Err (refused.Publish (publishing.MaxPayloadExceeded, Some (cause.Payload limit size)))
+publish_answer reply = Err (refused.Publish (publishing.Send, Some cause.Closed))
+
+abbrev pub ticket_of : StepReply → Result ℕ LiveError
+ticket_of (answers.Call (replies.Numbered ticket)) = Ok ticket
+ticket_of reply = Err (refused.Publish (publishing.Send, Some cause.Closed))
+
+-- whether a ticket's reply is there, which is then handed out; one that isn't never comes once no link is up
+abbrev pub IsSettled : ℕ → Logged → Option (Result (Unit {0}) LiveError) → Logged → Type 0
+IsSettled ticket old (Some (Ok done)) new = reply_in ticket old.session.ready ≡ Some replies.Flushed
+IsSettled ticket old (Some (Err e)) new = (e ≡ refused.LinkEnded)
+    × (((reply_in ticket old.session.ready ≡ Some replies.Flushed) → ⊥)
+    × ((reply_in ticket old.session.ready ≡ None) → (parts_in old).link.is_up ≡ false))
+IsSettled ticket old None new = (reply_in ticket old.session.ready ≡ None) × ((parts_in old).link.is_up ≡ true)
+    × (new ≡ with_session (record old.session { ready = without ticket old.session.ready }) old)
+
+-- what comes of publishing on a session that has begun, on a link that took some text before
+abbrev pub Publishes : ℕ → List ℕ → List ℕ → List ℕ → List ℕ → Result (Unit {0}) LiveError → Seen → WriteTold → Type 0
+Publishes limit joined head subject payload (Ok done) old w = Took (head ++ published_text joined subject payload) w
+Publishes limit joined head subject payload (Err (refused.Publish (publishing.InvalidSubject, source))) old w =
+    (source ≡ Some cause.Format) × (is_publishable subject ≡ false)
+Publishes limit joined head subject payload (Err (refused.Publish (publishing.MaxPayloadExceeded, Some (cause.Payload most size)))) old w =
+    (most ≡ limit) × (size ≡ length payload) × (limit < size)
+Publishes limit joined head subject payload (Err (refused.Publish e)) old w = ⊥
+Publishes limit joined head subject payload (Err (refused.Subscribe e)) old w = ⊥
+Publishes limit joined head subject payload (Err (refused.Connect e)) old w = ⊥
+Publishes limit joined head subject payload (Err refused.LinkEnded) old w = (old.parts.link.is_up ≡ false) ⊎ (1 ≤ w.faults)
+Publishes limit joined head subject payload (Err refused.NoMemory) old w = Unit {0}
+
+-- what comes of subscribing on one: its subscription is open, unless the link is over; or the subject is refused
+abbrev pub Subscribes : List ℕ → List ℕ → Result (Unit {0}) LiveError → Seen → Seen → Type 0
+Subscribes joined subject (Ok done) old new = (new.parts.link.is_up ≡ old.parts.link.is_up)
+    × (old.parts.link.is_up ≡ true → Receives subject joined (operations joined) [] [] 0 new)
+Subscribes joined subject (Err (refused.Subscribe (subscribing.InvalidSubject, source))) old new =
+    (source ≡ Some cause.Format) × (is_valid subject ≡ false)
+Subscribes joined subject (Err (refused.Subscribe e)) old new = ⊥
+Subscribes joined subject (Err (refused.Publish e)) old new = ⊥
+Subscribes joined subject (Err (refused.Connect e)) old new = ⊥
+Subscribes joined subject (Err refused.LinkEnded) old new = ⊥
+Subscribes joined subject (Err refused.NoMemory) old new = Unit {0}
+
+-- ---- what came of receiving
+
+-- a half gave more pieces, which are these bytes
+pub record GaveLater (bytes : List ℕ) (before after : ReadTold) : Type 0 where
+  pub later : List (List ℕ)
+  pub pieces : after.pieces ≡ option_map (λ (ps : List (List ℕ)). ps ++ later) before.pieces
+  pub joined : concat later ≡ bytes
+
+-- a half or the link's end broke it off, or what it gave ends in what is no operation
+abbrev pub IsOver : List ℕ → ReadTold → WriteTold → Type 0
+IsOver joined r w = (1 ≤ r.faults + w.faults) ⊎ ((1 ≤ r.ends) ⊎ (ends_in_fault joined ≡ true))
+
+-- how far receiving is, on a link that gave some bytes and took some text before: it gave more bytes, and took more text
+pub record IsReceiving (subject joined : List ℕ) (first : List Operation) (taken : ℕ) (head : List ℕ) (seen : Seen)
+    (r0 r : ReadTold) (w : WriteTold) : Type 0 where
+  pub bytes : List ℕ
+  pub since : List Operation
+  pub took : List ℕ
+  pub gave : GaveLater bytes r0 r
+  pub receives : Receives subject (joined ++ bytes) first since took taken seen
+  pub wrote : Took (head ++ took) w
+  pub over : seen.parts.link.is_up ≡ false → IsOver (joined ++ bytes) r w
+
+-- n messages were printed, the first of subscription 1 since it subscribed; or fewer came, and the link is over
+abbrev pub ReceiveEnds : List ℕ → List ℕ → List Operation → ℕ → List ℕ → Result (Vec ℕ) LiveError → Seen → ReadTold → ReadTold
+    → WriteTold → Type 0
+ReceiveEnds subject joined first n head (Ok text) seen r0 r w =
+    (far : IsReceiving subject joined first n head seen r0 r w)
+    × (text.items ≡ flat_map message_line (take n (messages 1 far.since)))
+ReceiveEnds subject joined first n head (Err refused.LinkEnded) seen r0 r w = (taken : ℕ)
+    × (far : IsReceiving subject joined first taken head seen r0 r w)
+    × (taken ≡ length (messages 1 far.since)) × (taken < n) × (seen.parts.link.is_up ≡ false)
+ReceiveEnds subject joined first n head (Err refused.NoMemory) seen r0 r w = Unit {0}
+ReceiveEnds subject joined first n head (Err (refused.Connect e)) seen r0 r w = ⊥
+ReceiveEnds subject joined first n head (Err (refused.Publish e)) seen r0 r w = ⊥
+ReceiveEnds subject joined first n head (Err (refused.Subscribe e)) seen r0 r w = ⊥
