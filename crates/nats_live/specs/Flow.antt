@@ -1,9 +1,10 @@
 -- How far a session is on the one link of its life, over the bytes that the link gave and took behind the handshake.
-use Rattle.std.specs.Prelude.{◌≡◌, ◌⊎◌, ◌≤◌, ◌<◌, ℕ, ◌+◌, Bool, true, false, List, [], ◌∷◌, ◌++◌, length, take, drop, Option, Some, None, option_map, Result, Ok, Err, codes}
+use Rattle.std.specs.Prelude.{◌≡◌, ◌⊎◌, ◌≤◌, ◌<◌, ℕ, ◌+◌, ◌-◌, Bool, true, false, List, [], ◌∷◌, ◌++◌, length, take, drop, Option, Some, None, option_map, Result, Ok, Err, codes}
 use Rattle.std.specs.Global.{Vec}
 use Rattle.std.specs.List.{concat, flat_map}
 use Rattle.nats_names.specs.Names.{is_publishable, is_valid}
 use Rattle.nats_names.specs.declared.cause.Cause.TheVariants as cause
+use Rattle.nats_names.specs.declared.failed.NoMemory.{NoMemory}
 use Rattle.nats_wire.specs.declared.op.ClientOp.TheVariants as client
 use Rattle.nats_wire.specs.Commands.{command_text}
 use Rattle.nats_wire.specs.declared.message.Message.{Message}
@@ -262,3 +263,89 @@ ReceiveEnds subject joined first n head (Err refused.NoMemory) seen r0 r w = Uni
 ReceiveEnds subject joined first n head (Err (refused.Connect e)) seen r0 r w = ⊥
 ReceiveEnds subject joined first n head (Err (refused.Publish e)) seen r0 r w = ⊥
 ReceiveEnds subject joined first n head (Err (refused.Subscribe e)) seen r0 r w = ⊥
+
+-- ---- the rounds of receiving
+
+-- what the reply to a subscribe comes to
+abbrev pub subscribe_answer : StepReply → Result (Unit {0}) LiveError
+subscribe_answer (answers.Call (replies.Numbered number)) = Ok tt
+subscribe_answer (answers.Call replies.InvalidSubject) =
+    Err (refused.Subscribe (subscribing.InvalidSubject, Some cause.Format))
+subscribe_answer reply = Err (refused.Subscribe (subscribing.Other, Some cause.Closed))
+
+-- the oldest message that waits was taken; none where none does
+abbrev pub TakesOne : List ℕ → List ℕ → List Operation → List Operation → List ℕ → ℕ → Result (Option Message) NoMemory → Seen → Type 0
+TakesOne subject joined first since took taken (Ok (Some m)) new = Receives subject joined first since took (taken + 1) new
+    × (take (taken + 1) (messages 1 since) ≡ take taken (messages 1 since) ++ m ∷ [])
+TakesOne subject joined first since took taken (Ok None) new = Receives subject joined first since took taken new
+    × (taken ≡ length (messages 1 since))
+TakesOne subject joined first since took taken (Err e) new = Unit {0}
+
+-- messages that waited were taken and printed, until no more are wanted or none waits
+abbrev pub TakesAll : List ℕ → List ℕ → List Operation → List Operation → List ℕ → ℕ → ℕ → List ℕ → Result ℕ NoMemory → Seen
+    → List ℕ → Type 0
+TakesAll subject joined first since took taken wanted before (Ok left) new after = (left ≤ wanted)
+    × Receives subject joined first since took (taken + (wanted - left)) new
+    × (after ≡ before ++ flat_map message_line (take (wanted - left) (drop taken (messages 1 since))))
+    × ((left ≡ 0) ⊎ (taken + (wanted - left) ≡ length (messages 1 since)))
+TakesAll subject joined first since took taken wanted before (Err e) new after = Unit {0}
+
+-- all that waited was written, or the link is over
+abbrev pub IsWritten : List ℕ → List ℕ → List Operation → List Operation → ℕ → List ℕ → Result (Unit {0}) NoMemory → Seen
+    → WriteTold → WriteTold → Type 0
+IsWritten subject joined first since taken head (Ok done) new before after = (took : List ℕ)
+    × Receives subject joined first since took taken new × Took (head ++ took) after × (before.faults ≤ after.faults)
+    × (new.parts.link.is_up ≡ true → took ≡ subscribed_text subject first since)
+    × (new.parts.link.is_up ≡ false → 1 ≤ after.faults)
+IsWritten subject joined first since taken head (Err e) new before after = Unit {0}
+
+-- what comes of receiving on a session that has begun, on a link that took some text before
+abbrev pub ReceivesAll : List ℕ → List ℕ → List ℕ → ℕ → Result (Vec ℕ) LiveError → Seen → ReadTold → ReadTold → WriteTold → Type 0
+ReceivesAll joined head subject n (Ok text) seen r0 r w =
+    ReceiveEnds subject joined (operations joined) n head (Ok text) seen r0 r w
+ReceivesAll joined head subject n (Err (refused.Subscribe (subscribing.InvalidSubject, source))) seen r0 r w =
+    (source ≡ Some cause.Format) × (is_valid subject ≡ false)
+ReceivesAll joined head subject n (Err (refused.Subscribe e)) seen r0 r w = ⊥
+ReceivesAll joined head subject n (Err (refused.Publish e)) seen r0 r w = ⊥
+ReceivesAll joined head subject n (Err (refused.Connect e)) seen r0 r w = ⊥
+ReceivesAll joined head subject n (Err refused.LinkEnded) seen r0 r w = ((r ≡ r0) × (ends_in_fault joined ≡ true))
+    ⊎ ReceiveEnds subject joined (operations joined) n head (Err refused.LinkEnded) seen r0 r w
+ReceivesAll joined head subject n (Err refused.NoMemory) seen r0 r w = Unit {0}
+
+-- ---- a session from its beginning to its end, seen by the link alone
+
+abbrev pub PublishedOver : ℕ → List ℕ → List ℕ → List ℕ → List ℕ → Result (Unit {0}) LiveError → WriteTold → Type 0
+PublishedOver limit joined head subject payload (Ok done) w = Took (head ++ published_text joined subject payload) w
+PublishedOver limit joined head subject payload (Err (refused.Publish (publishing.InvalidSubject, source))) w =
+    (source ≡ Some cause.Format) × (is_publishable subject ≡ false)
+PublishedOver limit joined head subject payload (Err (refused.Publish (publishing.MaxPayloadExceeded, Some (cause.Payload most size)))) w =
+    (most ≡ limit) × (size ≡ length payload) × (limit < size)
+PublishedOver limit joined head subject payload (Err (refused.Publish e)) w = ⊥
+PublishedOver limit joined head subject payload (Err (refused.Subscribe e)) w = ⊥
+PublishedOver limit joined head subject payload (Err (refused.Connect e)) w = ⊥
+PublishedOver limit joined head subject payload (Err refused.LinkEnded) w = (ends_in_fault joined ≡ true) ⊎ (1 ≤ w.faults)
+PublishedOver limit joined head subject payload (Err refused.NoMemory) w = Unit {0}
+
+-- the link gave more bytes and took more text: so far receiving came
+pub record CameSoFar (subject joined head : List ℕ) (r0 r : ReadTold) (w : WriteTold) : Type 0 where
+  pub bytes : List ℕ
+  pub since : List Operation
+  pub took : List ℕ
+  pub left : List ℕ
+  pub gave : GaveLater bytes r0 r
+  pub all : operations (joined ++ bytes) ≡ operations joined ++ since
+  pub text : took ++ left ≡ subscribed_text subject (operations joined) since
+  pub wrote : Took (head ++ took) w
+
+abbrev pub ReceivedOver : List ℕ → List ℕ → List ℕ → ℕ → Result (Vec ℕ) LiveError → ReadTold → ReadTold → WriteTold → Type 0
+ReceivedOver joined head subject n (Ok text) r0 r w = (far : CameSoFar subject joined head r0 r w)
+    × (n ≤ length (messages 1 far.since)) × (text.items ≡ flat_map message_line (take n (messages 1 far.since)))
+    × ((answered : List ℕ) × (far.took ≡ subscribed_text subject (operations joined) [] ++ answered))
+ReceivedOver joined head subject n (Err (refused.Subscribe (subscribing.InvalidSubject, source))) r0 r w =
+    (source ≡ Some cause.Format) × (is_valid subject ≡ false)
+ReceivedOver joined head subject n (Err (refused.Subscribe e)) r0 r w = ⊥
+ReceivedOver joined head subject n (Err (refused.Publish e)) r0 r w = ⊥
+ReceivedOver joined head subject n (Err (refused.Connect e)) r0 r w = ⊥
+ReceivedOver joined head subject n (Err refused.LinkEnded) r0 r w = ((r ≡ r0) × (ends_in_fault joined ≡ true))
+    ⊎ ((far : CameSoFar subject joined head r0 r w) × (length (messages 1 far.since) < n) × IsOver (joined ++ far.bytes) r w)
+ReceivedOver joined head subject n (Err refused.NoMemory) r0 r w = Unit {0}

@@ -1,4 +1,6 @@
+pub mod Back
 pub mod Causes
 pub mod Ended
 pub mod Flow
 pub mod Pooled
+pub mod Steps

@@ -9,6 +9,7 @@ mod error;
 mod live;
 mod publish;
 mod receive;
+mod step;
 
 pub use error::LiveError;
 pub use live::{publish, receive};
