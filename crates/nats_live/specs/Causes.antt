@@ -1,11 +1,12 @@
 -- Why a command on a live link was refused, over what the world told before and after it.
-use Rattle.std.specs.Prelude.{◌≡◌, ◌⊎◌, ◌<◌, ℕ, Bool, true, false, List, [], ◌∷◌, length, Option, Some, None, Result, Ok, Err, IfSome, codes, if◌then◌else◌}
+use Rattle.std.specs.Prelude.{◌≡◌, ◌⊎◌, ◌<◌, ◌≤◌, ℕ, true, false, List, [], ◌∷◌, length, Option, Some, None, Result, Ok, Err, IfSome, codes, if◌then◌else◌}
 use Rattle.nats_names.specs.declared.addr_error.AddrError.{AddrError}
+use Rattle.nats_names.specs.declared.addr_error.AddrError.TheVariants as addr_error
 use Rattle.nats_names.specs.declared.cause.Cause.TheVariants as cause
 use Rattle.nats_names.specs.Causes.{source_text}
 use Rattle.nats_names.specs.Names.{is_publishable, is_valid}
 use Rattle.url.specs.Parts.{Parts}
-use Rattle.nats_addr.specs.Addr.{addr_of}
+use Rattle.nats_addr.specs.Addr.{addr_of, addrs_of}
 use Rattle.nats_pool.specs.Auths.{AuthValue}
 use Rattle.nats_pool.specs.declared.pool_parts.Planned.{Planned}
 use Rattle.nats_pool.specs.Handing.{RoundTold}
@@ -54,14 +55,23 @@ IsRoundWith server t = (planned : Planned) × (planned.addr ≡ server) × (t.ro
 abbrev pub IsRoundOf : List ℕ → RoundTold → Type 0
 IsRoundOf addr t = (server : Parts) × (addr_of addr ≡ Ok server) × IsRoundWith server t
 
--- the address doesn't parse, or a round with its server gave no link, for another cause than memory: `Takes` and `told` are those
--- of a pool
-abbrev pub NotConnected : {P : Type 0} → (P → P → List (List ℕ) → Result (Unit {0}) AddrError → Type 0) → (P → RoundTold)
-    → List ℕ → Seen → Failure → Seen → Type 0
-NotConnected {P} Takes told addr a e b = (is_wanting e.0 ≡ false)
+-- what comes of the addresses of servers that an INFO tells of: the first text that spells none decides
+abbrev pub TakesTexts : Unit {0} → Unit {0} → List (List ℕ) → Result (Unit {0}) AddrError → Type 0
+TakesTexts before after urls (Ok done) = (addrs : List Parts) × (addrs_of urls ≡ Ok addrs)
+TakesTexts before after urls (Err addr_error.Url) = addrs_of urls ≡ Err addr_error.Url
+TakesTexts before after urls (Err addr_error.Scheme) = addrs_of urls ≡ Err addr_error.Scheme
+TakesTexts before after urls (Err addr_error.NoMemory) = 1 ≤ length urls
+
+-- a round of connecting on default options gave no link, whose servers are those of that round
+abbrev pub RoundFailed : RoundTold → RoundTold → Seen → Failure → Seen → Type 0
+RoundFailed before after a e b =
+    RoundCause TakesTexts OffersNothing false None false default_timeout before after a e b
+
+-- the address doesn't parse, or a round with its server alone gave no link, for another cause than memory
+abbrev pub NotConnected : List ℕ → Seen → Failure → Seen → Type 0
+NotConnected addr a e b = (is_wanting e.0 ≡ false)
     × (((x : AddrError) × (e ≡ (connecting.ServerParse, Some (cause.Addr x))) × (addr_of addr ≡ Err x))
-    ⊎ ((p : P) × (q : P) × IsRoundOf addr (told q)
-    × RoundCause Takes OffersNothing false None false default_timeout (told p) (told q) a e b))
+    ⊎ ((before : RoundTold) × (after : RoundTold) × IsRoundOf addr after × RoundFailed before after a e b))
 
 -- why an address spells no server
 abbrev pub WhyNotParsed : List ℕ → LiveError → Type 0
@@ -73,13 +83,12 @@ WhyNotParsed addr refused.LinkEnded = ⊥
 WhyNotParsed addr refused.NoMemory = Unit {0}
 
 -- why no link came about
-abbrev pub WhyNotDialed : {P : Type 0} → (P → P → List (List ℕ) → Result (Unit {0}) AddrError → Type 0) → (P → RoundTold)
-    → List ℕ → Seen → LiveError → Seen → Type 0
-WhyNotDialed Takes told addr a (refused.Connect e) b = NotConnected Takes told addr a e b
-WhyNotDialed Takes told addr a (refused.Publish e) b = ⊥
-WhyNotDialed Takes told addr a (refused.Subscribe e) b = ⊥
-WhyNotDialed Takes told addr a refused.LinkEnded b = ⊥
-WhyNotDialed Takes told addr a refused.NoMemory b = Unit {0}
+abbrev pub WhyNotDialed : List ℕ → Seen → LiveError → Seen → Type 0
+WhyNotDialed addr a (refused.Connect e) b = NotConnected addr a e b
+WhyNotDialed addr a (refused.Publish e) b = ⊥
+WhyNotDialed addr a (refused.Subscribe e) b = ⊥
+WhyNotDialed addr a refused.LinkEnded b = ⊥
+WhyNotDialed addr a refused.NoMemory b = Unit {0}
 
 -- ---- the link's end
 
@@ -111,25 +120,24 @@ FewerCame n b = LastOpened (λ o. length (messages 1 (after o)) < n) b
 abbrev pub TooLarge : ℕ → ℕ → List ℕ → Seen → Type 0
 TooLarge limit size payload b = (size ≡ length payload) × (limit < size) × LastOpened (λ o. o.info.max_payload ≡ limit) b
 
-module _ {P : Type 0} (Takes : P → P → List (List ℕ) → Result (Unit {0}) AddrError → Type 0) (told : P → RoundTold) where
-  -- why a message was not published
-  abbrev pub WhyNotPublished : List ℕ → List ℕ → List ℕ → Seen → LiveError → Seen → Type 0
-  WhyNotPublished addr subject payload a (refused.Connect e) b = NotConnected Takes told addr a e b
-  WhyNotPublished addr subject payload a (refused.Publish (publishing.InvalidSubject, source)) b =
-      (source ≡ Some cause.Format) × (is_publishable subject ≡ false)
-  WhyNotPublished addr subject payload a (refused.Publish (publishing.MaxPayloadExceeded, Some (cause.Payload limit size))) b =
-      TooLarge limit size payload b
-  WhyNotPublished addr subject payload a (refused.Publish e) b = ⊥
-  WhyNotPublished addr subject payload a (refused.Subscribe e) b = ⊥
-  WhyNotPublished addr subject payload a refused.LinkEnded b = LinkBroke a b ⊎ FaultInRest b
-  WhyNotPublished addr subject payload a refused.NoMemory b = Unit {0}
+-- why a message was not published
+abbrev pub WhyNotPublished : List ℕ → List ℕ → List ℕ → Seen → LiveError → Seen → Type 0
+WhyNotPublished addr subject payload a (refused.Connect e) b = NotConnected addr a e b
+WhyNotPublished addr subject payload a (refused.Publish (publishing.InvalidSubject, source)) b =
+    (source ≡ Some cause.Format) × (is_publishable subject ≡ false)
+WhyNotPublished addr subject payload a (refused.Publish (publishing.MaxPayloadExceeded, Some (cause.Payload limit size))) b =
+    TooLarge limit size payload b
+WhyNotPublished addr subject payload a (refused.Publish e) b = ⊥
+WhyNotPublished addr subject payload a (refused.Subscribe e) b = ⊥
+WhyNotPublished addr subject payload a refused.LinkEnded b = LinkBroke a b ⊎ FaultInRest b
+WhyNotPublished addr subject payload a refused.NoMemory b = Unit {0}
 
-  -- why n messages were not received
-  abbrev pub WhyNotReceived : List ℕ → List ℕ → ℕ → Seen → LiveError → Seen → Type 0
-  WhyNotReceived addr subject n a (refused.Connect e) b = NotConnected Takes told addr a e b
-  WhyNotReceived addr subject n a (refused.Subscribe (subscribing.InvalidSubject, source)) b =
-      (source ≡ Some cause.Format) × (is_valid subject ≡ false)
-  WhyNotReceived addr subject n a (refused.Subscribe e) b = ⊥
-  WhyNotReceived addr subject n a (refused.Publish e) b = ⊥
-  WhyNotReceived addr subject n a refused.LinkEnded b = (LinkBrokeOrEnded a b ⊎ FaultLater b) × FewerCame n b
-  WhyNotReceived addr subject n a refused.NoMemory b = Unit {0}
+-- why n messages were not received
+abbrev pub WhyNotReceived : List ℕ → List ℕ → ℕ → Seen → LiveError → Seen → Type 0
+WhyNotReceived addr subject n a (refused.Connect e) b = NotConnected addr a e b
+WhyNotReceived addr subject n a (refused.Subscribe (subscribing.InvalidSubject, source)) b =
+    (source ≡ Some cause.Format) × (is_valid subject ≡ false)
+WhyNotReceived addr subject n a (refused.Subscribe e) b = ⊥
+WhyNotReceived addr subject n a (refused.Publish e) b = ⊥
+WhyNotReceived addr subject n a refused.LinkEnded b = (LinkBrokeOrEnded a b ⊎ FaultLater b) × FewerCame n b
+WhyNotReceived addr subject n a refused.NoMemory b = Unit {0}

@@ -2,16 +2,17 @@
 ghost use Rattle.std.specs.Prelude.{◌≡◌, ◌⊎◌, false, None, Ok, IfOk, IfErr};
 ghost use Rattle.url.specs.Parts.{Parts};
 ghost use Rattle.nats_addr.specs.Addr.{addr_of};
+ghost use Rattle.nats_pool.specs.Handing.{pool_told};
 ghost use Rattle.nats_handshake.specs.Shaking.{wanting};
-ghost use Rattle.nats_dial.specs.Causes.{Onward, RoundCause};
+ghost use Rattle.nats_dial.specs.Causes.{Onward};
 ghost use Rattle.nats_dial.specs.Tries.{IsUp};
-ghost use Rattle.nats_live.specs.Causes.{OffersNothing, IsRoundWith, WhyNotDialed, WhyNotParsed, default_timeout};
+ghost use Rattle.nats_live.specs.Causes.{OffersNothing, IsRoundWith, RoundFailed, WhyNotDialed, WhyNotParsed};
 ghost use Rattle.nats_live.specs.Pooled.{IsPoolOf};
 
 use crate::error::{LiveError, connect_refused};
 use nats_client::World;
 use nats_dial::{
-    ConnectError, ConnectErrorKind, ConnectOptions, Linked, Reach, Rounds, ServerList, try_connect,
+    ConnectError, ConnectErrorKind, ConnectOptions, Linked, Reach, try_connect,
 };
 use nats_names::{AddrError, Cause, NoMemory};
 use nats_outside::seen;
@@ -53,11 +54,9 @@ fn round<W: Reach>(
     ensures onward { Onward (W.seen world.old) (W.seen world.new) }
     ensures up { IfOk result (λ linked. IsUp OffersNothing None false linked.info linked.rest.items
         (W.Read.read_told linked.read) (W.Write.write_told linked.write)) }
-    ensures failed { IfErr result (λ e. RoundCause ⟦<Pool as ServerList>⟧.Takes OffersNothing false None false default_timeout
-        (⟦<Pool as Rounds>⟧.round_told pool.old) (⟦<Pool as Rounds>⟧.round_told pool.new)
-        (W.seen world.old) e (W.seen world.new)) }
-    ensures servers { (server : Parts) → IsPoolOf server pool.old → IfErr result (λ e.
-        (e ≡ wanting) ⊎ IsRoundWith server (⟦<Pool as Rounds>⟧.round_told pool.new)) }
+    ensures failed { (server : Parts) → IsPoolOf server pool.old → IfErr result (λ e. (e ≡ wanting)
+        ⊎ (IsRoundWith server (pool_told pool.new)
+        × RoundFailed (pool_told pool.old) (pool_told pool.new) (W.seen world.old) e (W.seen world.new))) }
 {
     let options = ConnectOptions::new();
     let last = ServerInfo::default(alloc);
@@ -74,8 +73,7 @@ pub(crate) fn dial<W: World>(
     ensures onward { Onward (W.seen world.old) (W.seen world.new) }
     ensures up { IfOk result (λ linked. IsUp OffersNothing None false linked.info linked.rest.items
         (W.Read.read_told linked.read) (W.Write.write_told linked.write)) }
-    ensures refused { IfErr result (λ e. WhyNotDialed ⟦<Pool as ServerList>⟧.Takes ⟦<Pool as Rounds>⟧.round_told addr.now
-        (W.seen world.old) e (W.seen world.new)) }
+    ensures refused { IfErr result (λ e. WhyNotDialed addr.now (W.seen world.old) e (W.seen world.new)) }
 {
     let server = server_of(alloc, addr)?;
     let start = seen::draw(world);

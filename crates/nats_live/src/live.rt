@@ -14,9 +14,8 @@ use crate::publish::publish_on;
 use crate::receive::receive_on;
 use nats_client::World;
 use nats_core::{LinkRead, LinkWrite, ServerInfo};
-use nats_dial::{Linked, Rounds, ServerList};
+use nats_dial::Linked;
 use nats_outside::seen;
-use nats_pool::Pool;
 use std::alloc::Global;
 use std::sync::Wait;
 
@@ -59,7 +58,7 @@ pub fn publish<R: Wait, W: World>(
 ) -> Result<(), LiveError>
     ensures published { OnOk result (IfSome ((W.seen world.new).dialer.ended)
         (LastLink (WasPublished subject.now payload.now))) }
-    ensures refused { IfErr result (λ e. WhyNotPublished ⟦<Pool as ServerList>⟧.Takes ⟦<Pool as Rounds>⟧.round_told
+    ensures refused { IfErr result (λ e. WhyNotPublished
         addr.now subject.now payload.now (W.seen world.old) e (W.seen world.new)) }
     ensures onward { Onward (W.seen world.old) (W.seen world.new) }
     ensures beside { W.beside_reach world.new ≡ W.beside_reach world.old }
@@ -120,7 +119,7 @@ pub fn receive<R: Wait, W: World>(
     requires { 1 ≤ count }
     ensures received { IfOk result (λ text. IfSome ((W.seen world.new).dialer.ended)
         (LastLink (WasReceived subject.now count text.items))) }
-    ensures refused { IfErr result (λ e. WhyNotReceived ⟦<Pool as ServerList>⟧.Takes ⟦<Pool as Rounds>⟧.round_told
+    ensures refused { IfErr result (λ e. WhyNotReceived
         addr.now subject.now count (W.seen world.old) e (W.seen world.new)) }
     ensures onward { Onward (W.seen world.old) (W.seen world.new) }
     ensures beside { W.beside_reach world.new ≡ W.beside_reach world.old }
