@@ -10,7 +10,7 @@ use rand::distr::{Alphanumeric, Distribution};
 use std::alloc::Global;
 
 /// How many letters such a name has. The crate's ids are as long.
-pub const ID_LENGTH: u64 = 22;
+pub const ID_LENGTH: usize = 22;
 
 /// A text of 22 ASCII letters or digits, drawn from `rng`. Own call: the crate takes ids of `nuid`. That no other text is equal
 /// to it is not claimed.
@@ -23,7 +23,7 @@ pub fn id_text<G: Rng>(alloc: Global, rng: &mut G) -> Result<String, NoMemory>
     ensures letters { IfOk result (λ text. list_all is_letter_or_digit (string_bytes text) ≡ true) }
 {
     let mut text = String::new(alloc);
-    'letters: for _ in 0..ID_LENGTH {
+    'letters: while text.len() < ID_LENGTH {
         let letter: u8 = Alphanumeric.sample(rng);
         text.push(char::from(letter))?;
     }

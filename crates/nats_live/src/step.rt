@@ -12,9 +12,13 @@ use std::alloc::Global;
 pub(crate) fn play(alloc: Global, core: &mut Core, turn: Turn) -> Result<StepReply, StepError>
     ensures { PlaysWhole core.old turn result core.new }
 {
-    let reply = core.step(alloc, turn)?;
-    core.catch_up(alloc)?;
-    Ok(reply)
+    match core.step(alloc, turn) {
+        Ok(reply) => match core.catch_up(alloc) {
+            Ok(()) => Ok(reply),
+            Err(NoMemory) => Err(StepError::NoMemory),
+        },
+        Err(error) => Err(error),
+    }
 }
 
 // Writes once, and plays all that is due before it and after it. `Gone` where no link is up.

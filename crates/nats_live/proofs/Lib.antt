@@ -1,0 +1,4 @@
+mod Begins
+mod Ops
+mod States
+mod Stepping
