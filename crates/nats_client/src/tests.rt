@@ -36,7 +36,7 @@ fn a_link_over_the_loopback_gives_and_takes(rt: HostRuntime) -> Result<(), Fail>
     assert!(rt; write.write_pieces(&pieces) == Ok(2));
     let mut got = [0u8; 2];
     peer.read_exact(&mut got)?;
-    assert!(rt; &got == b"ab");
+    assert!(rt; got.as_slice() == b"ab".as_slice());
     drop(peer);
     assert!(rt; reads(&mut read, b"") && read.ends() == 1 && read.faults() == 0);
     write.shut();
@@ -46,11 +46,18 @@ fn a_link_over_the_loopback_gives_and_takes(rt: HostRuntime) -> Result<(), Fail>
     Ok(())
 }
 
+fn is_home(found: &[SocketAddr]) -> bool {
+    match found {
+        [one] => *one == SocketAddr::from((Ipv4Addr::LOCALHOST, 4222)),
+        _ => false,
+    }
+}
+
 #[test]
 fn an_address_resolves_to_itself(rt: HostRuntime) -> Result<(), Fail> {
     let mut resolver = NetResolver::new(rt);
     let found = resolver.resolve(rt.alloc(), "127.0.0.1", 4222)?;
-    assert!(rt; found.as_slice() == &[SocketAddr::from((Ipv4Addr::LOCALHOST, 4222))]);
+    assert!(rt; is_home(found.as_slice()));
     Ok(())
 }
 

@@ -1,5 +1,6 @@
 //! A spawner of threads.
 ghost use Rattle.std.specs.Prelude.{◌≡◌};
+ghost use Rattle.nats_addr.specs.Resolving.{risen};
 
 use crate::{Job, Spawner};
 use nats_names::Failed;
@@ -27,6 +28,14 @@ impl<R> ThreadSpawner<R> {
             faults: 0,
         }
     }
+
+    // A job is not started.
+    fn refuse(&mut self) -> Failed
+        ensures { self.new ≡ record (self.old) { faults = risen 1 self.old.faults } }
+    {
+        self.faults = self.faults.saturating_add(1);
+        Failed
+    }
 }
 
 impl<R: Threads> ThreadSpawner<R> {
@@ -48,13 +57,15 @@ impl<R: Threads> Spawner for ThreadSpawner<R> {
     ghost beside_spawner = { λ _. tt };
 
     fn start<J: Job + 'static>(&mut self, job: J) -> Result<(), Failed> {
-        if self.threads.reserve(1).is_ok()
-            && let Ok(thread) = thread::spawn(&self.rt, move || job.run())
-        {
-            self.threads.push_reserved(thread);
-            return Ok(());
+        if self.threads.reserve(1).is_err() {
+            return Err(self.refuse());
         }
-        self.faults = self.faults.saturating_add(1);
-        Err(Failed)
+        match thread::spawn(&self.rt, move || job.run()) {
+            Ok(thread) => {
+                self.threads.push_reserved(thread);
+                Ok(())
+            }
+            Err(_) => Err(self.refuse()),
+        }
     }
 }

@@ -121,7 +121,7 @@ impl<W, S: Spawner, C> Spawner for Whole<W, S, C> {
     }
 }
 
-impl<W: Reach, S: Spawner, C: Clock + Copy + Send> World for Whole<W, S, C> {
+impl<W: Reach, S: Spawner, C: Clock + Copy + Drop + Send> World for Whole<W, S, C> {
     ghost use Rattle.std.proofs.Common.{ap};
 
     type Ticks = C;

@@ -19,12 +19,18 @@ use std::alloc::Global;
 fn config_of(mux_id: Token) -> Config
     ensures { result ≡ default_config mux_id }
 {
-    let options = ConnectOptions::new();
+    let ConnectOptions {
+        client_capacity,
+        subscription_capacity,
+        skip_subject_validation,
+        inbox_prefix,
+        ..
+    } = ConnectOptions::new();
     Config {
-        client_capacity: options.client_capacity,
-        subscription_capacity: options.subscription_capacity,
-        skip_subject_validation: options.skip_subject_validation,
-        inbox_prefix: options.inbox_prefix,
+        client_capacity,
+        subscription_capacity,
+        skip_subject_validation,
+        inbox_prefix,
         mux_id,
     }
 }
