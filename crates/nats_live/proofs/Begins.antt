@@ -5,16 +5,17 @@ use Rattle.std.proofs.lemmas.Option.{none-some}
 use Rattle.nats_info.specs.declared.info.ServerInfo.{ServerInfo}
 use Rattle.nats_wire.specs.Operations.{Operation, Front, unfinished, got, fault, front, past, operations}
 use Rattle.nats_wire.specs.Laws.{IsGot}
-use Rattle.nats_history.specs.History.{Step, opened, read, link_end, no_tickets}
+use Rattle.nats_history.specs.History.{Step, opened, fed, read, link_end}
 use Rattle.nats_history.specs.Schedule.{due, due_by, most_due}
 use Rattle.nats_history.specs.declared.transcript.LinkWord.TheVariants as word
-use Rattle.nats_session.specs.Handler.{Seen}
+use Rattle.nats_session.specs.Handler.{Seen, seen_after, idle}
 use Rattle.nats_core.specs.Journal.{due_round, due_rounds, all_due}
 use Rattle.nats_core.proofs.Dues.{none_round, rounds_enough, round_falls}
 use Rattle.nats_live.specs.Ended.{is_fault, ends_in_fault, pong, pongs}
-use Rattle.nats_live.specs.Flow.{GoesOn, IsCalm, HasBegun, no_subs}
+use Rattle.nats_live.specs.Flow.{GoesOn, HasBegun}
+use Rattle.nats_live.specs.State.{Noise, default_config, state, begun}
 use Rattle.nats_live.proofs.Ops.{pongs_one, goes_first, goes_fed, goes_read, goes_over, goes_fault, not_got_unfinished, not_got_fault}
-use Rattle.nats_live.proofs.States.{Noise, state, begun, round_by, round_up, round_down, noise_read, noise_end, begun_read, begun_fault, begun_waits}
+use Rattle.nats_live.proofs.States.{round_by, round_up, round_down, noise_read, noise_end, begun_read, begun_fault, begun_waits}
 
 -- ---- all that is due are so many rounds
 
@@ -136,23 +137,76 @@ nothing_there (fault m) b mux n unread waiting up none e =
     absurd (none-some (link_end word.Fault) (sym none ∙ (ap (λ (u : Bool). if u then due_by (front unread) p else None) up ∙ ap (λ (f : Front). due_by f p) e)))
 
 pub has_begun : (most : ℕ) (joined : List ℕ) (seen : Seen) → Reading most joined seen → due seen.parts ≡ None → HasBegun most joined seen
-has_begun most joined seen r none =
-    let s = state r.mux r.noise (begun r.up r.unread r.waiting) in
-    let none_here : due s.parts ≡ None = ap (λ (x : Seen). due x.parts) (sym r.is) ∙ none in
-    subst (HasBegun most joined) (sym r.is) (record {
-      calm = record { mux = r.mux; config = refl; unclosed = refl; undrained = refl; unpinged = refl; unasked = refl };
-      limit = r.limit;
-      settled = none_here;
-      calls = refl;
-      subs = refl;
-      tickets = refl;
-      ready = refl;
-      up = λ up.
-          let facts = r.ups up in
-          let there = nothing_there (front r.unread) r.up r.mux r.noise r.unread r.waiting up none_here refl in
-          let over = goes_over joined r.done r.unread facts.0 (not_got_unfinished (front r.unread) there) in (
-            subst (λ (ops : List Operation). GoesOn joined ops r.unread) (sym over) facts.0,
-            facts.1 ∙ ap pongs (sym over),
-          );
-      down = r.downs;
+has_begun most joined seen r none = record {
+  mux = r.mux;
+  noise = r.noise;
+  up = r.up;
+  unread = r.unread;
+  waiting = r.waiting;
+  is = r.is;
+  limit = r.limit;
+  settled = none;
+  ups = λ up.
+      let facts = r.ups up in
+      let here = ap (λ (x : Seen). due x.parts) (sym r.is) ∙ none in
+      let there = nothing_there (front r.unread) r.up r.mux r.noise r.unread r.waiting up here refl in
+      let over = goes_over joined r.done r.unread facts.0 (not_got_unfinished (front r.unread) there) in (
+        subst (λ (ops : List Operation). GoesOn joined ops r.unread) (sym over) facts.0,
+        facts.1 ∙ ap pongs (sym over),
+      );
+  downs = r.downs;
+}
+
+-- ---- how a session begins
+
+-- a link comes up
+pub reading_up : (mux : List ℕ) (info : ServerInfo) → Reading info.max_payload [] (seen_after (record { parts = idle (default_config mux); events = []; ready = [] }) (opened info))
+reading_up mux info =
+    let old = record { parts = idle (default_config mux); events = []; ready = [] } in
+    let new = seen_after old (opened info) in
+    record {
+      mux = mux;
+      noise = record {
+        number = new.parts.link.number;
+        most = info.max_payload;
+        info = new.parts.link.info;
+        reads = new.parts.link.reads;
+        statistics = new.parts.statistics;
+        events = new.events;
+      };
+      up = true;
+      unread = [];
+      waiting = [];
+      done = [];
+      is = refl;
+      limit = refl;
+      ups = λ up. (goes_first, refl);
+      downs = λ down. absurd (true≢false down);
+    }
+
+-- bytes join, on a link that is up
+pub reading_fed : (most : ℕ) (bytes : List ℕ) (seen : Seen) → HasBegun most [] seen → seen.parts.link.is_up ≡ true
+    → Reading most bytes (seen_after seen (fed bytes))
+reading_fed most bytes seen b up =
+    let is_up : b.up ≡ true = sym (ap (λ (s : Seen). s.parts.link.is_up) b.is) ∙ up in
+    let facts = b.ups is_up in
+    let old = state b.mux b.noise (begun b.up b.unread b.waiting) in
+    subst (λ (s : Seen). Reading most bytes (seen_after s (fed bytes))) (sym b.is) (record {
+      mux = b.mux;
+      noise = record {
+        number = b.noise.number;
+        most = b.noise.most;
+        info = b.noise.info;
+        reads = b.noise.reads;
+        statistics = (seen_after old (fed bytes)).parts.statistics;
+        events = b.noise.events;
+      };
+      up = true;
+      unread = b.unread ++ bytes;
+      waiting = b.waiting;
+      done = [];
+      is = ap (λ (u : Bool). seen_after (state b.mux b.noise (begun u b.unread b.waiting)) (fed bytes)) is_up;
+      limit = b.limit;
+      ups = λ yes. (goes_fed [] [] b.unread bytes facts.0, facts.1);
+      downs = λ down. absurd (true≢false down);
     })

@@ -1,70 +1,17 @@
 -- A session of one link, written out: what one due step makes of it is computed.
 use Rattle.std.proofs.Common.{◌≡◌, refl, ◌∙◌, sym, ap, ℕ, zero, suc, ◌==◌, Bool, true, false, nat_lt, List, [], ◌∷◌, ◌++◌, length, append-nil, Option, Some, None, if◌then◌else◌}
-use Rattle.nats_names.specs.declared.event.Event.{Event}
-use Rattle.nats_info.specs.declared.info.ServerInfo.{ServerInfo}
 use Rattle.nats_wire.specs.Operations.{Operation, message, info_op, error_op, ok_op, ping_op, pong_op, Front, unfinished, got, fault, front, past}
-use Rattle.nats_history.specs.declared.call.Call.{Call}
 use Rattle.nats_history.specs.declared.call.CallReply.{CallReply}
-use Rattle.nats_history.specs.declared.statistics.Statistics.{Statistics}
 use Rattle.nats_history.specs.declared.transcript.LinkWord.TheVariants as word
-use Rattle.nats_history.specs.History.{Step, read, link_end, Sub, Tickets, no_tickets, requests_elsewhere, request_at, request_reply, replied_if, asking_after, settled_by, info_after, all_reads_after, new_events, end_events, unsubscribe_command, is_closing_at}
+use Rattle.nats_history.specs.History.{Step, read, link_end, Sub, requests_elsewhere, request_at, request_reply, replied_if, asking_after, settled_by, info_after, all_reads_after, new_events, end_events, unsubscribe_command, is_closing_at}
 use Rattle.nats_history.specs.Counts.{statistics_after}
-use Rattle.nats_history.specs.Parts.{Subs}
 use Rattle.nats_history.specs.Schedule.{due_by, due_chain, due_call, write_limit}
 use Rattle.nats_history.specs.After.{sub_after, written}
 use Rattle.nats_session.specs.Handler.{Seen, seen_all, push_all}
 use Rattle.nats_core.specs.Journal.{due_round}
 use Rattle.nats_tables.specs.Numbers.{at_number, item_of}
 use Rattle.nats_live.specs.Ended.{pong}
-use Rattle.nats_live.specs.Flow.{default_config, no_subs}
-
--- ---- a session written out
-
--- what no step of these commands hangs on
-pub record Noise : Type 0 where
-  pub number : ℕ
-  pub most : ℕ
-  pub info : Option ServerInfo
-  pub reads : ℕ
-  pub statistics : Statistics
-  pub events : List Event
-
--- what its steps hang on: whether the link is up, the calls that wait, the subscriptions, the tickets and those that settled, and the
--- two lists of bytes
-pub record Core : Type 0 where
-  pub up : Bool
-  pub calls : List Call
-  pub subs : Subs
-  pub tickets : Tickets
-  pub ready : List (ℕ × CallReply)
-  pub unread : List ℕ
-  pub waiting : List ℕ
-
--- the session of these settings
-abbrev pub state : List ℕ → Noise → Core → Seen
-state mux n k = record {
-  parts = record {
-    config = default_config mux;
-    is_closed = false;
-    drain = record { is_accepted = false; is_handled = false };
-    link = record {
-      number = n.number;
-      is_up = k.up;
-      max_payload = n.most;
-      info = n.info;
-      reads = n.reads;
-      pings = [];
-      wire = record { unread = k.unread; waiting = k.waiting };
-    };
-    calls = k.calls;
-    subs = k.subs;
-    requested = false;
-    tickets = k.tickets;
-    statistics = n.statistics;
-  };
-  events = n.events;
-  ready = k.ready;
-}
+use Rattle.nats_live.specs.State.{Noise, Kept, default_config, state, begun}
 
 -- ---- one due step
 
@@ -72,10 +19,10 @@ state mux n k = record {
 abbrev pub round_by : Front → Seen → Seen
 round_by f seen = seen_all seen (due_chain seen.parts (due_by f seen.parts))
 
-pub round_up : (mux : List ℕ) (n : Noise) (k : Core) → k.up ≡ true → due_round (state mux n k) ≡ round_by (front k.unread) (state mux n k)
+pub round_up : (mux : List ℕ) (n : Noise) (k : Kept) → k.up ≡ true → due_round (state mux n k) ≡ round_by (front k.unread) (state mux n k)
 round_up mux n k up = ap (λ (b : Bool). seen_all (state mux n k) (due_chain (state mux n k).parts (if b then due_by (front k.unread) (state mux n k).parts else None))) up
 
-pub round_down : (mux : List ℕ) (n : Noise) (k : Core) → k.up ≡ false → due_round (state mux n k) ≡ state mux n k
+pub round_down : (mux : List ℕ) (n : Noise) (k : Kept) → k.up ≡ false → due_round (state mux n k) ≡ state mux n k
 round_down mux n k down = ap (λ (b : Bool). seen_all (state mux n k) (due_chain (state mux n k).parts (if b then due_by (front k.unread) (state mux n k).parts else None))) down
 
 -- ---- an operation is read
@@ -117,17 +64,6 @@ none_settled ping_op = refl
 none_settled pong_op = refl
 
 -- ---- before any call
-
-abbrev pub begun : Bool → List ℕ → List ℕ → Core
-begun up unread waiting = record {
-  up = up;
-  calls = [];
-  subs = no_subs;
-  tickets = no_tickets;
-  ready = [];
-  unread = unread;
-  waiting = waiting;
-}
 
 no_rows : (sid : ℕ) (f : Sub → Sub) → at_number sid f [] ≡ []
 no_rows zero f = refl

@@ -1,5 +1,5 @@
 -- How far a session is on the one link of its life, over the bytes that the link gave and took behind the handshake.
-use Rattle.std.specs.Prelude.{◌≡◌, ◌⊎◌, ◌≤◌, ◌<◌, ℕ, ◌+◌, ◌-◌, Bool, true, false, List, [], ◌∷◌, ◌++◌, length, take, drop, Option, Some, None, option_map, Result, Ok, Err, codes}
+use Rattle.std.specs.Prelude.{◌≡◌, ◌⊎◌, ◌≤◌, ◌<◌, ℕ, ◌+◌, ◌-◌, Bool, true, false, List, [], ◌∷◌, ◌++◌, length, take, drop, Option, Some, None, option_map, Result, Ok, Err, if◌then◌else◌}
 use Rattle.std.specs.Global.{Vec}
 use Rattle.std.specs.List.{concat, flat_map}
 use Rattle.nats_names.specs.Names.{is_publishable, is_valid}
@@ -11,19 +11,20 @@ use Rattle.nats_wire.specs.declared.message.Message.{Message}
 use Rattle.nats_wire.specs.Operations.{Operation, operations}
 use Rattle.nats_outside.specs.Told.{ReadTold, WriteTold}
 use Rattle.nats_dial.specs.Lines.{Took}
+use Rattle.nats_wire.specs.declared.message.OutboundMessage.{OutboundMessage}
+use Rattle.nats_history.specs.declared.call.Call.{Call}
 use Rattle.nats_history.specs.declared.call.Call.TheVariants as call
+use Rattle.nats_history.specs.declared.call.CallReply.{CallReply}
 use Rattle.nats_history.specs.declared.call.CallReply.TheVariants as replies
 use Rattle.nats_core.specs.declared.entry.StepReply.{StepReply}
 use Rattle.nats_core.specs.declared.entry.StepReply.TheVariants as answers
 use Rattle.nats_core.specs.Journal.{Logged, with_session}
 use Rattle.nats_core.specs.Calls.{parts_in}
 use Rattle.nats_tickets.specs.Kept.{reply_in, without}
-use Rattle.nats_history.specs.declared.config.Config.{Config}
 use Rattle.nats_history.specs.declared.stage.Stage.TheVariants as stages
 use Rattle.nats_history.specs.declared.waits.Waits.{Waits}
 use Rattle.nats_history.specs.declared.waits.Waits.TheVariants as waits
 use Rattle.nats_history.specs.History.{Sub, Tickets, Awaits, no_tickets}
-use Rattle.nats_history.specs.Parts.{Parts, Subs}
 use Rattle.nats_history.specs.Schedule.{due}
 use Rattle.nats_session.specs.Handler.{Seen}
 use Rattle.nats_client.specs.declared.errors.PublishErrorKind.TheVariants as publishing
@@ -32,6 +33,7 @@ use Rattle.nats_script.specs.Printed.{message_line}
 use Rattle.nats_live.specs.declared.error.LiveError.{LiveError}
 use Rattle.nats_live.specs.declared.error.LiveError.TheVariants as refused
 use Rattle.nats_live.specs.Ended.{messages, pongs, ends_in_fault}
+use Rattle.nats_live.specs.State.{Noise, Kept, state, begun, no_subs}
 
 -- ---- what is read
 
@@ -42,41 +44,19 @@ pub record GoesOn (joined : List ℕ) (done : List Operation) (unread : List ℕ
 
 -- ---- the session
 
--- the settings of default options, with this mux id
-abbrev pub default_config : List ℕ → Config
-default_config mux = record {
-  client_capacity = 2048;
-  subscription_capacity = 65536;
-  skip_subject_validation = false;
-  inbox_prefix = codes "_INBOX";
-  mux_id = mux;
-}
-
--- it did not close and is not drained, wrote no PING, and asked for no reply
-pub record IsCalm (p : Parts) : Type 0 where
-  pub mux : List ℕ
-  pub config : p.config ≡ default_config mux
-  pub unclosed : p.is_closed ≡ false
-  pub undrained : p.drain ≡ record { is_accepted = false; is_handled = false }
-  pub unpinged : p.link.pings ≡ []
-  pub unasked : p.requested ≡ false
-
-abbrev pub no_subs : Subs
-no_subs = record { given = 0; subscribed = 0; rows = [] }
-
 -- the link came up with this limit of payloads, gave these bytes, and all that they made due is done: each PING of theirs is
 -- answered, or they end in what is no operation, and the link is over
 pub record HasBegun (most : ℕ) (joined : List ℕ) (seen : Seen) : Type 0 where
-  pub calm : IsCalm seen.parts
-  pub limit : seen.parts.link.max_payload ≡ most
+  pub mux : List ℕ
+  pub noise : Noise
+  pub up : Bool
+  pub unread : List ℕ
+  pub waiting : List ℕ
+  pub is : seen ≡ state mux noise (begun up unread waiting)
+  pub limit : noise.most ≡ most
   pub settled : due seen.parts ≡ None
-  pub calls : seen.parts.calls ≡ []
-  pub subs : seen.parts.subs ≡ no_subs
-  pub tickets : seen.parts.tickets ≡ no_tickets
-  pub ready : seen.ready ≡ []
-  pub up : seen.parts.link.is_up ≡ true → GoesOn joined (operations joined) seen.parts.link.wire.unread
-      × (seen.parts.link.wire.waiting ≡ pongs (operations joined))
-  pub down : seen.parts.link.is_up ≡ false → ends_in_fault joined ≡ true
+  pub ups : up ≡ true → GoesOn joined (operations joined) unread × (waiting ≡ pongs (operations joined))
+  pub downs : up ≡ false → ends_in_fault joined ≡ true
 
 -- the same, but for want of memory, where nothing else is refused
 abbrev pub HasBegunOr : ℕ → List ℕ → Result (Unit {0}) LiveError → Seen → Type 0
@@ -96,20 +76,42 @@ one_flush handled queued flushing = record {
   asking = [];
 }
 
--- it waits to be handled, or it awaits all bytes that wait, or it is done and none waits
-abbrev pub IsFlushing : Seen → Type 0
-IsFlushing seen =
-    ((seen.parts.calls ≡ call.Flush ∷ []) × (seen.parts.tickets ≡ one_flush 0 (waits.Flush ∷ []) []) × (seen.ready ≡ []))
-    ⊎ (((seen.parts.calls ≡ []) × (0 < length seen.parts.link.wire.waiting)
-    × (seen.parts.tickets ≡ one_flush 1 [] (record { ticket = 1; ahead = length seen.parts.link.wire.waiting } ∷ [])) × (seen.ready ≡ []))
-    ⊎ ((seen.parts.calls ≡ []) × (seen.parts.link.wire.waiting ≡ []) × (seen.ready ≡ (1, replies.Flushed) ∷ [])))
+abbrev pub awaits_all : List ℕ → List Awaits
+awaits_all waiting = record { ticket = 1; ahead = length waiting } ∷ []
 
--- no step is due; while the link is up, what it took and what waits are this text, and the flush is so far
+-- a publish whose text waits to be written and then a flush wait for the link; or a flush alone; or it awaits all bytes that wait; or it
+-- is done, and none waits
+abbrev pub IsFlushing : List ℕ → List Call → Tickets → List (ℕ × CallReply) → List ℕ → Type 0
+IsFlushing unwritten calls tickets ready waiting =
+    ((m : OutboundMessage) × (calls ≡ call.Publish m ∷ call.Flush ∷ []) × (unwritten ≡ command_text (client.Publish m.subject m.payload m.reply m.headers))
+    × (tickets ≡ one_flush 0 (waits.Flush ∷ []) []) × (ready ≡ []))
+    ⊎ (((calls ≡ call.Flush ∷ []) × (unwritten ≡ []) × (tickets ≡ one_flush 0 (waits.Flush ∷ []) []) × (ready ≡ []))
+    ⊎ (((calls ≡ []) × (unwritten ≡ []) × (0 < length waiting) × (tickets ≡ one_flush 1 [] (awaits_all waiting)) × (ready ≡ []))
+    ⊎ ((calls ≡ []) × (unwritten ≡ []) × (waiting ≡ []) × (tickets ≡ one_flush 1 [] []) × (ready ≡ (1, replies.Flushed) ∷ []))))
+
+-- no step is due; while the link is up, what it took, what waits and what waits to be written are this text, and the flush is so far
 pub record Flushes (text took : List ℕ) (seen : Seen) : Type 0 where
-  pub calm : IsCalm seen.parts
+  pub mux : List ℕ
+  pub noise : Noise
+  pub up : Bool
+  pub calls : List Call
+  pub tickets : Tickets
+  pub ready : List (ℕ × CallReply)
+  pub unread : List ℕ
+  pub waiting : List ℕ
+  pub unwritten : List ℕ
+  pub is : seen ≡ state mux noise (record {
+    up = up;
+    calls = calls;
+    subs = no_subs;
+    tickets = tickets;
+    ready = ready;
+    unread = unread;
+    waiting = waiting;
+  })
   pub settled : due seen.parts ≡ None
-  pub up : seen.parts.link.is_up ≡ true → (took ++ seen.parts.link.wire.waiting ≡ text) × IsFlushing seen
-  pub down : seen.parts.link.is_up ≡ false → (seen.ready ≡ []) ⊎ (seen.ready ≡ (1, replies.FlushFailed) ∷ [])
+  pub ups : up ≡ true → (took ++ (waiting ++ unwritten) ≡ text) × IsFlushing unwritten calls tickets ready waiting
+  pub downs : up ≡ false → reply_in 1 ready ≡ Some replies.Flushed → ⊥
 
 -- what a flush comes to: the link took all of the text behind what it had taken; or it was over before, or failed
 abbrev pub FlushEnds : Bool → List ℕ → Result (Unit {0}) LiveError → WriteTold → Type 0
@@ -122,11 +124,11 @@ FlushEnds up all (Err (refused.Subscribe e)) w = ⊥
 
 -- ---- a subscription
 
--- the one subscription is open, asks for this subject, has no limit, and these messages wait
-abbrev pub open_sub : List ℕ → ℕ → List Message → Sub
-open_sub subject puts waiting = record {
+-- the one subscription asks for this subject, has no limit, and these messages wait; it is open, or waits to be subscribed
+abbrev pub one_sub : Bool → List ℕ → ℕ → List Message → Sub
+one_sub opened subject puts waiting = record {
   interest = Some (record { subject = subject; queue_group = None });
-  stage = stages.Open;
+  stage = if opened then stages.Open else stages.Asked;
   is_shut = false;
   is_gone = false;
   is_draining = false;
@@ -135,27 +137,46 @@ open_sub subject puts waiting = record {
   waiting = waiting;
 }
 
+abbrev pub receiving : Bool → Bool → List ℕ → ℕ → List Message → List ℕ → List ℕ → Kept
+receiving up opened subject puts messages unread waiting = record {
+  up = up;
+  calls = if opened then [] else call.Subscribe subject None ∷ [];
+  subs = record { given = 1; subscribed = if opened then 1 else 0; rows = one_sub opened subject puts messages ∷ [] };
+  tickets = no_tickets;
+  ready = [];
+  unread = unread;
+  waiting = waiting;
+}
+
+abbrev pub sub_text : List ℕ → List ℕ
+sub_text subject = command_text (client.Subscribe 1 subject None)
+
 -- the text of a session that subscribed once it had read some operations, and read more since
 abbrev pub subscribed_text : List ℕ → List Operation → List Operation → List ℕ
-subscribed_text subject first since =
-    pongs first ++ command_text (client.Subscribe 1 subject None) ++ pongs since
+subscribed_text subject first since = pongs first ++ sub_text subject ++ pongs since
+
+-- what waits to be written of it
+abbrev pub unasked : Bool → List ℕ → List ℕ
+unasked true subject = []
+unasked false subject = sub_text subject
 
 -- the link gave these bytes, whose operations are the first ones, read before the subscribe, and those since; of the messages of
 -- subscription 1 since then so many were taken, and the others wait; it took these bytes of the session's text
 pub record Receives (subject joined : List ℕ) (first since : List Operation) (took : List ℕ) (taken : ℕ) (seen : Seen) : Type 0 where
-  pub calm : IsCalm seen.parts
+  pub mux : List ℕ
+  pub noise : Noise
+  pub up : Bool
+  pub opened : Bool
+  pub puts : ℕ
+  pub unread : List ℕ
+  pub waiting : List ℕ
+  pub is : seen ≡ state mux noise (receiving up opened subject puts (drop taken (messages 1 since)) unread waiting)
   pub settled : due seen.parts ≡ None
-  pub calls : seen.parts.calls ≡ []
   pub all : operations joined ≡ first ++ since
   pub fits : taken ≤ length (messages 1 since)
-  pub puts : ℕ
-  pub subs : seen.parts.subs ≡ record {
-    given = 1;
-    subscribed = 1;
-    rows = open_sub subject puts (drop taken (messages 1 since)) ∷ [];
-  }
-  pub up : seen.parts.link.is_up ≡ true → GoesOn joined (first ++ since) seen.parts.link.wire.unread
-      × (took ++ seen.parts.link.wire.waiting ≡ subscribed_text subject first since)
+  pub fresh : opened ≡ false → since ≡ []
+  pub ups : up ≡ true → GoesOn joined (first ++ since) unread
+      × (took ++ (waiting ++ unasked opened subject) ≡ subscribed_text subject first since)
   pub left : List ℕ
   pub text : took ++ left ≡ subscribed_text subject first since
 
@@ -248,6 +269,8 @@ pub record IsReceiving (subject joined : List ℕ) (first : List Operation) (tak
   pub gave : GaveLater bytes r0 r
   pub receives : Receives subject (joined ++ bytes) first since took taken seen
   pub wrote : Took (head ++ took) w
+  -- once anything was read the text of the subscribe was taken
+  pub asked : (since ≡ []) ⊎ ((answered : List ℕ) × (took ≡ subscribed_text subject first [] ++ answered))
   pub over : seen.parts.link.is_up ≡ false → IsOver (joined ++ bytes) r w
 
 -- n messages were printed, the first of subscription 1 since it subscribed; or fewer came, and the link is over

@@ -3,4 +3,5 @@ pub mod Causes
 pub mod Ended
 pub mod Flow
 pub mod Pooled
+pub mod State
 pub mod Steps

@@ -3,7 +3,8 @@ ghost use Rattle.std.specs.Prelude.{◌≡◌, ℕ, [], true, IfOk, IfErr, IsTru
 ghost use Rattle.nats_core.specs.Calls.{parts_in};
 ghost use Rattle.nats_core.specs.Journal.{new_core};
 ghost use Rattle.nats_live.specs.declared.error.LiveError.TheVariants as refused;
-ghost use Rattle.nats_live.specs.Flow.{HasBegun, HasBegunOr, default_config};
+ghost use Rattle.nats_live.specs.Flow.{HasBegun, HasBegunOr};
+ghost use Rattle.nats_live.specs.State.{default_config};
 
 use crate::error::LiveError;
 use crate::step::play;
