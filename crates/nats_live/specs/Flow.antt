@@ -63,7 +63,28 @@ abbrev pub HasBegunOr : ℕ → List ℕ → Result (Unit {0}) LiveError → See
 HasBegunOr most joined (Ok done) seen = HasBegun most joined seen
 HasBegunOr most joined (Err e) seen = e ≡ refused.NoMemory
 
--- ---- a flush
+-- ---- a publish and a flush
+
+-- how far a publish and then a flush came: the publish waits to be handled, or was handled; both wait; the flush waits; it awaits
+-- all bytes that wait; it is done
+pub data Phase : Type 0 where
+  sending both : OutboundMessage → Phase
+  sent flush_waits flush_awaits flush_done : Phase
+
+abbrev pub calls_at : Phase → List Call
+calls_at (sending m) = call.Publish m ∷ []
+calls_at (both m) = call.Publish m ∷ call.Flush ∷ []
+calls_at flush_waits = call.Flush ∷ []
+calls_at phase = []
+
+abbrev pub publish_text : OutboundMessage → List ℕ
+publish_text m = command_text (client.Publish m.subject m.payload m.reply m.headers)
+
+-- what waits to be written
+abbrev pub unwritten_at : Phase → List ℕ
+unwritten_at (sending m) = publish_text m
+unwritten_at (both m) = publish_text m
+unwritten_at phase = []
 
 -- the one ticket is of a flush, handled or not, that awaits so many bytes
 abbrev pub one_flush : ℕ → List Waits → List Awaits → Tickets
@@ -76,42 +97,53 @@ one_flush handled queued flushing = record {
   asking = [];
 }
 
-abbrev pub awaits_all : List ℕ → List Awaits
-awaits_all waiting = record { ticket = 1; ahead = length waiting } ∷ []
+abbrev pub tickets_at : Phase → List ℕ → Tickets
+tickets_at (sending m) waiting = no_tickets
+tickets_at sent waiting = no_tickets
+tickets_at (both m) waiting = one_flush 0 (waits.Flush ∷ []) []
+tickets_at flush_waits waiting = one_flush 0 (waits.Flush ∷ []) []
+tickets_at flush_awaits waiting = one_flush 1 [] (record { ticket = 1; ahead = length waiting } ∷ [])
+tickets_at flush_done waiting = one_flush 1 [] []
 
--- a publish whose text waits to be written and then a flush wait for the link; or a flush alone; or it awaits all bytes that wait; or it
--- is done, and none waits
-abbrev pub IsFlushing : List ℕ → List Call → Tickets → List (ℕ × CallReply) → List ℕ → Type 0
-IsFlushing unwritten calls tickets ready waiting =
-    ((m : OutboundMessage) × (calls ≡ call.Publish m ∷ call.Flush ∷ []) × (unwritten ≡ command_text (client.Publish m.subject m.payload m.reply m.headers))
-    × (tickets ≡ one_flush 0 (waits.Flush ∷ []) []) × (ready ≡ []))
-    ⊎ (((calls ≡ call.Flush ∷ []) × (unwritten ≡ []) × (tickets ≡ one_flush 0 (waits.Flush ∷ []) []) × (ready ≡ []))
-    ⊎ (((calls ≡ []) × (unwritten ≡ []) × (0 < length waiting) × (tickets ≡ one_flush 1 [] (awaits_all waiting)) × (ready ≡ []))
-    ⊎ ((calls ≡ []) × (unwritten ≡ []) × (waiting ≡ []) × (tickets ≡ one_flush 1 [] []) × (ready ≡ (1, replies.Flushed) ∷ []))))
+abbrev pub ready_at : Phase → List (ℕ × CallReply)
+ready_at flush_done = (1, replies.Flushed) ∷ []
+ready_at phase = []
 
--- no step is due; while the link is up, what it took, what waits and what waits to be written are this text, and the flush is so far
-pub record Flushes (text took : List ℕ) (seen : Seen) : Type 0 where
-  pub mux : List ℕ
-  pub noise : Noise
-  pub up : Bool
-  pub calls : List Call
-  pub tickets : Tickets
-  pub ready : List (ℕ × CallReply)
-  pub unread : List ℕ
-  pub waiting : List ℕ
-  pub unwritten : List ℕ
-  pub is : seen ≡ state mux noise (record {
-    up = up;
-    calls = calls;
-    subs = no_subs;
-    tickets = tickets;
-    ready = ready;
-    unread = unread;
-    waiting = waiting;
-  })
+abbrev pub at_phase : Phase → Bool → List ℕ → List ℕ → Kept
+at_phase phase up unread waiting = record {
+  up = up;
+  calls = calls_at phase;
+  subs = no_subs;
+  tickets = tickets_at phase waiting;
+  ready = ready_at phase;
+  unread = unread;
+  waiting = waiting;
+}
+
+-- the flush was accepted
+abbrev pub HasFlush : Phase → Type 0
+HasFlush (sending m) = ⊥
+HasFlush sent = ⊥
+HasFlush phase = Unit {0}
+
+-- what is so of the bytes that wait
+abbrev pub FitsPhase : Phase → List ℕ → Type 0
+FitsPhase flush_awaits waiting = 0 < length waiting
+FitsPhase flush_done waiting = waiting ≡ []
+FitsPhase phase waiting = Unit {0}
+
+-- no step is due; while the link is up, what it took, what waits and what waits to be written are this text; once it is over, no flush
+-- is done
+pub record Sends (text took : List ℕ) (phase : Phase) (seen : Seen) : Type 0 where
   pub settled : due seen.parts ≡ None
-  pub ups : up ≡ true → (took ++ (waiting ++ unwritten) ≡ text) × IsFlushing unwritten calls tickets ready waiting
-  pub downs : up ≡ false → reply_in 1 ready ≡ Some replies.Flushed → ⊥
+  pub ups : seen.parts.link.is_up ≡ true → (mux : List ℕ) × (noise : Noise) × (unread : List ℕ) × (waiting : List ℕ)
+      × (seen ≡ state mux noise (at_phase phase true unread waiting)) × FitsPhase phase waiting
+      × (took ++ (waiting ++ unwritten_at phase) ≡ text)
+  pub downs : seen.parts.link.is_up ≡ false → reply_in 1 seen.ready ≡ Some replies.Flushed → ⊥
+
+-- the same in some phase of the flush
+abbrev pub Flushes : List ℕ → List ℕ → Seen → Type 0
+Flushes text took seen = (phase : Phase) × (HasFlush phase × Sends text took phase seen)
 
 -- what a flush comes to: the link took all of the text behind what it had taken; or it was over before, or failed
 abbrev pub FlushEnds : Bool → List ℕ → Result (Unit {0}) LiveError → WriteTold → Type 0
