@@ -48,9 +48,9 @@ OffersNothing nonce result = result ≡ Ok nothing
 abbrev pub default_timeout : ℕ
 default_timeout = 5000
 
--- the round is of this server alone, and of that of this address
+-- the round is of this server alone, without a limit of attempts; the same of the server of this address
 abbrev pub IsRoundWith : Parts → RoundTold → Type 0
-IsRoundWith server t = (planned : Planned) × (planned.addr ≡ server) × (t.round ≡ planned ∷ [])
+IsRoundWith server t = (planned : Planned) × (planned.addr ≡ server) × (t.round ≡ planned ∷ []) × (t.limit ≡ None)
 
 abbrev pub IsRoundOf : List ℕ → RoundTold → Type 0
 IsRoundOf addr t = (server : Parts) × (addr_of addr ≡ Ok server) × IsRoundWith server t
