@@ -54,7 +54,8 @@ pub enum SubscribeErrorKind {
     NoMemory,
 }
 
-/// Why a subject was not subscribed to: the kind, and where it is known, what it came of. The crate's `SubscribeError`.
+/// Why a subject was not subscribed to: the kind, and where it is known, what it came of. The crate's
+/// `SubscribeError`.
 pub type SubscribeError = Error<SubscribeErrorKind>;
 
 impl fmt::Display for SubscribeErrorKind {

@@ -6,7 +6,8 @@ use crate::{Job, Spawner};
 use nats_names::Failed;
 use std::alloc::Global;
 
-/// A spawner in memory: it runs each job at once, on the caller's thread, and fails at the starts that it was told to fail at.
+/// A spawner in memory: it runs each job at once, on the caller's thread, and fails at the starts that it was
+/// told to fail at.
 #[derive(Drop)]
 pub struct FakeSpawner {
     failing: Vec<u64>,

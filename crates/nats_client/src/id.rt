@@ -12,8 +12,8 @@ use std::alloc::Global;
 /// How many letters such a name has. The crate's ids are as long.
 pub const ID_LENGTH: usize = 22;
 
-/// A text of 22 ASCII letters or digits, drawn from `rng`. Own call: the crate takes ids of `nuid`. That no other text is equal
-/// to it is not claimed.
+/// A text of 22 ASCII letters or digits, drawn from `rng`. Own call: the crate takes ids of `nuid`. That no
+/// other text is equal to it is not claimed.
 ///
 /// # Errors
 ///

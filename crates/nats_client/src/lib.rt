@@ -1,5 +1,6 @@
-//! A client's outside beyond its links: who starts jobs, and the whole of it as one; all of it over the system, and in memory.
-//! Beside them stand the errors of a client's calls and the texts that name it. Times are milliseconds.
+//! A client's outside beyond its links: who starts jobs, and the whole of it as one; all of it over the system,
+//! and in memory. Beside them stand the errors of a client's calls and the texts that name it. Times are
+//! milliseconds.
 #![tactic(auto)]
 
 mod errors;

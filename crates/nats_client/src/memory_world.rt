@@ -21,8 +21,8 @@ pub type MemoryWorld = Whole<
 /// The port of the one address of each host there.
 const PORT: u16 = 4_222;
 
-/// A world in memory where each host has one address, these links are dialed in order, time stands still, and each number that is
-/// drawn is 0. Nothing fails but a dial where no link is left.
+/// A world in memory where each host has one address, these links are dialed in order, time stands still, and
+/// each number that is drawn is 0. Nothing fails but a dial where no link is left.
 ///
 /// # Errors
 ///

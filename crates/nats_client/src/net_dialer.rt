@@ -10,9 +10,9 @@ use nats_outside::{DialWord, Dialer};
 use std::io;
 use std::net::{Net, OpenStream, SocketAddr};
 
-/// A dialer over the network of the system: each link is a stream, whose two halves are two handles of it. Each `Err` of the
-/// system is a failure. It tells its counts and words, and no bytes. As the crate's links it has no TLS; unlike them it does not
-/// ask for small packets at once.
+/// A dialer over the network of the system: each link is a stream, whose two halves are two handles of it. Each
+/// `Err` of the system is a failure. It tells its counts and words, and no bytes. As the crate's links it has
+/// no TLS; unlike them it does not ask for small packets at once.
 #[derive(Drop)]
 pub struct NetDialer<R> {
     rt: R,

@@ -10,8 +10,8 @@ use nats_outside::{LinkRead, LinkWrite};
 use std::io::{Read, Write};
 use std::net::{OpenStream, Shutdown};
 
-/// The reading half of a link over a stream, which blocks until bytes are there. Each `Err` of the stream is a failure, whatever
-/// its kind. It tells its counts and no bytes: what a socket gives is not known.
+/// The reading half of a link over a stream, which blocks until bytes are there. Each `Err` of the stream is a
+/// failure, whatever its kind. It tells its counts and no bytes: what a socket gives is not known.
 #[derive(Drop)]
 pub struct NetRead<S> {
     stream: S,
@@ -68,8 +68,8 @@ impl<S: Read> LinkRead for NetRead<S> {
     }
 }
 
-/// The writing half of a link over a stream, which blocks until bytes are taken. Each `Err` of the stream is a failure, whatever
-/// its kind, and so is taking none of nonempty bytes. It tells its count and no bytes.
+/// The writing half of a link over a stream, which blocks until bytes are taken. Each `Err` of the stream is a
+/// failure, whatever its kind, and so is taking none of nonempty bytes. It tells its count and no bytes.
 #[derive(Drop)]
 pub struct NetWrite<S> {
     stream: S,

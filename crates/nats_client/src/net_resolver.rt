@@ -9,8 +9,8 @@ use std::alloc::Global;
 use std::io::ErrorKind;
 use std::net::{Net, SocketAddr, ToSocketAddrs};
 
-/// A resolver that asks the system. An IP address stands for itself. Each `Err` of the system but want of memory is a failure. It
-/// tells its counts, its words and what it was asked, and not the list.
+/// A resolver that asks the system. An IP address stands for itself. Each `Err` of the system but want of
+/// memory is a failure. It tells its counts, its words and what it was asked, and not the list.
 #[derive(Drop)]
 pub struct NetResolver<R> {
     rt: R,

@@ -4,15 +4,15 @@ ghost use Rattle.nats_client.specs.Spawning.{spawned};
 
 use nats_names::Failed;
 
-/// What may run beside its maker: it owns all that it uses, may move between threads, and can be dropped. Own trait: the Rust
-/// hands its runtime a future.
+/// What may run beside its maker: it owns all that it uses, may move between threads, and can be dropped. Own
+/// trait: the Rust hands its runtime a future.
 pub trait Job: Drop + Send + Sized {
     /// Does the job, to its end.
     fn run(self);
 }
 
-/// Starts jobs, and counts those that it could not start; the count stops at 2^64-1. Own trait: the Rust spawns tasks of its
-/// runtime, and a clause that names the cause of a refusal needs a count.
+/// Starts jobs, and counts those that it could not start; the count stops at 2^64-1. Own trait: the Rust spawns
+/// tasks of its runtime, and a clause that names the cause of a refusal needs a count.
 pub trait Spawner {
     /// How many jobs were not started.
     ghost spawn_faults: { Self → ℕ };

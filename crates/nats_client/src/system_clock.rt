@@ -6,8 +6,8 @@ use nats_outside::Clock;
 use std::time;
 use std::time::Duration;
 
-/// A clock over the system's one that never goes back; its values count from an arbitrary moment. Where the system's clock can't
-/// be read, the last value is given again, and that is counted.
+/// A clock over the system's one that never goes back; its values count from an arbitrary moment. Where the
+/// system's clock can't be read, the last value is given again, and that is counted.
 #[derive(Clone, Copy)]
 pub struct SystemClock<R> {
     rt: R,

@@ -8,8 +8,8 @@ use std::alloc::Global;
 use std::thread;
 use std::thread::{JoinHandle, Threads};
 
-/// A spawner that starts a thread for each job. It keeps the threads, so that they can be waited for. A start for which there is
-/// no thread or no memory fails.
+/// A spawner that starts a thread for each job. It keeps the threads, so that they can be waited for. A start
+/// for which there is no thread or no memory fails.
 #[derive(Drop)]
 pub struct ThreadSpawner<R> {
     rt: R,

@@ -7,7 +7,8 @@ use nats_outside::{Clock, Dialer, Draw, Failed, Reach, ResolveError, Resolver};
 use std::alloc::Global;
 use std::net::SocketAddr;
 
-/// What connects, a spawner, and a clock that each job gets a copy of, side by side: all of the outside that a client needs.
+/// What connects, a spawner, and a clock that each job gets a copy of, side by side: all of the outside that a
+/// client needs.
 #[derive(Drop)]
 pub struct Whole<W, S, C> {
     /// What connects.

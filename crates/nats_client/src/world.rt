@@ -4,8 +4,9 @@ ghost use Rattle.std.specs.Prelude.{◌≡◌};
 use crate::Spawner;
 use nats_outside::{Clock, Reach};
 
-/// All of the outside that a client needs: what connecting needs, who starts jobs, and clocks that a job may own. What connects
-/// leaves the spawner's count as it was, and a start of a job leaves what the other parts tell. Own trait.
+/// All of the outside that a client needs: what connecting needs, who starts jobs, and clocks that a job may
+/// own. What connects leaves the spawner's count as it was, and a start of a job leaves what the other parts
+/// tell. Own trait.
 pub trait World: Reach + Spawner {
     /// A clock that a job owns.
     type Ticks: Clock + Drop + Send;

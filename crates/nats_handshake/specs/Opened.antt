@@ -10,8 +10,8 @@ use Rattle.nats_handshake.specs.declared.course.Verdict.TheVariants as verdict
 use Rattle.nats_handshake.specs.Course.{Course, course, greeting_at}
 use Rattle.nats_handshake.specs.Shaking.{operations_most}
 
--- a link whose handshake succeeded: the server's INFO, one PONG for each PING of the handshake, the bytes of the handshake's
--- pieces that came behind its last operation, and the pieces that came later
+-- a link whose handshake succeeded: the server's INFO, one PONG for each PING of the handshake, the bytes of
+-- the handshake's pieces that came behind its last operation, and the pieces that came later
 pub record Opened : Type 0 where
   pub info : ServerInfo
   pub said : List ℕ
@@ -35,7 +35,8 @@ opened_at (greeting.Refuses r) text later = None
 abbrev pub opened_in : List ℕ → List (List ℕ) → Option Opened
 opened_in text later = opened_at (greeting_at (front text)) text later
 
--- the handshake's pieces are the first ones, as few as hold its success; `heard` is what came before these, and does not
+-- the handshake's pieces are the first ones, as few as hold its success; `heard` is what came before these, and
+-- does not
 abbrev pub opened_from : List ℕ → List (List ℕ) → Option Opened
 opened_from heard [] = None
 opened_from heard (piece ∷ later) = option_or (opened_in (heard ++ piece) later) (opened_from (heard ++ piece) later)

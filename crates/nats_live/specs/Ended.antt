@@ -82,9 +82,9 @@ pub record WasPublished (subject payload : List ℕ) (link : EndedLink) : Type 0
 abbrev pub received_text : ℕ → Opened → List ℕ
 received_text n o = flat_map message_line (take n (messages 1 (after o)))
 
--- n messages were received: they are the first of subscription 1 that came after the handshake's pieces were read. The link took
--- the handshake's text, a PONG for each PING that came with it, the text of the subscribe, and of the PONGs for the later PINGs the
--- first bytes
+-- n messages were received: they are the first of subscription 1 that came after the handshake's pieces were
+-- read. The link took the handshake's text, a PONG for each PING that came with it, the text of the subscribe,
+-- and of the PONGs for the later PINGs the first bytes
 pub record WasReceived (subject : List ℕ) (n : ℕ) (text : List ℕ) (link : EndedLink) : Type 0 where
   pub shaken : Opened
   pub opens : opened link.0 ≡ Some shaken

@@ -44,8 +44,8 @@ pub record GoesOn (joined : List ℕ) (done : List Operation) (unread : List ℕ
 
 -- ---- the session
 
--- the link came up with this limit of payloads, gave these bytes, and all that they made due is done: each PING of theirs is
--- answered, or they end in what is no operation, and the link is over
+-- the link came up with this limit of payloads, gave these bytes, and all that they made due is done: each PING
+-- of theirs is answered, or they end in what is no operation, and the link is over
 pub record HasBegun (most : ℕ) (joined : List ℕ) (seen : Seen) : Type 0 where
   pub mux : List ℕ
   pub noise : Noise
@@ -65,8 +65,8 @@ HasBegunOr most joined (Err e) seen = e ≡ refused.NoMemory
 
 -- ---- a publish and a flush
 
--- how far a publish and then a flush came: the publish waits to be handled, or was handled; both wait; the flush waits; it awaits
--- all bytes that wait; it is done
+-- how far a publish and then a flush came: the publish waits to be handled, or was handled; both wait; the
+-- flush waits; it awaits all bytes that wait; it is done
 pub data Phase : Type 0 where
   sending both : OutboundMessage → Phase
   sent flush_waits flush_awaits flush_done : Phase
@@ -132,8 +132,8 @@ FitsPhase flush_awaits waiting = 0 < length waiting
 FitsPhase flush_done waiting = waiting ≡ []
 FitsPhase phase waiting = Unit {0}
 
--- no step is due; while the link is up, what it took, what waits and what waits to be written are this text; once it is over, no flush
--- is done
+-- no step is due; while the link is up, what it took, what waits and what waits to be written are this text;
+-- once it is over, no flush is done
 pub record Sends (text took : List ℕ) (phase : Phase) (seen : Seen) : Type 0 where
   pub settled : due seen.parts ≡ None
   pub ups : seen.parts.link.is_up ≡ true → (mux : List ℕ) × (noise : Noise) × (unread : List ℕ) × (waiting : List ℕ)
@@ -156,7 +156,8 @@ FlushEnds up all (Err (refused.Subscribe e)) w = ⊥
 
 -- ---- a subscription
 
--- the one subscription asks for this subject, has no limit, and these messages wait; it is open, or waits to be subscribed
+-- the one subscription asks for this subject, has no limit, and these messages wait; it is open, or waits to be
+-- subscribed
 abbrev pub one_sub : Bool → List ℕ → ℕ → List Message → Sub
 one_sub opened subject puts waiting = record {
   interest = Some (record { subject = subject; queue_group = None });
@@ -192,8 +193,9 @@ abbrev pub unasked : Bool → List ℕ → List ℕ
 unasked true subject = []
 unasked false subject = sub_text subject
 
--- the link gave these bytes, whose operations are the first ones, read before the subscribe, and those since; of the messages of
--- subscription 1 since then so many were taken, and the others wait; it took these bytes of the session's text
+-- the link gave these bytes, whose operations are the first ones, read before the subscribe, and those since;
+-- of the messages of subscription 1 since then so many were taken, and the others wait; it took these bytes of
+-- the session's text
 pub record Receives (subject joined : List ℕ) (first since : List Operation) (took : List ℕ) (taken : ℕ) (seen : Seen) : Type 0 where
   pub mux : List ℕ
   pub noise : Noise
@@ -214,8 +216,8 @@ pub record Receives (subject joined : List ℕ) (first since : List Operation) (
 
 -- ---- calls
 
--- what comes of publishing on a session that has begun: the publish is written behind the PONGs, unless the link is over, and a flush
--- awaits all of it; or the subject or the payload is refused
+-- what comes of publishing on a session that has begun: the publish is written behind the PONGs, unless the
+-- link is over, and a flush awaits all of it; or the subject or the payload is refused
 abbrev pub published_text : List ℕ → List ℕ → List ℕ → List ℕ
 published_text joined subject payload =
     pongs (operations joined) ++ command_text (client.Publish subject payload None None)
@@ -292,7 +294,8 @@ pub record GaveLater (bytes : List ℕ) (before after : ReadTold) : Type 0 where
 abbrev pub IsOver : List ℕ → ReadTold → WriteTold → Type 0
 IsOver joined r w = (1 ≤ r.faults + w.faults) ⊎ ((1 ≤ r.ends) ⊎ (ends_in_fault joined ≡ true))
 
--- how far receiving is, on a link that gave some bytes and took some text before: it gave more bytes, and took more text
+-- how far receiving is, on a link that gave some bytes and took some text before: it gave more bytes, and took
+-- more text
 pub record IsReceiving (subject joined : List ℕ) (first : List Operation) (taken : ℕ) (head : List ℕ) (seen : Seen)
     (r0 r : ReadTold) (w : WriteTold) : Type 0 where
   pub bytes : List ℕ

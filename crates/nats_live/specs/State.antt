@@ -29,8 +29,8 @@ pub record Noise : Type 0 where
   pub statistics : Statistics
   pub events : List Event
 
--- what its steps hang on: whether the link is up, the calls that wait, the subscriptions, the tickets, those that settled, and the two
--- lists of bytes
+-- what its steps hang on: whether the link is up, the calls that wait, the subscriptions, the tickets, those
+-- that settled, and the two lists of bytes
 pub record Kept : Type 0 where
   pub up : Bool
   pub calls : List Call

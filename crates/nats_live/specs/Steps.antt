@@ -38,7 +38,8 @@ step_refused OutOfTurn = refused.LinkEnded
 step_refused (LinkGone current) = refused.LinkEnded
 step_refused Wanting = refused.NoMemory
 
--- a write to the link that is up took the first bytes that wait, or none waits, or it failed; nothing where no link is up
+-- a write to the link that is up took the first bytes that wait, or none waits, or it failed; nothing where no
+-- link is up
 abbrev pub WritesWhole : Logged → WriteTold → WriteTold → Result WriteOnce NoMemory → Logged → Type 0
 WritesWhole old before after (Ok (writes.Wrote n)) new = ((parts_in (caught_up old)).link.is_up ≡ true) × (0 < n)
     × (n ≤ length (waiting_in (caught_up old)))

@@ -69,8 +69,8 @@ fn feed(alloc: Global, core: &mut Core, rest: Vec<u8>) -> Result<(), LiveError>
     Ok(())
 }
 
-// A core that keeps its journal, on a link that just came up: the server said this of itself, and these bytes came behind the
-// handshake.
+// A core that keeps its journal, on a link that just came up: the server said this of itself, and these bytes
+// came behind the handshake.
 pub(crate) fn begin(
     alloc: Global,
     info: ServerInfo,

@@ -1,5 +1,6 @@
-//! Commands on a live link: one message published, or some received, on the caller's thread over a core of their own. A world that is
-//! handed in gives the link and takes it back. Lengths are in bytes, times in milliseconds.
+//! Commands on a live link: one message published, or some received, on the caller's thread over a core of
+//! their own. A world that is handed in gives the link and takes it back. Lengths are in bytes, times in
+//! milliseconds.
 #![tactic(auto)]
 
 mod begin;

@@ -39,15 +39,16 @@ fn publish_over<R: Wait, T: LinkWrite>(
     result
 }
 
-/// Publishes a message of this subject and payload to the server of an address: connects by one round on default options,
-/// publishes, waits until the link took all of it, hangs up and hands the link back, all on the caller's thread. The steps are
-/// those of a client of the crate that publishes, flushes and is dropped.
+/// Publishes a message of this subject and payload to the server of an address: connects by one round on
+/// default options, publishes, waits until the link took all of it, hangs up and hands the link back, all on
+/// the caller's thread. The steps are those of a client of the crate that publishes, flushes and is dropped.
 ///
 /// # Errors
 ///
-/// `Connect` where the address does not parse or the round gave no link; `Publish` where the subject may not be published to, or
-/// the payload is larger than the server takes; `LinkEnded` where the link failed first, or the server said what is no
-/// operation; want of memory. A refusal of the message is tested before the link's end.
+/// `Connect` where the address does not parse or the round gave no link; `Publish` where the subject may not be
+/// published to, or the payload is larger than the server takes; `LinkEnded` where the link failed first, or
+/// the server said what is no operation; want of memory. A refusal of the message is tested before the link's
+/// end.
 pub fn publish<R: Wait, W: World>(
     rt: &R,
     alloc: Global,
@@ -99,15 +100,16 @@ fn receive_over<R: Wait, L: LinkRead, T: LinkWrite>(
     result
 }
 
-/// Receives `count` messages of a subject, at least one, from the server of an address: connects by one round on default options,
-/// subscribes, takes the messages, hangs up and hands the link back, all on the caller's thread. It answers the messages as
-/// printed, a line each. The steps are those of a client of the crate that subscribes, takes messages and is dropped.
+/// Receives `count` messages of a subject, at least one, from the server of an address: connects by one round
+/// on default options, subscribes, takes the messages, hangs up and hands the link back, all on the caller's
+/// thread. It answers the messages as printed, a line each. The steps are those of a client of the crate that
+/// subscribes, takes messages and is dropped.
 ///
 /// # Errors
 ///
-/// `Connect` where the address does not parse or the round gave no link; `Subscribe` where the subject may not be subscribed to;
-/// `LinkEnded` where the link failed or ended before enough messages came, or the server said what is no operation; want of memory.
-/// A refusal of the subject is tested before the link's end.
+/// `Connect` where the address does not parse or the round gave no link; `Subscribe` where the subject may not
+/// be subscribed to; `LinkEnded` where the link failed or ended before enough messages came, or the server said
+/// what is no operation; want of memory. A refusal of the subject is tested before the link's end.
 pub fn receive<R: Wait, W: World>(
     rt: &R,
     alloc: Global,

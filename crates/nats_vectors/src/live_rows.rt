@@ -12,8 +12,8 @@ const OPENING: &str = "CONNECT {\"verbose\":false,\"pedantic\":false,\"jwt\":nul
 \"echo\":true,\"lang\":\"rust\",\"version\":\"0.51.0\",\"protocol\":1,\"tls_required\":false,\"user\":null,\"pass\":null,\
 \"auth_token\":null,\"headers\":true,\"no_responders\":true}\r\nPING\r\n";
 
-/// A row: the words; what the link gives, each text by a read of its own; the status, what is printed, and what the link took behind
-/// the opening.
+/// A row: the words; what the link gives, each text by a read of its own; the status, what is printed, and what
+/// the link took behind the opening.
 #[derive(Clone, Copy)]
 struct Row<'a> {
     words: &'a [&'a str],
@@ -69,7 +69,8 @@ const ROWS: [Row; 14] = [
         printed: "published\n",
         took: "PONG\r\nPONG\r\nPUB a 0\r\n\r\n",
     },
-    // A message that came with it is none of the subscription's; later ones are, though they begin there, and PINGs are answered.
+    // A message that came with it is none of the subscription's; later ones are, though they begin there, and
+    // PINGs are answered.
     Row {
         words: &["sub", "h", "a", "2"],
         gives: &[
@@ -136,7 +137,8 @@ const ROWS: [Row; 14] = [
     },
 ];
 
-// A world with one link that gives these texts, each by a read of its own, and fails at this read and this write, counted from 1.
+// A world with one link that gives these texts, each by a read of its own, and fails at this read and this
+// write, counted from 1.
 fn in_memory(alloc: Global, gives: &[&str], read: u64, write: u64) -> Result<MemoryWorld, NoMemory> {
     let mut text = Vec::new(alloc);
     let mut cuts = Vec::new(alloc);
