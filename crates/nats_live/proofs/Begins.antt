@@ -13,7 +13,7 @@ use Rattle.nats_core.specs.Journal.{due_round, due_rounds, all_due}
 use Rattle.nats_core.proofs.Dues.{none_round, rounds_enough, round_falls}
 use Rattle.nats_live.specs.Ended.{is_fault, ends_in_fault, pong, pongs}
 use Rattle.nats_live.specs.Flow.{GoesOn, HasBegun}
-use Rattle.nats_live.specs.State.{Noise, default_config, state, begun}
+use Rattle.nats_live.specs.State.{Noise, Kept, default_config, state, begun}
 use Rattle.nats_live.proofs.Ops.{pongs_one, goes_first, goes_fed, goes_read, goes_over, goes_fault, not_got_unfinished, not_got_fault}
 use Rattle.nats_live.proofs.States.{round_by, round_up, round_down, noise_read, noise_end, begun_read, begun_fault, begun_waits}
 
@@ -126,15 +126,17 @@ reading_all most joined seen r =
 -- ---- once nothing is due
 
 -- where nothing is due on a link that is up, nothing stands at the front
-nothing_there : (f : Front) (b : Bool) (mux : List ℕ) (n : Noise) (unread waiting : List ℕ) → b ≡ true
-    → due (state mux n (begun b unread waiting)).parts ≡ None → front unread ≡ f → f ≡ unfinished
-nothing_there unfinished b mux n unread waiting up none e = refl
-nothing_there (got op m) b mux n unread waiting up none e =
-    let p = (state mux n (begun b unread waiting)).parts in
-    absurd (none-some (read op) (sym none ∙ (ap (λ (u : Bool). if u then due_by (front unread) p else None) up ∙ ap (λ (f : Front). due_by f p) e)))
-nothing_there (fault m) b mux n unread waiting up none e =
-    let p = (state mux n (begun b unread waiting)).parts in
-    absurd (none-some (link_end word.Fault) (sym none ∙ (ap (λ (u : Bool). if u then due_by (front unread) p else None) up ∙ ap (λ (f : Front). due_by f p) e)))
+pub nothing_there : (f : Front) (mux : List ℕ) (n : Noise) (k : Kept) → k.up ≡ true → due (state mux n k).parts ≡ None
+    → front k.unread ≡ f → f ≡ unfinished
+nothing_there unfinished mux n k up none e = refl
+nothing_there (got op m) mux n k up none e =
+    let p = (state mux n k).parts in
+    absurd (none-some (read op) (sym none
+        ∙ (ap (λ (u : Bool). if u then due_by (front k.unread) p else None) up ∙ ap (λ (f : Front). due_by f p) e)))
+nothing_there (fault m) mux n k up none e =
+    let p = (state mux n k).parts in
+    absurd (none-some (link_end word.Fault) (sym none
+        ∙ (ap (λ (u : Bool). if u then due_by (front k.unread) p else None) up ∙ ap (λ (f : Front). due_by f p) e)))
 
 pub has_begun : (most : ℕ) (joined : List ℕ) (seen : Seen) → Reading most joined seen → due seen.parts ≡ None → HasBegun most joined seen
 has_begun most joined seen r none = record {
@@ -149,7 +151,7 @@ has_begun most joined seen r none = record {
   ups = λ up.
       let facts = r.ups up in
       let here = ap (λ (x : Seen). due x.parts) (sym r.is) ∙ none in
-      let there = nothing_there (front r.unread) r.up r.mux r.noise r.unread r.waiting up here refl in
+      let there = nothing_there (front r.unread) r.mux r.noise (begun r.up r.unread r.waiting) up here refl in
       let over = goes_over joined r.done r.unread facts.0 (not_got_unfinished (front r.unread) there) in (
         subst (λ (ops : List Operation). GoesOn joined ops r.unread) (sym over) facts.0,
         facts.1 ∙ ap pongs (sym over),
