@@ -1,4 +1,7 @@
 mod Begins
+mod Flushing
 mod Ops
+mod Posting
+mod Sending
 mod States
 mod Stepping

@@ -30,13 +30,12 @@ has_flush (sending m) = false
 has_flush sent = false
 has_flush phase = true
 
--- the session is in a phase; while the link is up no operation is unread, and what the link took, what waits and what is unwritten
+-- the session is in a phase, with its link up or not; while the link is up no operation is unread, and what the link took, what waits and what is unwritten
 -- are this text
-pub record Going (text took : List ℕ) (flushed : Bool) (seen : Seen) : Type 0 where
+pub record Going (text took : List ℕ) (flushed up : Bool) (seen : Seen) : Type 0 where
   pub mux : List ℕ
   pub noise : Noise
   pub phase : Phase
-  pub up : Bool
   pub unread : List ℕ
   pub waiting : List ℕ
   pub is : seen ≡ state mux noise (at_phase phase up unread waiting)
@@ -63,12 +62,11 @@ noise_handled mux c n = record {
 
 stays : (text took mux : List ℕ) (n : Noise) (phase : Phase) (unread waiting : List ℕ) (flushed : Bool) → front unread ≡ unfinished
     → has_flush phase ≡ flushed → FitsPhase phase waiting → took ++ (waiting ++ unwritten_at phase) ≡ text
-    → Going text took flushed (state mux n (at_phase phase true unread waiting))
+    → Going text took flushed true (state mux n (at_phase phase true unread waiting))
 stays text took mux n phase unread waiting flushed e kind fits is = record {
   mux = mux;
   noise = n;
   phase = phase;
-  up = true;
   unread = unread;
   waiting = waiting;
   is = refl;
@@ -82,12 +80,11 @@ stays text took mux n phase unread waiting flushed e kind fits is = record {
 publish_handled : (text took mux : List ℕ) (n : Noise) (phase : Phase) (m : OutboundMessage) (unread waiting : List ℕ) (flushed : Bool) (seen : Seen)
     → seen ≡ state mux n (at_phase phase true unread (waiting ++ publish_text m)) → front unread ≡ unfinished
     → has_flush phase ≡ flushed → FitsPhase phase (waiting ++ publish_text m) → unwritten_at phase ≡ []
-    → took ++ (waiting ++ publish_text m) ≡ text → Going text took flushed seen
+    → took ++ (waiting ++ publish_text m) ≡ text → Going text took flushed true seen
 publish_handled text took mux n phase m unread waiting flushed seen same e kind fits none is = record {
   mux = mux;
   noise = n;
   phase = phase;
-  up = true;
   unread = unread;
   waiting = waiting ++ publish_text m;
   is = same;
@@ -105,7 +102,7 @@ publish_handled text took mux n phase m unread waiting flushed seen same e kind 
 going_called : (text took mux : List ℕ) (n : Noise) (room : Bool) (phase : Phase) (unread waiting : List ℕ) (flushed : Bool)
     → front unread ≡ unfinished → has_flush phase ≡ flushed → FitsPhase phase waiting
     → took ++ (waiting ++ unwritten_at phase) ≡ text
-    → Going text took flushed (called room (state mux n (at_phase phase true unread waiting)))
+    → Going text took flushed true (called room (state mux n (at_phase phase true unread waiting)))
 going_called text took mux n false phase unread waiting flushed e kind fits is =
     stays text took mux n phase unread waiting flushed e kind fits is
 going_called text took mux n true (sending m) unread waiting flushed e kind fits is =
@@ -125,33 +122,31 @@ going_called text took mux n true flush_awaits unread waiting flushed e kind fit
 going_called text took mux n true flush_done unread waiting flushed e kind fits is =
     stays text took mux n flush_done unread waiting flushed e kind fits is
 
-pub going_round : (text took : List ℕ) (flushed : Bool) (seen : Seen) → Going text took flushed seen → Going text took flushed (due_round seen)
-going_round text took flushed seen g = by g.up refl
-  where
-    by : (b : Bool) → g.up ≡ b → Going text took flushed (due_round seen)
-    by true up =
-        let facts = g.ups up in
-        let k = at_phase g.phase g.up g.unread g.waiting in
-        let room = nat_lt (length g.waiting) write_limit in
-        subst (Going text took flushed)
-        (sym (ap due_round g.is ∙ (round_up g.mux g.noise k up
-            ∙ (ap (λ (f : Front). round_by f (state g.mux g.noise k)) facts.0
-            ∙ ap (λ (b : Bool). called room (state g.mux g.noise (at_phase g.phase b g.unread g.waiting))) up))))
-        (going_called text took g.mux g.noise room g.phase g.unread g.waiting flushed facts.0 g.kind g.fits facts.1)
-    by false down =
-        subst (Going text took flushed)
-        (sym (ap due_round g.is ∙ (round_down g.mux g.noise (at_phase g.phase g.up g.unread g.waiting) down ∙ sym g.is))) g
+pub going_round : (text took : List ℕ) (flushed up : Bool) (seen : Seen) → Going text took flushed up seen
+    → Going text took flushed up (due_round seen)
+going_round text took flushed true seen g =
+    let facts = g.ups refl in
+    let k = at_phase g.phase true g.unread g.waiting in
+    let room = nat_lt (length g.waiting) write_limit in
+    subst (Going text took flushed true)
+    (sym (ap due_round g.is ∙ (round_up g.mux g.noise k refl
+        ∙ ap (λ (f : Front). round_by f (state g.mux g.noise k)) facts.0)))
+    (going_called text took g.mux g.noise room g.phase g.unread g.waiting flushed facts.0 g.kind g.fits facts.1)
+going_round text took flushed false seen g =
+    let k = at_phase g.phase false g.unread g.waiting in
+    subst (Going text took flushed false) (sym (ap due_round g.is ∙ (round_down g.mux g.noise k refl ∙ sym g.is))) g
 
-going_rounds : (text took : List ℕ) (flushed : Bool) (k : ℕ) (seen : Seen) → Going text took flushed seen
-    → Going text took flushed (due_rounds k seen)
-going_rounds text took flushed zero seen g = g
-going_rounds text took flushed (suc k) seen g =
-    going_round text took flushed (due_rounds k seen) (going_rounds text took flushed k seen g)
+going_rounds : (text took : List ℕ) (flushed up : Bool) (k : ℕ) (seen : Seen) → Going text took flushed up seen
+    → Going text took flushed up (due_rounds k seen)
+going_rounds text took flushed up zero seen g = g
+going_rounds text took flushed up (suc k) seen g =
+    going_round text took flushed up (due_rounds k seen) (going_rounds text took flushed up k seen g)
 
-pub going_all : (text took : List ℕ) (flushed : Bool) (seen : Seen) → Going text took flushed seen → Going text took flushed (all_due seen)
-going_all text took flushed seen g =
+pub going_all : (text took : List ℕ) (flushed up : Bool) (seen : Seen) → Going text took flushed up seen
+    → Going text took flushed up (all_due seen)
+going_all text took flushed up seen g =
     let all = all_rounds seen in
-    subst (Going text took flushed) (sym all.1) (going_rounds text took flushed all.0 seen g)
+    subst (Going text took flushed up) (sym all.1) (going_rounds text took flushed up all.0 seen g)
 
 -- ---- bytes are taken
 
@@ -175,12 +170,11 @@ noise_taken mux k n = record {
 taken_plain : (text took mux : List ℕ) (n : Noise) (phase : Phase) (unread waiting : List ℕ) (k : ℕ) (seen : Seen)
     → seen ≡ state mux (noise_taken mux k n) (at_phase phase true unread (drop k waiting)) → front unread ≡ unfinished
     → has_flush phase ≡ true → FitsPhase phase (drop k waiting) → took ++ (waiting ++ unwritten_at phase) ≡ text
-    → Going text (took ++ take k waiting) true seen
+    → Going text (took ++ take k waiting) true true seen
 taken_plain text took mux n phase unread waiting k seen same e kind fits is = record {
   mux = mux;
   noise = noise_taken mux k n;
   phase = phase;
-  up = true;
   unread = unread;
   waiting = drop k waiting;
   is = same;
@@ -204,11 +198,11 @@ reached mux n unread waiting k ahead b = state mux n (record {
 
 taken_awaiting : (text took mux : List ℕ) (n : Noise) (unread waiting : List ℕ) (k : ℕ) → front unread ≡ unfinished
     → took ++ (waiting ++ []) ≡ text
-    → Going text (took ++ take k waiting) true (seen_after (state mux n (at_phase flush_awaits true unread waiting)) (taken k))
+    → Going text (took ++ take k waiting) true true (seen_after (state mux n (at_phase flush_awaits true unread waiting)) (taken k))
 taken_awaiting text took mux n unread waiting k e is = by (nat_le (length waiting) k) refl
   where
     by : (b : Bool) → nat_le (length waiting) k ≡ b
-        → Going text (took ++ take k waiting) true (seen_after (state mux n (at_phase flush_awaits true unread waiting)) (taken k))
+        → Going text (took ++ take k waiting) true true (seen_after (state mux n (at_phase flush_awaits true unread waiting)) (taken k))
     by true le =
         taken_plain text took mux n flush_done unread waiting k
         (seen_after (state mux n (at_phase flush_awaits true unread waiting)) (taken k))
@@ -223,7 +217,7 @@ taken_awaiting text took mux n unread waiting k e is = by (nat_le (length waitin
 
 going_taken : (text took mux : List ℕ) (n : Noise) (phase : Phase) (unread waiting : List ℕ) (k : ℕ) → front unread ≡ unfinished
     → has_flush phase ≡ true → FitsPhase phase waiting → took ++ (waiting ++ unwritten_at phase) ≡ text
-    → Going text (took ++ take k waiting) true (seen_after (state mux n (at_phase phase true unread waiting)) (taken k))
+    → Going text (took ++ take k waiting) true true (seen_after (state mux n (at_phase phase true unread waiting)) (taken k))
 going_taken text took mux n (sending m) unread waiting k e kind fits is = absurd (false≢true kind)
 going_taken text took mux n sent unread waiting k e kind fits is = absurd (false≢true kind)
 going_taken text took mux n (both m) unread waiting k e kind fits is =
@@ -240,19 +234,18 @@ going_taken text took mux n flush_done unread waiting k e kind fits is =
     (drop_of_length-le waiting (omega (arith, ap length fits))) is
 
 -- so many of the bytes that wait are taken
-pub going_write : (text took : List ℕ) (n : ℕ) (seen : Seen) → Going text took true seen → seen.parts.link.is_up ≡ true
+pub going_write : (text took : List ℕ) (n : ℕ) (seen : Seen) → Going text took true true seen
     → n ≤ length seen.parts.link.wire.waiting
-    → Going text (took ++ take n seen.parts.link.wire.waiting) true (seen_all seen (own_steps seen.parts (turns.Write n)))
-going_write text took n seen g up le =
-    let is_up : g.up ≡ true = sym (ap (λ (s : Seen). s.parts.link.is_up) g.is) ∙ up in
-    let facts = g.ups is_up in
-    let same : seen ≡ state g.mux g.noise (at_phase g.phase true g.unread g.waiting) =
-        g.is ∙ ap (λ (b : Bool). state g.mux g.noise (at_phase g.phase b g.unread g.waiting)) is_up in
-    let fits : n ≤ length g.waiting = subst (λ (s : Seen). n ≤ length s.parts.link.wire.waiting) same le in
+    → Going text (took ++ take n seen.parts.link.wire.waiting) true true (seen_all seen (own_steps seen.parts (turns.Write n)))
+going_write text took n seen g le =
+    let facts = g.ups refl in
+    let k = at_phase g.phase true g.unread g.waiting in
+    let fits : n ≤ length g.waiting = subst (λ (s : Seen). n ≤ length s.parts.link.wire.waiting) g.is le in
     let all : min n (length g.waiting) ≡ n = omega (arith, fits) in
-    subst (λ (s : Seen). Going text (took ++ take n s.parts.link.wire.waiting) true (seen_all s (own_steps s.parts (turns.Write n))))
-    (sym same)
-    (subst (λ (k : ℕ). Going text (took ++ take n g.waiting) true (seen_after (state g.mux g.noise (at_phase g.phase true g.unread g.waiting)) (taken k)))
+    subst (λ (s : Seen). Going text (took ++ take n s.parts.link.wire.waiting) true true
+        (seen_all s (own_steps s.parts (turns.Write n))))
+    (sym g.is)
+    (subst (λ (i : ℕ). Going text (took ++ take n g.waiting) true true (seen_after (state g.mux g.noise k) (taken i)))
         (sym all)
         (going_taken text took g.mux g.noise g.phase g.unread g.waiting n facts.0 g.kind g.fits facts.1))
 
@@ -276,14 +269,11 @@ lost_at mux n flush_awaits unread waiting none = record { down = refl; none = cc
 lost_at mux n flush_done unread waiting none = absurd (none-some replies.Flushed (sym none))
 
 -- the link is lost before the flush is settled
-pub going_lost : (text took : List ℕ) (seen : Seen) → Going text took true seen → seen.parts.link.is_up ≡ true
-    → reply_in 1 seen.ready ≡ None → IsOff (seen_all seen (own_steps seen.parts turns.Lost))
-going_lost text took seen g up none =
-    let is_up : g.up ≡ true = sym (ap (λ (s : Seen). s.parts.link.is_up) g.is) ∙ up in
-    let same : seen ≡ state g.mux g.noise (at_phase g.phase true g.unread g.waiting) =
-        g.is ∙ ap (λ (b : Bool). state g.mux g.noise (at_phase g.phase b g.unread g.waiting)) is_up in
-    subst (λ (s : Seen). IsOff (seen_all s (own_steps s.parts turns.Lost))) (sym same)
-    (lost_at g.mux g.noise g.phase g.unread g.waiting (sym (ap (λ (s : Seen). reply_in 1 s.ready) same) ∙ none))
+pub going_lost : (text took : List ℕ) (seen : Seen) → Going text took true true seen → reply_in 1 seen.ready ≡ None
+    → IsOff (seen_all seen (own_steps seen.parts turns.Lost))
+going_lost text took seen g none =
+    subst (λ (s : Seen). IsOff (seen_all s (own_steps s.parts turns.Lost))) (sym g.is)
+    (lost_at g.mux g.noise g.phase g.unread g.waiting (sym (ap (λ (s : Seen). reply_in 1 s.ready) g.is) ∙ none))
 
 -- nothing is due of it
 pub off_due : (seen : Seen) → seen.parts.link.is_up ≡ false → due seen.parts ≡ None
@@ -310,24 +300,27 @@ had flush_waits is = refl
 had flush_awaits is = refl
 had flush_done is = refl
 
-pub flushes_going : (text took : List ℕ) (seen : Seen) → Going text took true seen → due seen.parts ≡ None → Flushes text took seen
-flushes_going text took seen g none =
-    let up_here : seen.parts.link.is_up ≡ g.up = ap (λ (s : Seen). s.parts.link.is_up) g.is in
+-- whether the link is up
+pub going_up : (text took : List ℕ) (flushed up : Bool) (seen : Seen) → Going text took flushed up seen → seen.parts.link.is_up ≡ up
+going_up text took flushed up seen g = ap (λ (s : Seen). s.parts.link.is_up) g.is
+
+pub flushes_going : (text took : List ℕ) (up : Bool) (seen : Seen) → Going text took true up seen → due seen.parts ≡ None
+    → Flushes text took seen
+flushes_going text took up seen g none =
+    let here = going_up text took true up seen g in
     (g.phase, has g.phase g.kind, record {
       settled = none;
-      ups = λ up.
-          let is_up : g.up ≡ true = sym up_here ∙ up in
-          let facts = g.ups is_up in (
+      ups = λ yes.
+          let is_up : up ≡ true = sym here ∙ yes in (
             g.mux,
             g.noise,
             g.unread,
             g.waiting,
             g.is ∙ ap (λ (b : Bool). state g.mux g.noise (at_phase g.phase b g.unread g.waiting)) is_up,
             g.fits,
-            facts.1,
+            (g.ups is_up).1,
           );
-      downs = λ down.
-          none_flushed seen.ready (ap (λ (s : Seen). s.ready) g.is ∙ g.downs (sym up_here ∙ down));
+      downs = λ down. none_flushed seen.ready (ap (λ (s : Seen). s.ready) g.is ∙ g.downs (sym here ∙ down));
     })
 
 pub flushes_off : (text took : List ℕ) (seen : Seen) → IsOff seen → Flushes text took seen
@@ -337,7 +330,8 @@ flushes_off text took seen off = (flush_done, tt, record {
   downs = λ down. off.none;
 })
 
-pub going_flushes : (text took : List ℕ) (seen : Seen) → Flushes text took seen → seen.parts.link.is_up ≡ true → Going text took true seen
+pub going_flushes : (text took : List ℕ) (seen : Seen) → Flushes text took seen → seen.parts.link.is_up ≡ true
+    → Going text took true true seen
 going_flushes text took seen (phase, flush, s) up =
     let u = s.ups up in
     let k = at_phase phase true u.2 u.3 in
@@ -345,7 +339,6 @@ going_flushes text took seen (phase, flush, s) up =
       mux = u.0;
       noise = u.1;
       phase = phase;
-      up = true;
       unread = u.2;
       waiting = u.3;
       is = u.4;
