@@ -1,4 +1,5 @@
 mod Begins
+mod Beyond
 mod Flushing
 mod Ops
 mod Posting
