@@ -50,7 +50,7 @@ pub record Going (text took : List ℕ) (flushed up : Bool) (seen : Seen) : Type
 abbrev called : Bool → Seen → Seen
 called room seen = seen_all seen (due_chain seen.parts (due_call room seen.parts.calls))
 
-abbrev noise_handled : List ℕ → Call → Noise → Noise
+abbrev pub noise_handled : List ℕ → Call → Noise → Noise
 noise_handled mux c n = record {
   number = n.number;
   most = n.most;
@@ -150,13 +150,13 @@ going_all text took flushed up seen g =
 
 -- ---- bytes are taken
 
-split_text : (took w u : List ℕ) (k : ℕ) → (took ++ take k w) ++ (drop k w ++ u) ≡ took ++ (w ++ u)
+pub split_text : (took w u : List ℕ) (k : ℕ) → (took ++ take k w) ++ (drop k w ++ u) ≡ took ++ (w ++ u)
 split_text took w u k =
     append_assoc took (take k w) (drop k w ++ u)
     ∙ ap (λ (t : List ℕ). took ++ t)
         (sym (append_assoc (take k w) (drop k w) u) ∙ ap (λ (t : List ℕ). t ++ u) (take-append-drop k w))
 
-abbrev noise_taken : List ℕ → ℕ → Noise → Noise
+abbrev pub noise_taken : List ℕ → ℕ → Noise → Noise
 noise_taken mux k n = record {
   number = n.number;
   most = n.most;
