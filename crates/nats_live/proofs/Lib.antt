@@ -1,8 +1,10 @@
 mod Begins
 mod Beyond
 mod Flushing
+mod Hearing
 mod Ops
 mod Posting
+mod Quiet
 mod Sending
 mod States
 mod Stepping

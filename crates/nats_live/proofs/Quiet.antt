@@ -9,7 +9,7 @@ use Rattle.nats_history.specs.declared.call.TakeReply.{TakeReply}
 use Rattle.nats_history.specs.declared.call.TakeReply.TheVariants as takes
 use Rattle.nats_history.specs.declared.transcript.LinkWord.TheVariants as word
 use Rattle.nats_history.specs.declared.turn.Turn.TheVariants as turns
-use Rattle.nats_history.specs.History.{Step, taken, took, link_end, end_events}
+use Rattle.nats_history.specs.History as history
 use Rattle.nats_history.specs.Counts.{statistics_after}
 use Rattle.nats_history.specs.Schedule.{due, due_call, due_chain, own_steps, take_reply, took_step, write_limit}
 use Rattle.nats_session.specs.Handler.{Seen, seen_all, seen_after, push_all}
@@ -46,9 +46,7 @@ called room seen = seen_all seen (due_chain seen.parts (due_call room seen.parts
 quiet_called : (subject joined : List ℕ) (first since : List Operation) (took : List ℕ) (taken : ℕ) (seen : Seen)
     → (q : Quiet subject joined first since took taken true seen) → (room opened : Bool) → q.opened ≡ opened
     → Quiet subject joined first since took taken true (called room seen)
-quiet_called subject joined first since took taken seen q false opened is =
-    subst (λ (s : Seen). Quiet subject joined first since took taken true (called false s)) (sym q.is)
-    (subst (λ (s : Seen). Quiet subject joined first since took taken true s) q.is q)
+quiet_called subject joined first since took taken seen q false opened is = q
 quiet_called subject joined first since took taken seen q true true is =
     let same : seen ≡ state q.mux q.noise (receiving true true subject q.puts (drop taken (messages 1 since)) q.unread q.waiting) =
         q.is ∙ ap (λ (b : Bool). state q.mux q.noise (receiving true b subject q.puts (drop taken (messages 1 since)) q.unread q.waiting)) is in
@@ -175,7 +173,7 @@ quiet_write subject joined first since took_so taken_so n seen q le =
         (seen_all s (own_steps s.parts (turns.Write n))))
     (sym q.is)
     (subst (λ (i : ℕ). Quiet subject joined first since (took_so ++ take n q.waiting) taken_so true
-            (seen_after (state q.mux q.noise k) (taken i)))
+            (seen_after (state q.mux q.noise k) (history.taken i)))
         (sym all)
         (record {
           mux = q.mux;
@@ -201,8 +199,8 @@ noise_lost mux n = record {
   most = n.most;
   info = n.info;
   reads = n.reads;
-  statistics = statistics_after (default_config mux) (link_end word.Lost) n.statistics;
-  events = push_all (end_events word.Lost) n.events;
+  statistics = statistics_after (default_config mux) (history.link_end word.Lost) n.statistics;
+  events = push_all (history.end_events word.Lost) n.events;
 }
 
 lost_state : (mux subject : List ℕ) (n : Noise) (opened : Bool) (puts : ℕ) (queue : List Message) (unread waiting : List ℕ)
@@ -244,7 +242,7 @@ take_none mux subject n up false puts unread waiting = refl
 took_state : (mux subject : List ℕ) (n : Noise) (up opened : Bool) (puts : ℕ) (m : Message) (more : List Message) (unread waiting : List ℕ)
     → seen_all (state mux n (receiving up opened subject puts (m ∷ more) unread waiting))
         (own_steps (state mux n (receiving up opened subject puts (m ∷ more) unread waiting)).parts (turns.Take 1))
-    ≡ state mux (record n { statistics = statistics_after (default_config mux) (took 1) n.statistics })
+    ≡ state mux (record n { statistics = statistics_after (default_config mux) (history.took 1) n.statistics })
         (receiving up opened subject puts more unread waiting)
 took_state mux subject n up true puts m more unread waiting = refl
 took_state mux subject n up false puts m more unread waiting = refl
@@ -278,14 +276,14 @@ take_by subject joined first since took_so taken_so up seen q (m ∷ more) is =
     (
       record {
         mux = q.mux;
-        noise = record q.noise { statistics = statistics_after (default_config q.mux) (took 1) q.noise.statistics };
+        noise = record q.noise { statistics = statistics_after (default_config q.mux) (history.took 1) q.noise.statistics };
         opened = q.opened;
         puts = q.puts;
         unread = q.unread;
         waiting = q.waiting;
         is = took_state q.mux subject q.noise up q.opened q.puts m more q.unread q.waiting
             ∙ ap (λ (queue : List Message). state q.mux
-                (record q.noise { statistics = statistics_after (default_config q.mux) (took 1) q.noise.statistics })
+                (record q.noise { statistics = statistics_after (default_config q.mux) (history.took 1) q.noise.statistics })
                 (receiving up q.opened subject q.puts queue q.unread q.waiting)) (sym later);
         all = q.all;
         fits = omega (arith, q.fits, sym (length-drop taken_so (messages 1 since)) ∙ ap length is);

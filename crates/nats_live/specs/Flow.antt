@@ -348,14 +348,14 @@ TakesAll subject joined first since took taken wanted before (Ok left) new after
     × ((left ≡ 0) ⊎ (taken + (wanted - left) ≡ length (messages 1 since)))
 TakesAll subject joined first since took taken wanted before (Err e) new after = Unit {0}
 
--- all that waited was written, or the link is over
-abbrev pub IsWritten : List ℕ → List ℕ → List Operation → List Operation → ℕ → List ℕ → Result (Unit {0}) NoMemory → Seen
+-- all that waited was written, or the link is over, and was before, or failed
+abbrev pub IsWritten : List ℕ → List ℕ → List Operation → List Operation → ℕ → List ℕ → Bool → Result (Unit {0}) NoMemory → Seen
     → WriteTold → WriteTold → Type 0
-IsWritten subject joined first since taken head (Ok done) new before after = (took : List ℕ)
+IsWritten subject joined first since taken head was (Ok done) new before after = (took : List ℕ)
     × Receives subject joined first since took taken new × Took (head ++ took) after × (before.faults ≤ after.faults)
     × (new.parts.link.is_up ≡ true → took ≡ subscribed_text subject first since)
-    × (new.parts.link.is_up ≡ false → 1 ≤ after.faults)
-IsWritten subject joined first since taken head (Err e) new before after = Unit {0}
+    × (new.parts.link.is_up ≡ false → (was ≡ false) ⊎ (1 ≤ after.faults))
+IsWritten subject joined first since taken head was (Err e) new before after = Unit {0}
 
 -- what comes of receiving on a session that has begun, on a link that took some text before
 abbrev pub ReceivesAll : List ℕ → List ℕ → List ℕ → ℕ → Result (Vec ℕ) LiveError → Seen → ReadTold → ReadTold → WriteTold → Type 0
