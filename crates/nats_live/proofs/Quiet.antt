@@ -1,5 +1,5 @@
 -- A subscription on a session of which no operation is unread: what one due step, one write, one take and the link's end make of it.
-use Rattle.std.proofs.Common.{◌≡◌, refl, ◌∙◌, sym, ap, subst, ℕ, zero, suc, ◌+◌, ◌≤◌, arith, min, Bool, true, false, true≢false, nat_lt, List, [], ◌∷◌, ◌++◌, length, take, drop, append_assoc, append-nil, length-drop, drop-drop, take-add, Option, Some, None, if◌then◌else◌}
+use Rattle.std.proofs.Common.{◌≡◌, refl, ◌∙◌, sym, ap, subst, ℕ, zero, suc, ◌+◌, ◌≤◌, arith, min, Bool, true, false, true≢false, nat_lt, List, [], ◌∷◌, ◌++◌, length, take, drop, append_assoc, append-nil, length-drop, drop-drop, Option, Some, None, if◌then◌else◌}
 use Rattle.std.proofs.lemmas.Bool.{false≢true}
 use Rattle.nats_wire.specs.declared.message.Message.{Message}
 use Rattle.nats_wire.specs.Operations.{Operation, Front, unfinished, front, operations}
@@ -251,7 +251,7 @@ took_state mux subject n up false puts m more unread waiting = refl
 abbrev pub Took1 : List ℕ → List ℕ → List Operation → List Operation → List ℕ → ℕ → Bool → TakeReply → Seen → Type 0
 Took1 subject joined first since took_so taken_so up (takes.Message m) new =
     Quiet subject joined first since took_so (taken_so + 1) up new
-    × (take (taken_so + 1) (messages 1 since) ≡ take taken_so (messages 1 since) ++ m ∷ [])
+    × (take 1 (drop taken_so (messages 1 since)) ≡ m ∷ [])
 Took1 subject joined first since took_so taken_so up takes.Empty new =
     Quiet subject joined first since took_so taken_so up new × (taken_so ≡ length (messages 1 since))
 Took1 subject joined first since took_so taken_so up takes.Ended new = ⊥
@@ -292,7 +292,7 @@ take_by subject joined first since took_so taken_so up seen q (m ∷ more) is =
         left = q.left;
         text = q.text;
       },
-      take-add taken_so 1 (messages 1 since) ∙ ap (λ (queue : List Message). take taken_so (messages 1 since) ++ take 1 queue) is,
+      ap (take 1) is,
     )
 
 pub quiet_take : (subject joined : List ℕ) (first since : List Operation) (took_so : List ℕ) (taken_so : ℕ) (up : Bool) (seen : Seen)

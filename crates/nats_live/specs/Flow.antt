@@ -334,7 +334,7 @@ subscribe_answer reply = Err (refused.Subscribe (subscribing.Other, Some cause.C
 -- the oldest message that waits was taken; none where none does
 abbrev pub TakesOne : List ℕ → List ℕ → List Operation → List Operation → List ℕ → ℕ → Result (Option Message) NoMemory → Seen → Type 0
 TakesOne subject joined first since took taken (Ok (Some m)) new = Receives subject joined first since took (taken + 1) new
-    × (take (taken + 1) (messages 1 since) ≡ take taken (messages 1 since) ++ m ∷ [])
+    × (take 1 (drop taken (messages 1 since)) ≡ m ∷ [])
 TakesOne subject joined first since took taken (Ok None) new = Receives subject joined first since took taken new
     × (taken ≡ length (messages 1 since))
 TakesOne subject joined first since took taken (Err e) new = Unit {0}
@@ -349,13 +349,14 @@ TakesAll subject joined first since took taken wanted before (Ok left) new after
 TakesAll subject joined first since took taken wanted before (Err e) new after = Unit {0}
 
 -- all that waited was written, or the link is over, and was before, or failed
-abbrev pub IsWritten : List ℕ → List ℕ → List Operation → List Operation → ℕ → List ℕ → Bool → Result (Unit {0}) NoMemory → Seen
-    → WriteTold → WriteTold → Type 0
-IsWritten subject joined first since taken head was (Ok done) new before after = (took : List ℕ)
-    × Receives subject joined first since took taken new × Took (head ++ took) after × (before.faults ≤ after.faults)
-    × (new.parts.link.is_up ≡ true → took ≡ subscribed_text subject first since)
+abbrev pub IsWritten : List ℕ → List ℕ → List Operation → List Operation → List ℕ → ℕ → List ℕ → Bool → Result (Unit {0}) NoMemory
+    → Seen → WriteTold → WriteTold → Type 0
+IsWritten subject joined first since had taken head was (Ok done) new before after = (more : List ℕ)
+    × Receives subject joined first since (had ++ more) taken new × Took (head ++ (had ++ more)) after
+    × (before.faults ≤ after.faults)
+    × (new.parts.link.is_up ≡ true → had ++ more ≡ subscribed_text subject first since)
     × (new.parts.link.is_up ≡ false → (was ≡ false) ⊎ (1 ≤ after.faults))
-IsWritten subject joined first since taken head was (Err e) new before after = Unit {0}
+IsWritten subject joined first since had taken head was (Err e) new before after = Unit {0}
 
 -- what comes of receiving on a session that has begun, on a link that took some text before
 abbrev pub ReceivesAll : List ℕ → List ℕ → List ℕ → ℕ → Result (Vec ℕ) LiveError → Seen → ReadTold → ReadTold → WriteTold → Type 0

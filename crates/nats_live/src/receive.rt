@@ -99,7 +99,7 @@ fn write_all<R: Wait, T: LinkWrite>(
     ensures { (subject joined took head : List ℕ) (first since : List Operation) (taken : ℕ)
         → Receives subject joined first since took taken core.old.session
         → Took (head ++ took) (T.write_told write.old)
-        → IsWritten subject joined first since taken head (parts_in core.old).link.is_up result core.new.session
+        → IsWritten subject joined first since took taken head (parts_in core.old).link.is_up result core.new.session
         (T.write_told write.old) (T.write_told write.new) }
 {
     'writes: for _ in rt.forever() {

@@ -1,0 +1,258 @@
+-- Receiving, as its loops see it: subscribing, writes, takes and reads.
+use Rattle.std.proofs.Common.{◌≡◌, refl, ◌∙◌, sym, ap, subst, inl, inr, ◌⊎◌, ℕ, zero, suc, ◌+◌, ◌-◌, ◌<◌, ◌≤◌, arith, Bool, true, false, true≢false, nat_lt, le-ltb, List, [], ◌∷◌, ◌++◌, length, take, drop, append_assoc, append-nil, length-append, length-drop, drop-drop, take-add, flat_map, Option, Some, None, option_map, if◌then◌else◌, Result, Ok, Err}
+use Rattle.std.specs.List.{concat}
+use Rattle.std.specs.Io.KnownBytes.{append_known}
+use Rattle.std.proofs.lemmas.Bool.{false≢true}
+use Rattle.std.proofs.lemmas.List.{take-append-le}
+use Rattle.std.proofs.lemmas.Grind.{flat_map-append}
+use Rattle.std.proofs.lemmas.Option.{none-some}
+use Rattle.nats_names.specs.Names.{is_valid}
+use Rattle.nats_names.specs.declared.cause.Cause.TheVariants as cause
+use Rattle.nats_addr.specs.Resolving.{risen}
+use Rattle.nats_outside.specs.Told.{ReadTold, WriteTold, piece_more}
+use Rattle.nats_dial.specs.Lines.{Took}
+use Rattle.nats_wire.specs.declared.message.Message.{Message}
+use Rattle.nats_wire.specs.Operations.{Operation, Front, unfinished, front, operations}
+use Rattle.nats_history.specs.declared.call.Call.{Call}
+use Rattle.nats_history.specs.declared.call.Call.TheVariants as call
+use Rattle.nats_history.specs.declared.call.CallReply.{CallReply}
+use Rattle.nats_history.specs.declared.call.CallReply.TheVariants as replies
+use Rattle.nats_history.specs.declared.turn.Turn.TheVariants as turns
+use Rattle.nats_history.specs.History as history
+use Rattle.nats_history.specs.Schedule.{due, due_by, due_call, refusal, reply_by, accepted_reply, accepted_step, own_steps, write_limit}
+use Rattle.nats_session.specs.Handler.{Seen, seen_all, seen_after}
+use Rattle.nats_core.specs.declared.answers.ReadOnce.{ReadOnce}
+use Rattle.nats_core.specs.declared.answers.ReadOnce.TheVariants as reads
+use Rattle.nats_core.specs.declared.answers.WriteOnce.{WriteOnce}
+use Rattle.nats_core.specs.declared.answers.WriteOnce.TheVariants as writes
+use Rattle.nats_core.specs.declared.entry.StepReply.{StepReply}
+use Rattle.nats_core.specs.declared.entry.StepReply.TheVariants as answers
+use Rattle.nats_core.specs.Journal.{Logged, all_due, reply_to}
+use Rattle.nats_core.specs.Links.{GivesNone}
+use Rattle.nats_core.proofs.Dues.{none_played, none_after_all}
+use Rattle.nats_script.specs.Printed.{message_line}
+use Rattle.nats_live.specs.declared.error.LiveError.{LiveError}
+use Rattle.nats_live.specs.declared.error.LiveError.TheVariants as refused
+use Rattle.nats_live.specs.Ended.{messages, pongs, ends_in_fault}
+use Rattle.nats_live.specs.State.{Noise, state, begun}
+use Rattle.nats_live.specs.Steps.{ReadsWhole, WritesWhole}
+use Rattle.nats_live.specs.Flow.{GoesOn, HasBegun, Receives, Subscribes, GaveLater, IsOver, IsReceiving, IsWritten, receiving, sub_text, subscribed_text, subscribe_answer, unasked}
+use Rattle.nats_live.proofs.Begins.{nothing_there}
+use Rattle.nats_live.proofs.Flushing.{failed_once, took_failed, took_more}
+use Rattle.nats_live.proofs.Hearing.{Hearing, hearing_all, hearing_fed, hearing_over, hearing_receives}
+use Rattle.nats_live.proofs.Ops.{messages_more}
+use Rattle.nats_live.proofs.Posting.{noise_accepted}
+use Rattle.nats_live.proofs.Quiet.{Quiet, quiet_all, quiet_lost, quiet_receives, quiet_up, quiet_write, receives_quiet}
+
+-- ---- subscribing
+
+-- what refuses it
+abbrev refused_by : Bool → Option CallReply
+refused_by may = if may then None else Some replies.InvalidSubject
+
+sub_refused : (mux : List ℕ) (n : Noise) (up : Bool) (unread waiting subject : List ℕ) (may : Bool) → is_valid subject ≡ may
+    → refusal (state mux n (begun up unread waiting)).parts (call.Subscribe subject None) ≡ refused_by may
+sub_refused mux n up unread waiting subject true is =
+    ap (λ (b : Bool). if (if b then false else true) then Some replies.InvalidSubject else
+        (if nat_lt n.most 0 then Some (replies.MaxPayloadExceeded n.most 0) else None)) is
+    ∙ ap (λ (b : Bool). if b then Some (replies.MaxPayloadExceeded n.most 0) else None) (le-ltb n.most 0 (omega arith))
+sub_refused mux n up unread waiting subject false is =
+    ap (λ (b : Bool). if (if b then false else true) then Some replies.InvalidSubject else
+        (if nat_lt n.most 0 then Some (replies.MaxPayloadExceeded n.most 0) else None)) is
+
+sub_text_is : (subject waiting : List ℕ) (first : List Operation) → waiting ≡ pongs first
+    → waiting ++ sub_text subject ≡ subscribed_text subject first []
+sub_text_is subject waiting first is =
+    ap (λ (w : List ℕ). w ++ sub_text subject) is
+    ∙ ap (λ (t : List ℕ). pongs first ++ t) (sym (append-nil (sub_text subject)))
+
+sub_accepted : (most : ℕ) (joined subject : List ℕ) (seen : Seen) (b : HasBegun most joined seen)
+    → Quiet subject joined (operations joined) [] [] 0 b.up (seen_after seen (history.accepted (call.Subscribe subject None)))
+sub_accepted most joined subject seen b = record {
+  mux = b.mux;
+  noise = noise_accepted b.mux (call.Subscribe subject None) b.noise;
+  opened = false;
+  puts = 0;
+  unread = b.unread;
+  waiting = b.waiting;
+  is = ap (λ (s : Seen). seen_after s (history.accepted (call.Subscribe subject None))) b.is;
+  all = sym (append-nil (operations joined));
+  fits = omega arith;
+  fresh = λ closed. refl;
+  ups = λ up. (
+    nothing_there (front b.unread) b.mux b.noise (begun b.up b.unread b.waiting) up
+        (ap (λ (s : Seen). due s.parts) (sym b.is) ∙ b.settled) refl,
+    subst (λ (ops : List Operation). GoesOn joined ops b.unread) (sym (append-nil (operations joined))) (b.ups up).0,
+    sub_text_is subject b.waiting (operations joined) (b.ups up).1,
+  );
+  left = subscribed_text subject (operations joined) [];
+  text = refl;
+}
+
+abbrev subbed : Option CallReply → List ℕ → Seen → Seen
+subbed r subject seen = all_due (seen_all seen (accepted_step r (call.Subscribe subject None) ++ []))
+
+subscribes_by : (most : ℕ) (joined subject : List ℕ) (seen : Seen) → HasBegun most joined seen → (may : Bool) → is_valid subject ≡ may
+    → (r : Option CallReply) → r ≡ refused_by may
+    → Subscribes joined subject (subscribe_answer (answers.Call (reply_by r (accepted_reply seen.parts (call.Subscribe subject None))))) seen
+    (subbed r subject seen)
+subscribes_by most joined subject seen b true may_is r is =
+    let next = seen_after seen (history.accepted (call.Subscribe subject None)) in
+    let quiet = quiet_all subject joined (operations joined) [] [] 0 b.up next (sub_accepted most joined subject seen b) in
+    subst (λ (x : Option CallReply). Subscribes joined subject
+        (subscribe_answer (answers.Call (reply_by x (accepted_reply seen.parts (call.Subscribe subject None))))) seen (subbed x subject seen))
+    (sym is) (
+      quiet_up subject joined (operations joined) [] [] 0 b.up (all_due next) quiet ∙ sym (ap (λ (s : Seen). s.parts.link.is_up) b.is),
+      (λ up. quiet_receives subject joined (operations joined) [] [] 0 b.up (all_due next) quiet (none_after_all next)),
+    )
+subscribes_by most joined subject seen b false may_is r is =
+    subst (λ (x : Option CallReply). Subscribes joined subject
+        (subscribe_answer (answers.Call (reply_by x (accepted_reply seen.parts (call.Subscribe subject None))))) seen (subbed x subject seen))
+    (sym is) (refl, may_is)
+
+pub subscribes : (most : ℕ) (joined subject : List ℕ) (seen : Seen) → HasBegun most joined seen
+    → Subscribes joined subject (subscribe_answer (reply_to seen.parts (turns.Do (call.Subscribe subject None)))) seen
+    (all_due (seen_all seen (own_steps seen.parts (turns.Do (call.Subscribe subject None)))))
+subscribes most joined subject seen b =
+    subscribes_by most joined subject seen b (is_valid subject) refl (refusal seen.parts (call.Subscribe subject None))
+    (ap (λ (s : Seen). refusal s.parts (call.Subscribe subject None)) b.is
+        ∙ sub_refused b.mux b.noise b.up b.unread b.waiting subject (is_valid subject) refl)
+
+-- ---- writing all that waits
+
+-- the session on the way: it took more
+pub record WritesOn (subject joined : List ℕ) (first since : List Operation) (had : List ℕ) (taken : ℕ) (head : List ℕ) (was : Bool)
+    (seen : Seen) (before w : WriteTold) : Type 0 where
+  pub more : List ℕ
+  pub receives : Receives subject joined first since (had ++ more) taken seen
+  pub wrote : Took (head ++ (had ++ more)) w
+  pub faults : before.faults ≤ w.faults
+  pub over : seen.parts.link.is_up ≡ false → (was ≡ false) ⊎ (1 ≤ w.faults)
+
+pub writes_begin : (subject joined : List ℕ) (first since : List Operation) (had : List ℕ) (taken : ℕ) (head : List ℕ) (seen : Seen) (w : WriteTold)
+    → Receives subject joined first since had taken seen → Took (head ++ had) w
+    → WritesOn subject joined first since had taken head seen.parts.link.is_up seen w w
+writes_begin subject joined first since had taken head seen w receives wrote = record {
+  more = [];
+  receives = subst (λ (t : List ℕ). Receives subject joined first since t taken seen) (sym (append-nil had)) receives;
+  wrote = subst (λ (t : List ℕ). Took (head ++ t) w) (sym (append-nil had)) wrote;
+  faults = omega arith;
+  over = λ down. inl down;
+}
+
+-- the session of a link that is up
+up_quiet : (subject joined : List ℕ) (first since : List Operation) (took : List ℕ) (taken : ℕ) (seen : Seen)
+    → Receives subject joined first since took taken seen → seen.parts.link.is_up ≡ true
+    → Quiet subject joined first since took taken true seen
+up_quiet subject joined first since took taken seen r up =
+    subst (λ (b : Bool). Quiet subject joined first since took taken b seen)
+    (sym (ap (λ (s : Seen). s.parts.link.is_up) r.is) ∙ up)
+    (receives_quiet subject joined first since took taken seen r)
+
+pub writes_more : (subject joined : List ℕ) (first since : List Operation) (had : List ℕ) (taken : ℕ) (head : List ℕ) (was : Bool)
+    (old new : Logged) (before w after : WriteTold) (n : ℕ)
+    → WritesOn subject joined first since had taken head was old.session before w → WritesWhole old w after (Ok (writes.Wrote n)) new
+    → WritesOn subject joined first since had taken head was new.session before after
+writes_more subject joined first since had taken head was old new before w after n on wrote =
+    let same = none_played old.session on.receives.settled in
+    let bytes = old.session.parts.link.wire.waiting in
+    let up : old.session.parts.link.is_up ≡ true = ap (λ (s : Seen). s.parts.link.is_up) (sym same) ∙ wrote.0 in
+    let fits : n ≤ length bytes = subst (λ (s : Seen). n ≤ length s.parts.link.wire.waiting) same wrote.2 in
+    let q = up_quiet subject joined first since (had ++ on.more) taken old.session on.receives up in
+    let next = seen_all old.session (own_steps old.session.parts (turns.Write n)) in
+    let far = quiet_all subject joined first since ((had ++ on.more) ++ take n bytes) taken true next
+        (quiet_write subject joined first since (had ++ on.more) taken n old.session q fits) in
+    let is : new.session ≡ all_due next =
+        ap (λ (c : Logged). c.session) wrote.4
+        ∙ ap (λ (s : Seen). all_due (seen_all s (own_steps s.parts (turns.Write n)))) same in
+    let joins = append_assoc had on.more (take n bytes) in
+    record {
+      more = on.more ++ take n bytes;
+      receives = subst (λ (s : Seen). Receives subject joined first since (had ++ (on.more ++ take n bytes)) taken s) (sym is)
+          (subst (λ (t : List ℕ). Receives subject joined first since t taken (all_due next)) joins
+              (quiet_receives subject joined first since ((had ++ on.more) ++ take n bytes) taken true (all_due next) far (none_after_all next)));
+      wrote = subst (λ (t : List ℕ). Took t after)
+          (append_assoc head (had ++ on.more) (take n bytes) ∙ ap (λ (t : List ℕ). head ++ t) joins)
+          (took_more (head ++ (had ++ on.more)) (take n bytes) w after on.wrote
+              (wrote.3 ∙ ap (λ (s : Seen). record w { taken = append_known w.taken (take n s.parts.link.wire.waiting) }) same));
+      faults = omega (arith, on.faults, ap (λ (x : WriteTold). x.faults) wrote.3);
+      over = λ down. absurd (true≢false
+          (sym (quiet_up subject joined first since ((had ++ on.more) ++ take n bytes) taken true (all_due next) far)
+          ∙ (ap (λ (s : Seen). s.parts.link.is_up) (sym is) ∙ down)));
+    }
+
+-- nothing waits: the subscribe was handled too
+opened_by : (mux subject : List ℕ) (n : Noise) (b : Bool) (puts : ℕ) (queue : List Message) (unread : List ℕ) → front unread ≡ unfinished
+    → due (state mux n (receiving true b subject puts queue unread [])).parts ≡ None → b ≡ true
+opened_by mux subject n true puts queue unread none idle = refl
+opened_by mux subject n false puts queue unread none idle =
+    let p = (state mux n (receiving true false subject puts queue unread [])).parts in
+    absurd (none-some (history.handled (call.Subscribe subject None)) (sym idle ∙ ap (λ (f : Front). due_by f p) none))
+
+idle_opened : (subject joined : List ℕ) (first since : List Operation) (took : List ℕ) (taken : ℕ) (seen : Seen)
+    → (q : Quiet subject joined first since took taken true seen) → due seen.parts ≡ None → seen.parts.link.wire.waiting ≡ []
+    → (q.opened ≡ true) × (took ≡ subscribed_text subject first since)
+idle_opened subject joined first since took taken seen q idle empty =
+    let queue = drop taken (messages 1 since) in
+    let facts = q.ups refl in
+    let none : q.waiting ≡ [] = sym (ap (λ (s : Seen). s.parts.link.wire.waiting) q.is) ∙ empty in
+    let open = opened_by q.mux subject q.noise q.opened q.puts queue q.unread facts.0
+        (ap (λ (w : List ℕ). due (state q.mux q.noise (receiving true q.opened subject q.puts queue q.unread w)).parts) (sym none)
+        ∙ (ap (λ (s : Seen). due s.parts) (sym q.is) ∙ idle)) in (
+      open,
+      sym (append-nil took)
+      ∙ (ap (λ (w : List ℕ). took ++ w) (ap (λ (b : Bool). [] ++ unasked b subject) (sym open) ∙ ap (λ (w : List ℕ). w ++ unasked q.opened subject) (sym none))
+      ∙ facts.2),
+    )
+
+pub writes_idle : (subject joined : List ℕ) (first since : List Operation) (had : List ℕ) (taken : ℕ) (head : List ℕ) (was : Bool)
+    (old new : Logged) (before w after : WriteTold)
+    → WritesOn subject joined first since had taken head was old.session before w → WritesWhole old w after (Ok writes.Idle) new
+    → IsWritten subject joined first since had taken head was (Ok tt) new.session before after
+writes_idle subject joined first since had taken head was old new before w after on wrote =
+    let same = none_played old.session on.receives.settled in
+    let up : old.session.parts.link.is_up ≡ true = ap (λ (s : Seen). s.parts.link.is_up) (sym same) ∙ wrote.0 in
+    let q = up_quiet subject joined first since (had ++ on.more) taken old.session on.receives up in
+    let empty = ap (λ (s : Seen). s.parts.link.wire.waiting) (sym same) ∙ wrote.1 in
+    let all = idle_opened subject joined first since (had ++ on.more) taken old.session q on.receives.settled empty in
+    let is : new.session ≡ old.session = ap (λ (c : Logged). c.session) wrote.3 ∙ same in
+    subst (λ (x : WriteTold). IsWritten subject joined first since had taken head was (Ok tt) new.session before x) (sym wrote.2)
+    (subst (λ (s : Seen). IsWritten subject joined first since had taken head was (Ok tt) s before w) (sym is)
+        (on.more, on.receives, on.wrote, on.faults, (λ yes. all.1), on.over))
+
+pub writes_lost : (subject joined : List ℕ) (first since : List Operation) (had : List ℕ) (taken : ℕ) (head : List ℕ) (was : Bool)
+    (old new : Logged) (before w after : WriteTold)
+    → WritesOn subject joined first since had taken head was old.session before w → WritesWhole old w after (Ok writes.Lost) new
+    → IsWritten subject joined first since had taken head was (Ok tt) new.session before after
+writes_lost subject joined first since had taken head was old new before w after on wrote =
+    let same = none_played old.session on.receives.settled in
+    let up : old.session.parts.link.is_up ≡ true = ap (λ (s : Seen). s.parts.link.is_up) (sym same) ∙ wrote.0 in
+    let q = up_quiet subject joined first since (had ++ on.more) taken old.session on.receives up in
+    let next = seen_all old.session (own_steps old.session.parts turns.Lost) in
+    let far = quiet_all subject joined first since (had ++ on.more) taken false next
+        (quiet_lost subject joined first since (had ++ on.more) taken old.session q) in
+    let is : new.session ≡ all_due next =
+        ap (λ (c : Logged). c.session) wrote.2
+        ∙ ap (λ (s : Seen). all_due (seen_all s (own_steps s.parts turns.Lost))) same in
+    let down = quiet_up subject joined first since (had ++ on.more) taken false (all_due next) far in
+    let failed = failed_once w after wrote.1 in
+    subst (λ (s : Seen). IsWritten subject joined first since had taken head was (Ok tt) s before after) (sym is) (
+      on.more,
+      quiet_receives subject joined first since (had ++ on.more) taken false (all_due next) far (none_after_all next),
+      took_failed (head ++ (had ++ on.more)) w after on.wrote wrote.1,
+      omega (arith, on.faults, failed.1),
+      (λ yes. absurd (false≢true (sym down ∙ yes))),
+      (λ no. inr failed.0),
+    )
+
+pub writes_gone : (subject joined : List ℕ) (first since : List Operation) (had : List ℕ) (taken : ℕ) (head : List ℕ) (was : Bool)
+    (old new : Logged) (before w after : WriteTold)
+    → WritesOn subject joined first since had taken head was old.session before w → WritesWhole old w after (Ok writes.Gone) new
+    → IsWritten subject joined first since had taken head was (Ok tt) new.session before after
+writes_gone subject joined first since had taken head was old new before w after on wrote =
+    let same = none_played old.session on.receives.settled in
+    let down : old.session.parts.link.is_up ≡ false = ap (λ (s : Seen). s.parts.link.is_up) (sym same) ∙ wrote.0 in
+    let is : new.session ≡ old.session = ap (λ (c : Logged). c.session) wrote.2 ∙ same in
+    subst (λ (x : WriteTold). IsWritten subject joined first since had taken head was (Ok tt) new.session before x) (sym wrote.1)
+    (subst (λ (s : Seen). IsWritten subject joined first since had taken head was (Ok tt) s before w) (sym is)
+        (on.more, on.receives, on.wrote, on.faults, (λ yes. absurd (false≢true (sym down ∙ yes))), on.over))
