@@ -5,6 +5,7 @@ mod Hearing
 mod Ops
 mod Posting
 mod Quiet
+mod Rounds
 mod Sending
 mod States
 mod Stepping

@@ -69,7 +69,7 @@ publish_refused mux n up unread waiting subject payload =
 
 -- ---- a publish
 
-abbrev noise_accepted : List ℕ → Call → Noise → Noise
+abbrev pub noise_accepted : List ℕ → Call → Noise → Noise
 noise_accepted mux c n = record {
   number = n.number;
   most = n.most;

@@ -1,5 +1,5 @@
 -- Receiving, as its loops see it: subscribing, writes, takes and reads.
-use Rattle.std.proofs.Common.{◌≡◌, refl, ◌∙◌, sym, ap, subst, inl, inr, ◌⊎◌, ℕ, zero, suc, ◌+◌, ◌-◌, ◌<◌, ◌≤◌, arith, Bool, true, false, true≢false, nat_lt, le-ltb, List, [], ◌∷◌, ◌++◌, length, take, drop, append_assoc, append-nil, length-append, length-drop, drop-drop, take-add, flat_map, Option, Some, None, option_map, if◌then◌else◌, Result, Ok, Err}
+use Rattle.std.proofs.Common.{◌≡◌, refl, ◌∙◌, sym, ap, subst, inl, inr, ◌⊎◌, ℕ, zero, suc, ◌+◌, ◌-◌, ◌<◌, ◌≤◌, arith, Bool, true, false, true≢false, not, nat_lt, le-ltb, List, [], ◌∷◌, ◌++◌, length, take, drop, append_assoc, append-nil, length-append, length-drop, length-take, drop-drop, take-add, flat_map, Option, Some, None, option_map, if◌then◌else◌, Result, Ok, Err}
 use Rattle.std.specs.List.{concat}
 use Rattle.std.specs.Io.KnownBytes.{append_known}
 use Rattle.std.proofs.lemmas.Bool.{false≢true}
@@ -53,11 +53,11 @@ refused_by may = if may then None else Some replies.InvalidSubject
 sub_refused : (mux : List ℕ) (n : Noise) (up : Bool) (unread waiting subject : List ℕ) (may : Bool) → is_valid subject ≡ may
     → refusal (state mux n (begun up unread waiting)).parts (call.Subscribe subject None) ≡ refused_by may
 sub_refused mux n up unread waiting subject true is =
-    ap (λ (b : Bool). if (if b then false else true) then Some replies.InvalidSubject else
+    ap (λ (b : Bool). if not b then Some replies.InvalidSubject else
         (if nat_lt n.most 0 then Some (replies.MaxPayloadExceeded n.most 0) else None)) is
     ∙ ap (λ (b : Bool). if b then Some (replies.MaxPayloadExceeded n.most 0) else None) (le-ltb n.most 0 (omega arith))
 sub_refused mux n up unread waiting subject false is =
-    ap (λ (b : Bool). if (if b then false else true) then Some replies.InvalidSubject else
+    ap (λ (b : Bool). if not b then Some replies.InvalidSubject else
         (if nat_lt n.most 0 then Some (replies.MaxPayloadExceeded n.most 0) else None)) is
 
 sub_text_is : (subject waiting : List ℕ) (first : List Operation) → waiting ≡ pongs first
@@ -256,3 +256,212 @@ writes_gone subject joined first since had taken head was old new before w after
     subst (λ (x : WriteTold). IsWritten subject joined first since had taken head was (Ok tt) new.session before x) (sym wrote.1)
     (subst (λ (s : Seen). IsWritten subject joined first since had taken head was (Ok tt) s before w) (sym is)
         (on.more, on.receives, on.wrote, on.faults, (λ yes. absurd (false≢true (sym down ∙ yes))), on.over))
+
+-- ---- taking all that waits
+
+-- one message more was taken: so far the text, and how many are left
+pub lines_more : (taken wanted left : ℕ) (ms : List Message) (m : Message) (before text : List ℕ) → suc left ≤ wanted
+    → take 1 (drop (taken + (wanted - suc left)) ms) ≡ m ∷ []
+    → text ≡ before ++ flat_map message_line (take (wanted - suc left) (drop taken ms))
+    → text ++ message_line m ≡ before ++ flat_map message_line (take (wanted - left) (drop taken ms))
+lines_more taken wanted left ms m before text fits is text_is =
+    let k = wanted - suc left in
+    let rest = drop taken ms in
+    let one : take 1 (drop k rest) ≡ m ∷ [] = ap (take 1) (drop-drop k taken ms) ∙ is in
+    let line : flat_map message_line (take (k + 1) rest) ≡ flat_map message_line (take k rest) ++ message_line m =
+        ap (flat_map message_line) (take-add k 1 rest ∙ ap (λ (ms : List Message). take k rest ++ ms) one)
+        ∙ (flat_map-append message_line (take k rest) (m ∷ [])
+        ∙ ap (λ (t : List ℕ). flat_map message_line (take k rest) ++ t) (append-nil (message_line m))) in
+    let count : k + 1 ≡ wanted - left = omega (arith, fits) in
+    ap (λ (t : List ℕ). t ++ message_line m) text_is
+    ∙ (append_assoc before (flat_map message_line (take k rest)) (message_line m)
+    ∙ ap (λ (t : List ℕ). before ++ t) (sym line ∙ ap (λ (i : ℕ). flat_map message_line (take i rest)) count))
+
+-- what was printed goes on
+pub printed_more : (taken more : ℕ) (ms : List Message) (before after : List ℕ) → before ≡ flat_map message_line (take taken ms)
+    → after ≡ before ++ flat_map message_line (take more (drop taken ms)) → after ≡ flat_map message_line (take (taken + more) ms)
+printed_more taken more ms before after was is =
+    is
+    ∙ (ap (λ (t : List ℕ). t ++ flat_map message_line (take more (drop taken ms))) was
+    ∙ (sym (flat_map-append message_line (take taken ms) (take more (drop taken ms)))
+    ∙ ap (flat_map message_line) (sym (take-add taken more ms))))
+
+-- ---- reading a piece
+
+-- ---- what a half gave
+
+pieces_known : (n : ℕ) (buf : List ℕ) (later : List (List ℕ)) (known : Option (List (List ℕ))) → 0 < n
+    → piece_more n buf (option_map (λ (ps : List (List ℕ)). ps ++ later) known)
+    ≡ option_map (λ (ps : List (List ℕ)). ps ++ (later ++ take n buf ∷ [])) known
+pieces_known zero buf later known some = absurd (omega (arith, some))
+pieces_known (suc n) buf later None some = refl
+pieces_known (suc n) buf later (Some ps) some = ap Some (append_assoc ps later (take (suc n) buf ∷ []))
+
+concat_one : (later : List (List ℕ)) (piece : List ℕ) → concat (later ++ piece ∷ []) ≡ concat later ++ piece
+concat_one [] piece = append-nil piece
+concat_one (p ∷ later) piece =
+    ap (λ (t : List ℕ). p ++ t) (concat_one later piece) ∙ sym (append_assoc p (concat later) piece)
+
+pub gave_more : (bytes buf : List ℕ) (n : ℕ) (r0 r after : ReadTold) → 0 < n → GaveLater bytes r0 r
+    → after.pieces ≡ piece_more n buf r.pieces → GaveLater (bytes ++ take n buf) r0 after
+gave_more bytes buf n r0 r after some gave is = record {
+  later = gave.later ++ take n buf ∷ [];
+  pieces = is ∙ (ap (piece_more n buf) gave.pieces ∙ pieces_known n buf gave.later r0.pieces some);
+  joined = concat_one gave.later (take n buf) ∙ ap (λ (t : List ℕ). t ++ take n buf) gave.joined;
+}
+
+pub gave_none : (bytes : List ℕ) (r0 r after : ReadTold) → GaveLater bytes r0 r → after.pieces ≡ r.pieces → GaveLater bytes r0 after
+gave_none bytes r0 r after gave is = record { later = gave.later; pieces = is ∙ gave.pieces; joined = gave.joined }
+
+same_pieces : (r after : ReadTold) → GivesNone r after → after.pieces ≡ r.pieces
+same_pieces r after (inl is) = ap (λ (x : ReadTold). x.pieces) is
+same_pieces r after (inr is) = ap (λ (x : ReadTold). x.pieces) is
+
+gives_over : (joined : List ℕ) (r after : ReadTold) (w : WriteTold) → GivesNone r after → IsOver joined after w
+gives_over joined r after w (inl is) = inr (inl (subst (λ (x : ReadTold). 1 ≤ x.ends) (sym is) (omega arith)))
+gives_over joined r after w (inr is) = inl (subst (λ (x : ReadTold). 1 ≤ x.faults + w.faults) (sym is) (omega arith))
+
+-- the text of the subscribe is there wherever the whole text is
+asked_by : (subject took : List ℕ) (first since : List Operation) → took ≡ subscribed_text subject first since
+    → (answered : List ℕ) × (took ≡ subscribed_text subject first [] ++ answered)
+asked_by subject took first since is = (
+  pongs since,
+  is ∙ sym (append_assoc (pongs first) (sub_text subject ++ []) (pongs since)
+      ∙ ap (λ (t : List ℕ). pongs first ++ (t ++ pongs since)) (append-nil (sub_text subject))),
+)
+
+-- what was taken of a text that is whole, as more operations are read
+pub read_more : (subject joined : List ℕ) (first : List Operation) (taken : ℕ) (head buf : List ℕ) (n : ℕ) (old new : Logged)
+    (r0 r after : ReadTold) (w : WriteTold) (far : IsReceiving subject joined first taken head old.session r0 r w)
+    → taken ≡ length (messages 1 far.since) → far.took ≡ subscribed_text subject first far.since
+    → old.session.parts.link.wire.waiting ≡ [] → length buf < 65536
+    → ReadsWhole old buf r after (Ok (reads.Played n)) new
+    → (next : IsReceiving subject joined first taken head new.session r0 after w)
+    × ((more : List Operation) × (next.since ≡ far.since ++ more))
+read_more subject joined first taken head buf n old new r0 r after w far all whole empty fits read =
+    let receives = far.receives in
+    let same = none_played old.session receives.settled in
+    let up : old.session.parts.link.is_up ≡ true = ap (λ (s : Seen). s.parts.link.is_up) (sym same) ∙ read.0 in
+    let here : receives.up ≡ true = sym (ap (λ (s : Seen). s.parts.link.is_up) receives.is) ∙ up in
+    let bytes = joined ++ far.bytes in
+    let q = up_quiet subject bytes first far.since far.took taken old.session receives up in
+    let open : receives.opened ≡ true = opened_of subject bytes first far.since far.took taken old.session receives here empty in
+    let piece = take n buf in
+    let short : length piece < 65536 = omega (arith, fits, length-take n buf) in
+    let next = seen_all old.session (own_steps old.session.parts (turns.Piece piece)) in
+    let heard = hearing_all subject (bytes ++ piece) first far.since far.took taken next
+        (hearing_fed subject bytes piece first far.since far.took taken old.session receives here open all short) in
+    let is : new.session ≡ all_due next =
+        ap (λ (c : Logged). c.session) read.4
+        ∙ ap (λ (s : Seen). all_due (seen_all s (own_steps s.parts (turns.Piece piece)))) same in
+    let joins = append_assoc joined far.bytes piece in
+    let then = subst (λ (b : List ℕ). Receives subject b first heard.since far.took taken (all_due next)) joins
+        (hearing_receives subject (bytes ++ piece) first far.since far.took taken (all_due next) heard (none_after_all next)) in
+    (
+      record {
+        bytes = far.bytes ++ piece;
+        since = heard.since;
+        took = far.took;
+        gave = gave_more far.bytes buf n r0 r after read.1 far.gave (ap (λ (x : ReadTold). x.pieces) read.3);
+        receives = subst (λ (s : Seen). Receives subject (joined ++ (far.bytes ++ piece)) first heard.since far.took taken s) (sym is) then;
+        wrote = far.wrote;
+        asked = inr (asked_by subject far.took first far.since whole);
+        over = λ down. inr (inr (subst (λ (b : List ℕ). ends_in_fault b ≡ true) joins
+            (hearing_over subject (bytes ++ piece) first far.since far.took taken (all_due next) heard
+                (ap (λ (s : Seen). s.parts.link.is_up) (sym is) ∙ down))));
+      },
+      heard.more,
+      heard.grew,
+    )
+  where
+    opened_of : (subject joined : List ℕ) (first since : List Operation) (took : List ℕ) (taken : ℕ) (seen : Seen)
+        → (r : Receives subject joined first since took taken seen) → r.up ≡ true → seen.parts.link.wire.waiting ≡ [] → r.opened ≡ true
+    opened_of subject joined first since took taken seen r up empty =
+        let queue = drop taken (messages 1 since) in
+        let k = receiving r.up r.opened subject r.puts queue r.unread r.waiting in
+        let none : r.waiting ≡ [] = sym (ap (λ (s : Seen). s.parts.link.wire.waiting) r.is) ∙ empty in
+        let idle = ap (λ (s : Seen). due s.parts) (sym r.is) ∙ r.settled in
+        let at = nothing_there (front r.unread) r.mux r.noise k up idle refl in
+        opened_by r.mux subject r.noise r.opened r.puts queue r.unread at
+        (ap (λ (b : Bool). due (state r.mux r.noise (receiving b r.opened subject r.puts queue r.unread [])).parts) (sym up)
+        ∙ (ap (λ (w : List ℕ). due (state r.mux r.noise (receiving r.up r.opened subject r.puts queue r.unread w)).parts) (sym none) ∙ idle))
+
+-- the link gave no more
+pub read_lost : (subject joined : List ℕ) (first : List Operation) (taken : ℕ) (head buf : List ℕ) (old new : Logged)
+    (r0 r after : ReadTold) (w : WriteTold) (far : IsReceiving subject joined first taken head old.session r0 r w)
+    → ReadsWhole old buf r after (Ok reads.Lost) new
+    → (next : IsReceiving subject joined first taken head new.session r0 after w) × (next.since ≡ far.since)
+read_lost subject joined first taken head buf old new r0 r after w far read =
+    let receives = far.receives in
+    let bytes = joined ++ far.bytes in
+    let same = none_played old.session receives.settled in
+    let up : old.session.parts.link.is_up ≡ true = ap (λ (s : Seen). s.parts.link.is_up) (sym same) ∙ read.0 in
+    let q = up_quiet subject bytes first far.since far.took taken old.session receives up in
+    let next = seen_all old.session (own_steps old.session.parts turns.Lost) in
+    let quiet = quiet_all subject bytes first far.since far.took taken false next
+        (quiet_lost subject bytes first far.since far.took taken old.session q) in
+    let is : new.session ≡ all_due next =
+        ap (λ (c : Logged). c.session) read.2
+        ∙ ap (λ (s : Seen). all_due (seen_all s (own_steps s.parts turns.Lost))) same in
+    (
+      record {
+        bytes = far.bytes;
+        since = far.since;
+        took = far.took;
+        gave = gave_none far.bytes r0 r after far.gave (same_pieces r after read.1);
+        receives = subst (λ (s : Seen). Receives subject bytes first far.since far.took taken s) (sym is)
+            (quiet_receives subject bytes first far.since far.took taken false (all_due next) quiet (none_after_all next));
+        wrote = far.wrote;
+        asked = far.asked;
+        over = λ down. gives_over bytes r after w read.1;
+      },
+      refl,
+    )
+
+-- the text of the first messages is the same as more operations are read
+pub printed_same : (taken : ℕ) (since more later : List Operation) (text : List ℕ) → taken ≤ length (messages 1 since)
+    → later ≡ since ++ more → text ≡ flat_map message_line (take taken (messages 1 since))
+    → text ≡ flat_map message_line (take taken (messages 1 later))
+printed_same taken since more later text fits is text_is =
+    text_is
+    ∙ ap (flat_map message_line)
+        (sym (ap (λ (ops : List Operation). take taken (messages 1 ops)) is
+        ∙ (ap (take taken) (messages_more 1 since more) ∙ take-append-le taken (messages 1 since) (messages 1 more) fits)))
+
+-- ---- what was written, while receiving
+
+pub written_far : (subject joined : List ℕ) (first : List Operation) (taken : ℕ) (head : List ℕ) (old new : Seen) (r0 r : ReadTold)
+    (before after : WriteTold) (far : IsReceiving subject joined first taken head old r0 r before)
+    → IsWritten subject (joined ++ far.bytes) first far.since far.took taken head old.parts.link.is_up (Ok tt) new before after
+    → (next : IsReceiving subject joined first taken head new r0 r after) × (next.since ≡ far.since)
+    × (new.parts.link.is_up ≡ true → next.took ≡ subscribed_text subject first next.since)
+written_far subject joined first taken head old new r0 r before after far wrote = (
+  record {
+    bytes = far.bytes;
+    since = far.since;
+    took = far.took ++ wrote.0;
+    gave = far.gave;
+    receives = wrote.1;
+    wrote = wrote.2;
+    asked = asked_more far.asked;
+    over = λ down. over_by (wrote.5 down);
+  },
+  refl,
+  wrote.4,
+)
+  where
+    asked_more : (far.since ≡ []) ⊎ ((answered : List ℕ) × (far.took ≡ subscribed_text subject first [] ++ answered))
+        → (far.since ≡ []) ⊎ ((answered : List ℕ) × (far.took ++ wrote.0 ≡ subscribed_text subject first [] ++ answered))
+    asked_more (inl none) = inl none
+    asked_more (inr some) = inr (
+      some.0 ++ wrote.0,
+      ap (λ (t : List ℕ). t ++ wrote.0) some.1 ∙ append_assoc (subscribed_text subject first []) some.0 wrote.0,
+    )
+
+    more_faults : IsOver (joined ++ far.bytes) r before → IsOver (joined ++ far.bytes) r after
+    more_faults (inl faults) = inl (omega (arith, faults, wrote.3))
+    more_faults (inr other) = inr other
+
+    over_by : (old.parts.link.is_up ≡ false) ⊎ (1 ≤ after.faults) → IsOver (joined ++ far.bytes) r after
+    over_by (inl was) = more_faults (far.over was)
+    over_by (inr failed) = inl (omega (arith, failed))
