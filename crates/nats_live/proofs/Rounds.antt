@@ -8,6 +8,7 @@ use Rattle.std.proofs.lemmas.Grind.{flat_map-append}
 use Rattle.std.proofs.lemmas.Option.{none-some}
 use Rattle.nats_names.specs.Names.{is_valid}
 use Rattle.nats_names.specs.declared.cause.Cause.TheVariants as cause
+use Rattle.nats_names.specs.declared.failed.NoMemory.{NoMemory}
 use Rattle.nats_addr.specs.Resolving.{risen}
 use Rattle.nats_outside.specs.Told.{ReadTold, WriteTold, piece_more}
 use Rattle.nats_dial.specs.Lines.{Took}
@@ -17,9 +18,11 @@ use Rattle.nats_history.specs.declared.call.Call.{Call}
 use Rattle.nats_history.specs.declared.call.Call.TheVariants as call
 use Rattle.nats_history.specs.declared.call.CallReply.{CallReply}
 use Rattle.nats_history.specs.declared.call.CallReply.TheVariants as replies
+use Rattle.nats_history.specs.declared.call.TakeReply.{TakeReply}
+use Rattle.nats_history.specs.declared.call.TakeReply.TheVariants as takes
 use Rattle.nats_history.specs.declared.turn.Turn.TheVariants as turns
 use Rattle.nats_history.specs.History as history
-use Rattle.nats_history.specs.Schedule.{due, due_by, due_call, refusal, reply_by, accepted_reply, accepted_step, own_steps, write_limit}
+use Rattle.nats_history.specs.Schedule.{due, due_by, due_call, is_valid_turn, take_reply, refusal, reply_by, accepted_reply, accepted_step, own_steps, write_limit}
 use Rattle.nats_session.specs.Handler.{Seen, seen_all, seen_after}
 use Rattle.nats_core.specs.declared.answers.ReadOnce.{ReadOnce}
 use Rattle.nats_core.specs.declared.answers.ReadOnce.TheVariants as reads
@@ -35,14 +38,14 @@ use Rattle.nats_live.specs.declared.error.LiveError.{LiveError}
 use Rattle.nats_live.specs.declared.error.LiveError.TheVariants as refused
 use Rattle.nats_live.specs.Ended.{messages, pongs, ends_in_fault}
 use Rattle.nats_live.specs.State.{Noise, state, begun}
-use Rattle.nats_live.specs.Steps.{ReadsWhole, WritesWhole}
-use Rattle.nats_live.specs.Flow.{GoesOn, HasBegun, Receives, Subscribes, GaveLater, IsOver, IsReceiving, IsWritten, receiving, sub_text, subscribed_text, subscribe_answer, unasked}
+use Rattle.nats_live.specs.Steps.{PlaysWhole, ReadsWhole, WritesWhole}
+use Rattle.nats_live.specs.Flow.{GoesOn, HasBegun, Receives, Subscribes, GaveLater, IsOver, IsReceiving, IsWritten, TakesOne, TakesAll, receiving, sub_text, subscribed_text, subscribe_answer, unasked}
 use Rattle.nats_live.proofs.Begins.{nothing_there}
 use Rattle.nats_live.proofs.Flushing.{failed_once, took_failed, took_more}
 use Rattle.nats_live.proofs.Hearing.{Hearing, hearing_all, hearing_fed, hearing_over, hearing_receives}
 use Rattle.nats_live.proofs.Ops.{messages_more}
-use Rattle.nats_live.proofs.Posting.{noise_accepted}
-use Rattle.nats_live.proofs.Quiet.{Quiet, quiet_all, quiet_lost, quiet_receives, quiet_up, quiet_write, receives_quiet}
+use Rattle.nats_live.proofs.Posting.{noise_accepted, settled_played, settled_reply}
+use Rattle.nats_live.proofs.Quiet.{Quiet, quiet_all, quiet_lost, quiet_receives, quiet_take, quiet_up, quiet_write, receives_quiet, Took1}
 
 -- ---- subscribing
 
@@ -286,6 +289,55 @@ printed_more taken more ms before after was is =
     ∙ (sym (flat_map-append message_line (take taken ms) (take more (drop taken ms)))
     ∙ ap (flat_map message_line) (sym (take-add taken more ms))))
 
+-- what a reply to a take comes to
+abbrev pub takes_of : TakeReply → Result (Option Message) NoMemory
+takes_of (takes.Message m) = Ok (Some m)
+takes_of takes.Empty = Ok None
+takes_of takes.Ended = Ok None
+
+takes_by : (subject joined : List ℕ) (first since : List Operation) (had : List ℕ) (count : ℕ) (up : Bool) (r : TakeReply) (next : Seen)
+    → Took1 subject joined first since had count up r next → TakesOne subject joined first since had count up (takes_of r) (all_due next)
+takes_by subject joined first since had count up (takes.Message m) next took =
+    let far = quiet_all subject joined first since had (count + 1) up next took.0 in (
+      quiet_up subject joined first since had (count + 1) up (all_due next) far,
+      quiet_receives subject joined first since had (count + 1) up (all_due next) far (none_after_all next),
+      took.1,
+    )
+takes_by subject joined first since had count up takes.Empty next took =
+    let far = quiet_all subject joined first since had count up next took.0 in (
+      quiet_up subject joined first since had count up (all_due next) far,
+      quiet_receives subject joined first since had count up (all_due next) far (none_after_all next),
+      took.1,
+    )
+takes_by subject joined first since had count up takes.Ended next took = absurd took
+
+-- a take of the one subscription
+pub takes_one : (subject joined : List ℕ) (first since : List Operation) (had : List ℕ) (count : ℕ) (old new : Logged) (reply : StepReply)
+    → Receives subject joined first since had count old.session → PlaysWhole old (turns.Take 1) (Ok reply) new
+    → (r : TakeReply) × (reply ≡ answers.Take r)
+    × TakesOne subject joined first since had count old.session.parts.link.is_up (takes_of r) new.session
+takes_one subject joined first since had count old new reply receives plays =
+    let same = none_played old.session receives.settled in
+    let next = seen_all old.session (own_steps old.session.parts (turns.Take 1)) in
+    let is : new.session ≡ all_due next = settled_played old new (turns.Take 1) receives.settled plays.2 in
+    let r = take_reply old.session.parts 1 in
+    let up : receives.up ≡ old.session.parts.link.is_up = sym (ap (λ (s : Seen). s.parts.link.is_up) receives.is) in
+    let quiet = receives_quiet subject joined first since had count old.session receives in
+    (
+      r,
+      settled_reply old (turns.Take 1) reply receives.settled plays.1,
+      subst (TakesOne subject joined first since had count old.session.parts.link.is_up (takes_of r)) (sym is)
+      (subst (λ (b : Bool). TakesOne subject joined first since had count b (takes_of r) (all_due next)) up
+          (takes_by subject joined first since had count receives.up r next
+              (quiet_take subject joined first since had count receives.up old.session quiet))),
+    )
+
+-- such a take may always come
+pub take_comes : (subject joined : List ℕ) (first since : List Operation) (had : List ℕ) (count : ℕ) (old : Logged)
+    → Receives subject joined first since had count old.session → is_valid_turn (all_due old.session).parts (turns.Take 1) ≡ true
+take_comes subject joined first since had count old r =
+    ap (λ (s : Seen). is_valid_turn s.parts (turns.Take 1)) (none_played old.session r.settled ∙ r.is)
+
 -- ---- reading a piece
 
 -- ---- what a half gave
@@ -330,22 +382,42 @@ asked_by subject took first since is = (
       ∙ ap (λ (t : List ℕ). pongs first ++ (t ++ pongs since)) (append-nil (sub_text subject))),
 )
 
--- what was taken of a text that is whole, as more operations are read
+-- once the whole text was taken nothing waits
+nil_of : (xs : List ℕ) → length xs ≡ 0 → xs ≡ []
+nil_of [] none = refl
+nil_of (x ∷ xs) none = absurd (omega (arith, none))
+
+waits_none : (took waiting rest text : List ℕ) → took ++ (waiting ++ rest) ≡ text → took ≡ text → waiting ≡ []
+waits_none took waiting rest text is whole =
+    nil_of waiting (omega (arith, ap length is, ap length whole, length-append took (waiting ++ rest), length-append waiting rest))
+
+-- and the subscription is open
+whole_opened : (subject joined : List ℕ) (first since : List Operation) (took : List ℕ) (taken : ℕ) (seen : Seen)
+    → (r : Receives subject joined first since took taken seen) → r.up ≡ true → took ≡ subscribed_text subject first since → r.opened ≡ true
+whole_opened subject joined first since took taken seen r up whole =
+    let queue = drop taken (messages 1 since) in
+    let k = receiving r.up r.opened subject r.puts queue r.unread r.waiting in
+    let none = waits_none took r.waiting (unasked r.opened subject) (subscribed_text subject first since) (r.ups up).1 whole in
+    let idle = ap (λ (s : Seen). due s.parts) (sym r.is) ∙ r.settled in
+    let there = nothing_there (front r.unread) r.mux r.noise k up idle refl in
+    opened_by r.mux subject r.noise r.opened r.puts queue r.unread there
+    (ap (λ (b : Bool). due (state r.mux r.noise (receiving b r.opened subject r.puts queue r.unread [])).parts) (sym up)
+    ∙ (ap (λ (w : List ℕ). due (state r.mux r.noise (receiving r.up r.opened subject r.puts queue r.unread w)).parts) (sym none) ∙ idle))
+
+-- a piece is read once all that waited was written and taken
 pub read_more : (subject joined : List ℕ) (first : List Operation) (taken : ℕ) (head buf : List ℕ) (n : ℕ) (old new : Logged)
     (r0 r after : ReadTold) (w : WriteTold) (far : IsReceiving subject joined first taken head old.session r0 r w)
-    → taken ≡ length (messages 1 far.since) → far.took ≡ subscribed_text subject first far.since
-    → old.session.parts.link.wire.waiting ≡ [] → length buf < 65536
+    → taken ≡ length (messages 1 far.since) → far.took ≡ subscribed_text subject first far.since → length buf < 65536
     → ReadsWhole old buf r after (Ok (reads.Played n)) new
     → (next : IsReceiving subject joined first taken head new.session r0 after w)
-    × ((more : List Operation) × (next.since ≡ far.since ++ more))
-read_more subject joined first taken head buf n old new r0 r after w far all whole empty fits read =
+    × (more : List Operation) × (next.since ≡ far.since ++ more)
+read_more subject joined first taken head buf n old new r0 r after w far all whole fits read =
     let receives = far.receives in
     let same = none_played old.session receives.settled in
     let up : old.session.parts.link.is_up ≡ true = ap (λ (s : Seen). s.parts.link.is_up) (sym same) ∙ read.0 in
     let here : receives.up ≡ true = sym (ap (λ (s : Seen). s.parts.link.is_up) receives.is) ∙ up in
     let bytes = joined ++ far.bytes in
-    let q = up_quiet subject bytes first far.since far.took taken old.session receives up in
-    let open : receives.opened ≡ true = opened_of subject bytes first far.since far.took taken old.session receives here empty in
+    let open = whole_opened subject bytes first far.since far.took taken old.session receives here whole in
     let piece = take n buf in
     let short : length piece < 65536 = omega (arith, fits, length-take n buf) in
     let next = seen_all old.session (own_steps old.session.parts (turns.Piece piece)) in
@@ -373,18 +445,6 @@ read_more subject joined first taken head buf n old new r0 r after w far all who
       heard.more,
       heard.grew,
     )
-  where
-    opened_of : (subject joined : List ℕ) (first since : List Operation) (took : List ℕ) (taken : ℕ) (seen : Seen)
-        → (r : Receives subject joined first since took taken seen) → r.up ≡ true → seen.parts.link.wire.waiting ≡ [] → r.opened ≡ true
-    opened_of subject joined first since took taken seen r up empty =
-        let queue = drop taken (messages 1 since) in
-        let k = receiving r.up r.opened subject r.puts queue r.unread r.waiting in
-        let none : r.waiting ≡ [] = sym (ap (λ (s : Seen). s.parts.link.wire.waiting) r.is) ∙ empty in
-        let idle = ap (λ (s : Seen). due s.parts) (sym r.is) ∙ r.settled in
-        let at = nothing_there (front r.unread) r.mux r.noise k up idle refl in
-        opened_by r.mux subject r.noise r.opened r.puts queue r.unread at
-        (ap (λ (b : Bool). due (state r.mux r.noise (receiving b r.opened subject r.puts queue r.unread [])).parts) (sym up)
-        ∙ (ap (λ (w : List ℕ). due (state r.mux r.noise (receiving r.up r.opened subject r.puts queue r.unread w)).parts) (sym none) ∙ idle))
 
 -- the link gave no more
 pub read_lost : (subject joined : List ℕ) (first : List Operation) (taken : ℕ) (head buf : List ℕ) (old new : Logged)

@@ -55,7 +55,7 @@ fn subscribe(alloc: Global, core: &mut Core, subject: &str) -> Result<(), LiveEr
 fn take_one(alloc: Global, core: &mut Core) -> Result<Option<Message>, NoMemory>
     ensures { (subject joined took : List ℕ) (first since : List Operation) (taken : ℕ)
         → Receives subject joined first since took taken core.old.session
-        → TakesOne subject joined first since took taken result core.new.session }
+        → TakesOne subject joined first since took taken (parts_in core.old).link.is_up result core.new.session }
 {
     match play(alloc, core, Turn::Take(SUBSCRIPTION)) {
         Ok(StepReply::Take(TakeReply::Message(message))) => Ok(Some(message)),
@@ -74,7 +74,8 @@ fn take_all(
 ) -> Result<u64, NoMemory>
     ensures { (subject joined took : List ℕ) (first since : List Operation) (taken : ℕ)
         → Receives subject joined first since took taken core.old.session
-        → TakesAll subject joined first since took taken wanted text.old.items result core.new.session text.new.items }
+        → TakesAll subject joined first since took taken (parts_in core.old).link.is_up wanted text.old.items result
+        core.new.session text.new.items }
 {
     let mut left = wanted;
     'takes: while left > 0 {
