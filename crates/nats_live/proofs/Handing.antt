@@ -67,12 +67,12 @@ pub head_is : (info : ServerInfo) (rest bytes : List ℕ) (r0 : ReadTold) (w : W
     → (up : IsUp OffersNothing None false info rest r0 w) → (o : OpenedAs info up.said rest bytes pieces)
     → up.wrote ≡ handshake_text o.shaken
 head_is info rest bytes r0 w pieces up o =
-    let auth : up.offers.0 ≡ nothing = ok_same up.offers.0 nothing up.offers.1 in
+    let auth : up.offers.0 ≡ nothing = ok_same up.offers.0 (Ok up.offers.0) up.offers.1 refl in
     up.offers.2
     ∙ (ap (λ (a : AuthValue). opening None false a ++ up.said) auth ∙ ap (λ (s : List ℕ). opening None false nothing ++ s) (sym o.said_is))
   where
-    ok_same : (x y : AuthValue) → (Ok x : Result AuthValue (List ℕ)) ≡ Ok y → x ≡ y
-    ok_same x y = cc
+    ok_same : (x : AuthValue) (r : Result AuthValue (List ℕ)) → r ≡ Ok nothing → r ≡ Ok x → x ≡ nothing
+    ok_same x r is here = cc
 
 -- nothing came later
 pub gave_nothing : (r : ReadTold) → GaveLater [] r r

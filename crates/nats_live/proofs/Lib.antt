@@ -1,6 +1,8 @@
 mod Begins
 mod Beyond
+mod Ends
 mod Flushing
+mod Handing
 mod Hearing
 mod Ops
 mod Posting
