@@ -164,41 +164,40 @@ came subject joined first taken head seen r0 r w is far = record {
   wrote = far.wrote;
 }
 
-pub received_over : (most : ℕ) (joined head subject : List ℕ) (n : ℕ) (old seen : Seen) (r0 r : ReadTold) (w : WriteTold)
+-- once a message came the text of the subscribe was taken
+asked_when : (subject took : List ℕ) (first since : List Operation) (n : ℕ) → 1 ≤ n → n ≤ length (messages 1 since)
+    → (since ≡ []) ⊎ ((answered : List ℕ) × (took ≡ subscribed_text subject first [] ++ answered))
+    → (answered : List ℕ) × (took ≡ subscribed_text subject first [] ++ answered)
+asked_when subject took first since n some enough (inl none) =
+    absurd (omega (arith, some, enough, ap (λ (ops : List Operation). length (messages 1 ops)) none))
+asked_when subject took first since n some enough (inr is) = is
+
+pub received_over : (joined head subject : List ℕ) (n : ℕ) (seen : Seen) (r0 r : ReadTold) (w : WriteTold)
     (result : Result (Vec ℕ) LiveError) → 1 ≤ n → ReceivesAll joined head subject n result seen r0 r w
     → ReceivedOver joined head subject n result r0 r w
-received_over most joined head subject n old seen r0 r w (Ok text) some all =
-    let far = all.0 in
-    let enough : n ≤ length (messages 1 far.since) = far.receives.fits in
-    (
+received_over joined head subject n seen r0 r w (Ok text) some all =
+    let far = all.0 in (
       came subject joined (operations joined) n head seen r0 r w refl far,
-      enough,
+      far.receives.fits,
       all.1,
-      answered far.asked,
+      asked_when subject far.took (operations joined) far.since n some far.receives.fits far.asked,
     )
-  where
-    answered : (all.0.since ≡ [])
-        ⊎ ((answered : List ℕ) × (all.0.took ≡ subscribed_text subject (operations joined) [] ++ answered))
-        → (answered : List ℕ) × (all.0.took ≡ subscribed_text subject (operations joined) [] ++ answered)
-    answered (inl none) =
-        absurd (omega (arith, some, all.0.receives.fits, ap (λ (ops : List Operation). length (messages 1 ops)) none))
-    answered (inr is) = is
-received_over most joined head subject n old seen r0 r w (Err (refused.Subscribe (subscribing.InvalidSubject, source))) some all = all
-received_over most joined head subject n old seen r0 r w (Err (refused.Subscribe (subscribing.InvalidQueueName, source))) some all = absurd all
-received_over most joined head subject n old seen r0 r w (Err (refused.Subscribe (subscribing.Other, source))) some all = absurd all
-received_over most joined head subject n old seen r0 r w (Err (refused.Subscribe (subscribing.Full, source))) some all = absurd all
-received_over most joined head subject n old seen r0 r w (Err (refused.Subscribe (subscribing.NoMemory, source))) some all = absurd all
-received_over most joined head subject n old seen r0 r w (Err (refused.Publish e)) some all = absurd all
-received_over most joined head subject n old seen r0 r w (Err (refused.Connect e)) some all = absurd all
-received_over most joined head subject n old seen r0 r w (Err refused.LinkEnded) some (inl none) = inl none
-received_over most joined head subject n old seen r0 r w (Err refused.LinkEnded) some (inr all) =
+received_over joined head subject n seen r0 r w (Err (refused.Subscribe (subscribing.InvalidSubject, source))) some all = all
+received_over joined head subject n seen r0 r w (Err (refused.Subscribe (subscribing.InvalidQueueName, source))) some all = absurd all
+received_over joined head subject n seen r0 r w (Err (refused.Subscribe (subscribing.Other, source))) some all = absurd all
+received_over joined head subject n seen r0 r w (Err (refused.Subscribe (subscribing.Full, source))) some all = absurd all
+received_over joined head subject n seen r0 r w (Err (refused.Subscribe (subscribing.NoMemory, source))) some all = absurd all
+received_over joined head subject n seen r0 r w (Err (refused.Publish e)) some all = absurd all
+received_over joined head subject n seen r0 r w (Err (refused.Connect e)) some all = absurd all
+received_over joined head subject n seen r0 r w (Err refused.LinkEnded) some (inl none) = inl none
+received_over joined head subject n seen r0 r w (Err refused.LinkEnded) some (inr all) =
     let far = all.1 in
     inr (
       came subject joined (operations joined) all.0 head seen r0 r w refl far,
       omega (arith, all.2, all.3),
       far.over all.4,
     )
-received_over most joined head subject n old seen r0 r w (Err refused.NoMemory) some all = tt
+received_over joined head subject n seen r0 r w (Err refused.NoMemory) some all = tt
 
 -- ---- a publish, seen by its link alone
 
@@ -283,6 +282,14 @@ received_last info rest subject n text r0 r w0 w m b up back is =
     (λ pieces bytes gave took.
         was_received info rest subject text.items n r0 r w0 w pieces bytes up is.0 is.1 is.2 is.3.0 is.3.1 gave took)
 
+over_later : (info : ServerInfo) (rest bytes : List ℕ) (r0 r : ReadTold) (w0 w : WriteTold) (a m b : World)
+    → IsUp OffersNothing None false info rest r0 w0 → Onward a m → IsBack r w m b → GaveLater bytes r0 r → IsOver (rest ++ bytes) r w
+    → LinkBrokeOrEnded a b ⊎ FaultLater b
+over_later info rest bytes r0 r w0 w a m b up onward back gave (inl failed) = inl (broke_or_ended r w a m b onward back failed)
+over_later info rest bytes r0 r w0 w a m b up onward back gave (inr (inl ended)) = inl (link_ended r w a m b onward back ended)
+over_later info rest bytes r0 r w0 w a m b up onward back gave (inr (inr fault)) =
+    inr (fault_later info rest bytes r0 r w0 w m b up back gave fault)
+
 pub why_not_received : (addr : List ℕ) (info : ServerInfo) (rest subject : List ℕ) (n : ℕ) (r0 r : ReadTold) (w0 w : WriteTold) (a m b : World)
     (e : LiveError) → 1 ≤ n → (up : IsUp OffersNothing None false info rest r0 w0) → Onward a m → IsBack r w m b
     → ReceivedOver rest up.wrote subject n (Err e) r0 r w → WhyNotReceived addr subject n a e b
@@ -301,13 +308,7 @@ why_not_received addr info rest subject n r0 r w0 w a m b refused.LinkEnded some
       fewer_came info rest [] [] n r0 r w0 w m b up back gave all (omega (arith, some)),
     )
 why_not_received addr info rest subject n r0 r w0 w a m b refused.LinkEnded some up onward back (inr late) = (
-  over_by late.2,
+  over_later info rest late.0.bytes r0 r w0 w a m b up onward back late.0.gave late.2,
   fewer_came info rest late.0.bytes late.0.since n r0 r w0 w m b up back late.0.gave late.0.all late.1,
 )
-  where
-    over_by : IsOver (rest ++ late.0.bytes) r w
-        → LinkBrokeOrEnded a b ⊎ FaultLater b
-    over_by (inl failed) = inl (broke_or_ended r w a m b onward back failed)
-    over_by (inr (inl ended)) = inl (link_ended r w a m b onward back ended)
-    over_by (inr (inr fault)) = inr (fault_later info rest late.0.bytes r0 r w0 w m b up back late.0.gave fault)
 why_not_received addr info rest subject n r0 r w0 w a m b refused.NoMemory some up onward back is = tt

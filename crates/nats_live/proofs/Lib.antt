@@ -1,5 +1,6 @@
 mod Begins
 mod Beyond
+mod Dialing
 mod Ends
 mod Flushing
 mod Handing
