@@ -338,6 +338,57 @@ pub take_comes : (subject joined : List ℕ) (first since : List Operation) (had
 take_comes subject joined first since had count old r =
     ap (λ (s : Seen). is_valid_turn s.parts (turns.Take 1)) (none_played old.session r.settled ∙ r.is)
 
+-- the loop of takes: so many are left of those wanted
+abbrev pub TakesSoFar : List ℕ → List ℕ → List Operation → List Operation → List ℕ → ℕ → Bool → ℕ → List ℕ → ℕ → Seen → List ℕ → Type 0
+TakesSoFar subject joined first since had taken up wanted before left seen text = (left ≤ wanted) × (seen.parts.link.is_up ≡ up)
+    × Receives subject joined first since had (taken + (wanted - left)) seen
+    × (text ≡ before ++ flat_map message_line (take (wanted - left) (drop taken (messages 1 since))))
+
+pub takes_begin : (subject joined : List ℕ) (first since : List Operation) (had : List ℕ) (taken wanted : ℕ) (before : List ℕ) (seen : Seen)
+    → Receives subject joined first since had taken seen
+    → TakesSoFar subject joined first since had taken seen.parts.link.is_up wanted before wanted seen before
+takes_begin subject joined first since had taken wanted before seen receives =
+    let none : 0 ≡ wanted - wanted = omega arith in
+    let same : taken ≡ taken + (wanted - wanted) = omega arith in (
+      omega arith,
+      refl,
+      subst (λ (n : ℕ). Receives subject joined first since had n seen) same receives,
+      sym (append-nil before)
+          ∙ ap (λ (k : ℕ). before ++ flat_map message_line (take k (drop taken (messages 1 since)))) none,
+    )
+
+pub takes_step : (subject joined : List ℕ) (first since : List Operation) (had : List ℕ) (taken : ℕ) (up : Bool) (wanted left less : ℕ)
+    (before text after : List ℕ) (old new : Seen) (m : Message) → suc less ≡ left
+    → TakesSoFar subject joined first since had taken up wanted before left old text
+    → TakesOne subject joined first since had (taken + (wanted - left)) old.parts.link.is_up (Ok (Some m)) new
+    → after ≡ text ++ message_line m
+    → TakesSoFar subject joined first since had taken up wanted before less new after
+takes_step subject joined first since had taken up wanted left less before text after old new m fewer far one line =
+    let fits : suc less ≤ wanted = omega (arith, fewer, far.0) in
+    let next : (taken + (wanted - left)) + 1 ≡ taken + (wanted - less) = omega (arith, fewer, far.0) in
+    let queue = subst (λ (k : ℕ). take 1 (drop (taken + (wanted - k)) (messages 1 since)) ≡ m ∷ []) (sym fewer) one.2 in
+    let so_far = subst (λ (k : ℕ). text ≡ before ++ flat_map message_line (take (wanted - k) (drop taken (messages 1 since)))) (sym fewer) far.3 in
+    (
+      omega (arith, fits),
+      one.0 ∙ far.1,
+      subst (λ (n : ℕ). Receives subject joined first since had n new) next one.1,
+      line ∙ lines_more taken wanted less (messages 1 since) m before text fits queue so_far,
+    )
+
+pub takes_end : (subject joined : List ℕ) (first since : List Operation) (had : List ℕ) (taken : ℕ) (up : Bool) (wanted left : ℕ)
+    (before text : List ℕ) (old new : Seen) → TakesSoFar subject joined first since had taken up wanted before left old text
+    → TakesOne subject joined first since had (taken + (wanted - left)) old.parts.link.is_up (Ok None) new
+    → TakesAll subject joined first since had taken up wanted before (Ok left) new text
+takes_end subject joined first since had taken up wanted left before text old new far none =
+    (far.0, none.0 ∙ far.1, none.1, far.3, inr none.2)
+
+pub takes_done : (subject joined : List ℕ) (first since : List Operation) (had : List ℕ) (taken : ℕ) (up : Bool) (wanted left : ℕ)
+    (before text : List ℕ) (seen : Seen) → left ≡ 0 → TakesSoFar subject joined first since had taken up wanted before left seen text
+    → TakesAll subject joined first since had taken up wanted before (Ok 0) seen text
+takes_done subject joined first since had taken up wanted left before text seen none far =
+    let all = subst (λ (k : ℕ). TakesSoFar subject joined first since had taken up wanted before k seen text) none far in
+    (all.0, all.1, all.2, all.3, inl refl)
+
 -- ---- reading a piece
 
 -- ---- what a half gave

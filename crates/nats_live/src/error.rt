@@ -5,7 +5,7 @@ ghost use Rattle.nats_live.specs.Causes.{live_error_text, connect_refused};
 use nats_client::{PublishError, SubscribeError};
 use nats_dial::{ConnectError, ConnectErrorKind};
 use nats_names::NoMemory;
-use std::alloc::AllocError;
+use std::alloc::{AllocError, AllocFailed};
 use std::fmt;
 
 /// Why a command on a live link was refused. Own type of this library.
@@ -58,6 +58,17 @@ impl From<AllocError> for LiveError {
     ghost from_gives = { λ _ e. e ≡ refused.NoMemory };
 
     fn from(_refused: AllocError) -> LiveError {
+        LiveError::NoMemory
+    }
+}
+
+impl<T: Drop> From<AllocFailed<T>> for LiveError {
+    ghost use Rattle.std.specs.Prelude.{◌≡◌};
+    ghost use Rattle.nats_live.specs.declared.error.LiveError.TheVariants as refused;
+
+    ghost from_gives = { λ _ e. e ≡ refused.NoMemory };
+
+    fn from(_refused: AllocFailed<T>) -> LiveError {
         LiveError::NoMemory
     }
 }
