@@ -1,5 +1,5 @@
 -- What a session on a link comes to, by what its loops leave.
-use Rattle.std.proofs.Common.{◌≡◌, refl, ◌∙◌, sym, ap, subst, inl, inr, ◌⊎◌, ℕ, zero, suc, ◌+◌, ◌-◌, ◌<◌, ◌≤◌, arith, Bool, true, false, true≢false, List, [], ◌∷◌, ◌++◌, length, take, append-nil, flat_map, Option, Some, None, IfSome, Result, Ok, Err}
+use Rattle.std.proofs.Common.{◌≡◌, refl, ◌∙◌, sym, ap, subst, inl, inr, ◌⊎◌, ℕ, zero, suc, ◌+◌, ◌-◌, ◌<◌, ◌≤◌, arith, Bool, true, false, true≢false, List, [], ◌∷◌, ◌++◌, length, take, append-nil, flat_map, Option, Some, None, IfSome, IfOk, IfErr, OnOk, Result, Ok, Err}
 use Rattle.std.specs.Global.{Vec}
 use Rattle.std.proofs.lemmas.Bool.{false≢true}
 use Rattle.nats_info.specs.declared.info.ServerInfo.{ServerInfo}
@@ -312,3 +312,35 @@ why_not_received addr info rest subject n r0 r w0 w a m b refused.LinkEnded some
   fewer_came info rest late.0.bytes late.0.since n r0 r w0 w m b up back late.0.gave late.0.all late.1,
 )
 why_not_received addr info rest subject n r0 r w0 w a m b refused.NoMemory some up onward back is = tt
+
+-- ---- by clause
+
+pub published_clause : (info : ServerInfo) (rest subject payload : List ℕ) (r : ReadTold) (w0 w : WriteTold) (m b : World)
+    (result : Result (Unit {0}) LiveError) → (up : IsUp OffersNothing None false info rest r w0) → IsBack r w m b
+    → PublishedOver info.max_payload rest up.wrote subject payload result w
+    → OnOk result (IfSome b.dialer.ended (LastLink (WasPublished subject payload)))
+published_clause info rest subject payload r w0 w m b (Ok done) up back is =
+    published_last info rest subject payload r w0 w m b up back is
+published_clause info rest subject payload r w0 w m b (Err e) up back is = tt
+
+pub not_published_clause : (addr : List ℕ) (info : ServerInfo) (rest subject payload : List ℕ) (r : ReadTold) (w0 w : WriteTold) (a m b : World)
+    (result : Result (Unit {0}) LiveError) → (up : IsUp OffersNothing None false info rest r w0) → Onward a m → IsBack r w m b
+    → PublishedOver info.max_payload rest up.wrote subject payload result w
+    → IfErr result (λ e. WhyNotPublished addr subject payload a e b)
+not_published_clause addr info rest subject payload r w0 w a m b (Ok done) up onward back is = tt
+not_published_clause addr info rest subject payload r w0 w a m b (Err e) up onward back is =
+    why_not_published addr info rest subject payload r w0 w a m b e up onward back is
+
+pub received_clause : (info : ServerInfo) (rest subject : List ℕ) (n : ℕ) (r0 r : ReadTold) (w0 w : WriteTold) (m b : World)
+    (result : Result (Vec ℕ) LiveError) → (up : IsUp OffersNothing None false info rest r0 w0) → IsBack r w m b
+    → ReceivedOver rest up.wrote subject n result r0 r w
+    → IfOk result (λ text. IfSome b.dialer.ended (LastLink (WasReceived subject n text.items)))
+received_clause info rest subject n r0 r w0 w m b (Ok text) up back is = received_last info rest subject n text r0 r w0 w m b up back is
+received_clause info rest subject n r0 r w0 w m b (Err e) up back is = tt
+
+pub not_received_clause : (addr : List ℕ) (info : ServerInfo) (rest subject : List ℕ) (n : ℕ) (r0 r : ReadTold) (w0 w : WriteTold) (a m b : World)
+    (result : Result (Vec ℕ) LiveError) → 1 ≤ n → (up : IsUp OffersNothing None false info rest r0 w0) → Onward a m → IsBack r w m b
+    → ReceivedOver rest up.wrote subject n result r0 r w → IfErr result (λ e. WhyNotReceived addr subject n a e b)
+not_received_clause addr info rest subject n r0 r w0 w a m b (Ok text) some up onward back is = tt
+not_received_clause addr info rest subject n r0 r w0 w a m b (Err e) some up onward back is =
+    why_not_received addr info rest subject n r0 r w0 w a m b e some up onward back is

@@ -12,3 +12,4 @@ mod Rounds
 mod Sending
 mod States
 mod Stepping
+mod Wants

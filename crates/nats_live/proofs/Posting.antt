@@ -16,17 +16,20 @@ use Rattle.nats_history.specs.declared.turn.Turn.{Turn}
 use Rattle.nats_history.specs.declared.turn.Turn.TheVariants as turns
 use Rattle.nats_history.specs.History.{accepted}
 use Rattle.nats_history.specs.Counts.{statistics_after}
-use Rattle.nats_history.specs.Schedule.{due, refusal, reply_by, accepted_reply, accepted_step, own_steps}
+use Rattle.nats_history.specs.Schedule.{due, is_valid_turn, refusal, reply_by, accepted_reply, accepted_step, own_steps}
 use Rattle.nats_session.specs.Handler.{Seen, seen_all, seen_after}
+use Rattle.nats_core.specs.declared.answers.StepError.{StepError}
+use Rattle.nats_core.specs.declared.answers.StepError.TheVariants.{OutOfTurn, LinkGone, NoMemory as Wanting}
 use Rattle.nats_core.specs.declared.entry.StepReply.{StepReply}
 use Rattle.nats_core.specs.declared.entry.StepReply.TheVariants as answers
-use Rattle.nats_core.specs.Journal.{Logged, all_due, reply_to}
+use Rattle.nats_core.specs.Calls.{parts_in}
+use Rattle.nats_core.specs.Journal.{Logged, all_due, caught_up, reply_to}
 use Rattle.nats_core.proofs.Dues.{none_played, none_after_all}
 use Rattle.nats_live.specs.declared.error.LiveError.{LiveError}
 use Rattle.nats_live.specs.declared.error.LiveError.TheVariants as refused
 use Rattle.nats_live.specs.Ended.{pongs}
 use Rattle.nats_live.specs.State.{Noise, default_config, state, begun}
-use Rattle.nats_live.specs.Steps.{wholly_played}
+use Rattle.nats_live.specs.Steps.{PlaysWhole, step_refused, wholly_played}
 use Rattle.nats_live.specs.Flow.{Phase, sending, both, sent, flush_waits, flush_awaits, flush_done, HasBegun, Accepts, at_phase, publish_text, published_text, publish_answer, ticket_of, unwritten_at}
 use Rattle.nats_live.proofs.Begins.{nothing_there}
 use Rattle.nats_live.proofs.Sending.{Going, has_flush, going_all, going_up, flushes_going}
@@ -226,10 +229,6 @@ flush_reply text up seen g =
 
 -- ---- both calls
 
--- a turn that always may come is not out of turn
-pub may_come : (b : Bool) → b ≡ true → b ≡ false → ⊥
-may_come b yes no = true≢false (sym yes ∙ no)
-
 -- the flush's ticket is answered
 pub accepts : (limit : ℕ) (joined subject payload : List ℕ) (old mid new : Seen) (reply : StepReply)
     → Posts limit joined subject payload (Ok tt) old mid
@@ -247,3 +246,42 @@ accepts limit joined subject payload old mid new reply (up, was, g, none) answer
       flushes_going text [] up (all_due next) after (none_after_all next),
       going_up text [] true up (all_due next) after ∙ sym was,
     ))
+
+-- ---- as the calls see it
+
+-- a publish that was played
+pub posted_by : (limit : ℕ) (joined subject payload : List ℕ) (old mid : Logged) (message : OutboundMessage) (reply : StepReply)
+    → HasBegun limit joined old.session → message ≡ message_of subject payload
+    → PlaysWhole old (turns.Do (call.Publish message)) (Ok reply) mid
+    → Posts limit joined subject payload (publish_answer reply) old.session mid.session
+posted_by limit joined subject payload old mid message reply b is plays =
+    let turn = turns.Do (call.Publish (message_of subject payload)) in
+    let here = subst (λ (m : OutboundMessage). PlaysWhole old (turns.Do (call.Publish m)) (Ok reply) mid) is plays in
+    subst (λ (s : Seen). Posts limit joined subject payload (publish_answer reply) old.session s)
+    (sym (settled_played old mid turn b.settled here.2))
+    (subst (λ (r : StepReply). Posts limit joined subject payload (publish_answer r) old.session
+            (all_due (seen_all old.session (own_steps old.session.parts turn))))
+        (sym (settled_reply old turn reply b.settled here.1))
+        (posts limit joined subject payload old.session b))
+
+-- it was accepted
+pub posted_ok : (limit : ℕ) (joined subject payload : List ℕ) (old mid : Seen) (answer : Result (Unit {0}) LiveError) → answer ≡ Ok tt
+    → Posts limit joined subject payload answer old mid → Posts limit joined subject payload (Ok tt) old mid
+posted_ok limit joined subject payload old mid answer is posts =
+    subst (λ (r : Result (Unit {0}) LiveError). Posts limit joined subject payload r old mid) is posts
+
+-- and then a flush that was played
+pub flushed_by : (limit : ℕ) (joined subject payload : List ℕ) (old : Seen) (mid new : Logged) (reply : StepReply)
+    → Posts limit joined subject payload (Ok tt) old mid.session → PlaysWhole mid (turns.Do call.Flush) (Ok reply) new
+    → Accepts limit joined subject payload (ticket_of reply) old new.session
+flushed_by limit joined subject payload old mid new reply posts plays =
+    accepts limit joined subject payload old mid.session new.session reply posts
+    (settled_reply mid (turns.Do call.Flush) reply posts.3 plays.1)
+    (settled_played mid new (turns.Do call.Flush) posts.3 plays.2)
+
+-- a turn that may come is refused for want of memory alone
+pub refused_play : (old new : Logged) (t : Turn) (e : StepError) → is_valid_turn (parts_in (caught_up old)) t ≡ true
+    → PlaysWhole old t (Err e) new → step_refused e ≡ refused.NoMemory
+refused_play old new t OutOfTurn may plays = absurd (true≢false (sym may ∙ plays.0))
+refused_play old new t (LinkGone current) may plays = absurd plays
+refused_play old new t Wanting may plays = refl

@@ -105,10 +105,12 @@ fn flush<R: Wait, T: LinkWrite>(
         → FlushEnds (parts_in core.old).link.is_up (head ++ text) result (T.write_told write.new) }
 {
     'writes: for _ in rt.forever() {
-        if let Some(end) = settled(core, ticket) {
-            return end;
+        match settled(core, ticket) {
+            Some(end) => return end,
+            None => {
+                write_some(alloc, core, write)?;
+            }
         }
-        write_some(alloc, core, write)?;
     }
     unreachable!()
 }

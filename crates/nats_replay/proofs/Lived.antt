@@ -5,8 +5,8 @@ use Rattle.nats_outside.specs.Told.{Seen}
 use Rattle.nats_live.specs.declared.error.LiveError.{LiveError}
 use Rattle.nats_live.specs.Causes.{WhyNotPublished, WhyNotReceived}
 use Rattle.nats_live.specs.Ended.{WasPublished, WasReceived}
-use Rattle.nats_replay.specs.Outside.{AppendsFront}
-use Rattle.nats_replay.specs.Live.{LiveWords, publishes, receives, others, live_of, LastShows, IsToldOf, LiveAnswers, LiveAnswersBy, PubAnswers, SubAnswers, PubPrints, SubPrints, published_line, error_line}
+use Rattle.nats_replay.specs.Outside.{Rose, AppendsFront}
+use Rattle.nats_replay.specs.Live.{LiveWords, publishes, receives, others, live_of, LastShows, IsToldOf, LiveAnswers, LiveAnswersBy, PubAnswers, SubAnswers, PubPrints, SubPrints, PrintsAt, RefusalAnswers, published_line, error_line}
 use Rattle.nats_replay.specs.Words.{run_words, bulk_count, is_status_of_live}
 
 -- ---- words
@@ -160,3 +160,23 @@ status_by others a b status faults faults_now old new answers = absurd answers
 pub live_status : (words : List (List ℕ)) (a b : Seen) (status faults faults_now : ℕ) (old new : Option (List ℕ))
     → LiveAnswers words a (Some status) b faults faults_now old new → is_status_of_live status ≡ true
 live_status words a b status faults faults_now old new answers = status_by (live_of words) a b status faults faults_now old new answers
+
+-- ---- what was printed
+
+pub prints_at : (whole status : ℕ) (text : List ℕ) (faults faults_now : ℕ) (old new : Option (List ℕ)) → (status ≡ whole → Appends old new text)
+    → (status ≡ 4 → AppendsFront old new text) → (status ≡ 4 → Rose faults faults_now) → (status ≡ whole) ⊎ (status ≡ 4)
+    → PrintsAt whole status text faults faults_now old new
+prints_at whole status text faults faults_now old new all cut rose (inl is) = inl (is, all is)
+prints_at whole status text faults faults_now old new all cut rose (inr is) = inr (is, rose is, cut is)
+
+pub pub_refused : (addr subject payload : List ℕ) (a b : Seen) (e : LiveError) (status faults faults_now : ℕ) (old new : Option (List ℕ))
+    → IsToldOf e → WhyNotPublished addr subject payload a e b → RefusalAnswers e status faults faults_now old new
+    → PubAnswers addr subject payload a status b faults faults_now old new
+pub_refused addr subject payload a b e status faults faults_now old new told why (inl prints) = inr (inr (e, told, why, prints))
+pub_refused addr subject payload a b e status faults faults_now old new told why (inr seven) = inl seven
+
+pub sub_refused : (addr subject : List ℕ) (n : ℕ) (a b : Seen) (e : LiveError) (status faults faults_now : ℕ) (old new : Option (List ℕ))
+    → IsToldOf e → WhyNotReceived addr subject n a e b → RefusalAnswers e status faults faults_now old new
+    → SubAnswers addr subject n a status b faults faults_now old new
+sub_refused addr subject n a b e status faults faults_now old new told why (inl prints) = inr (inr (e, told, why, prints))
+sub_refused addr subject n a b e status faults faults_now old new told why (inr seven) = inl seven
