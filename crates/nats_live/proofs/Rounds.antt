@@ -8,7 +8,6 @@ use Rattle.std.proofs.lemmas.Grind.{flat_map-append}
 use Rattle.std.proofs.lemmas.Option.{none-some}
 use Rattle.nats_names.specs.Names.{is_valid}
 use Rattle.nats_names.specs.declared.cause.Cause.TheVariants as cause
-use Rattle.nats_names.specs.declared.failed.NoMemory.{NoMemory}
 use Rattle.nats_addr.specs.Resolving.{risen}
 use Rattle.nats_outside.specs.Told.{ReadTold, WriteTold, piece_more}
 use Rattle.nats_dial.specs.Lines.{Took}
@@ -39,7 +38,7 @@ use Rattle.nats_live.specs.declared.error.LiveError.TheVariants as refused
 use Rattle.nats_live.specs.Ended.{messages, pongs, ends_in_fault}
 use Rattle.nats_live.specs.State.{Noise, state, begun}
 use Rattle.nats_live.specs.Steps.{PlaysWhole, ReadsWhole, WritesWhole}
-use Rattle.nats_live.specs.Flow.{GoesOn, HasBegun, Receives, Subscribes, GaveLater, IsOver, IsReceiving, IsWritten, TakesOne, TakesAll, receiving, sub_text, subscribed_text, subscribe_answer, unasked}
+use Rattle.nats_live.specs.Flow.{GoesOn, HasBegun, Receives, Subscribes, GaveLater, IsOver, IsReceiving, IsWritten, TakesOne, TakesAll, message_in, receiving, sub_text, subscribed_text, subscribe_answer, unasked}
 use Rattle.nats_live.proofs.Begins.{nothing_there}
 use Rattle.nats_live.proofs.Flushing.{failed_once, took_failed, took_more}
 use Rattle.nats_live.proofs.Hearing.{Hearing, hearing_all, hearing_fed, hearing_over, hearing_receives}
@@ -290,10 +289,8 @@ printed_more taken more ms before after was is =
     ∙ ap (flat_map message_line) (sym (take-add taken more ms))))
 
 -- what a reply to a take comes to
-abbrev pub takes_of : TakeReply → Result (Option Message) NoMemory
-takes_of (takes.Message m) = Ok (Some m)
-takes_of takes.Empty = Ok None
-takes_of takes.Ended = Ok None
+abbrev pub takes_of : TakeReply → Result (Option Message) LiveError
+takes_of r = Ok (message_in (answers.Take r))
 
 takes_by : (subject joined : List ℕ) (first since : List Operation) (had : List ℕ) (count : ℕ) (up : Bool) (r : TakeReply) (next : Seen)
     → Took1 subject joined first since had count up r next → TakesOne subject joined first since had count up (takes_of r) (all_due next)
@@ -312,11 +309,11 @@ takes_by subject joined first since had count up takes.Empty next took =
 takes_by subject joined first since had count up takes.Ended next took = absurd took
 
 -- a take of the one subscription
-pub takes_one : (subject joined : List ℕ) (first since : List Operation) (had : List ℕ) (count : ℕ) (old new : Logged) (reply : StepReply)
+takes_reply : (subject joined : List ℕ) (first since : List Operation) (had : List ℕ) (count : ℕ) (old new : Logged) (reply : StepReply)
     → Receives subject joined first since had count old.session → PlaysWhole old (turns.Take 1) (Ok reply) new
     → (r : TakeReply) × (reply ≡ answers.Take r)
     × TakesOne subject joined first since had count old.session.parts.link.is_up (takes_of r) new.session
-takes_one subject joined first since had count old new reply receives plays =
+takes_reply subject joined first since had count old new reply receives plays =
     let same = none_played old.session receives.settled in
     let next = seen_all old.session (own_steps old.session.parts (turns.Take 1)) in
     let is : new.session ≡ all_due next = settled_played old new (turns.Take 1) receives.settled plays.2 in
@@ -331,6 +328,15 @@ takes_one subject joined first since had count old new reply receives plays =
           (takes_by subject joined first since had count receives.up r next
               (quiet_take subject joined first since had count receives.up old.session quiet))),
     )
+
+-- what it comes to by its reply
+pub took_one : (subject joined : List ℕ) (first since : List Operation) (had : List ℕ) (count : ℕ) (old new : Logged) (reply : StepReply)
+    → Receives subject joined first since had count old.session → PlaysWhole old (turns.Take 1) (Ok reply) new
+    → TakesOne subject joined first since had count old.session.parts.link.is_up (Ok (message_in reply)) new.session
+took_one subject joined first since had count old new reply receives plays =
+    let r = takes_reply subject joined first since had count old new reply receives plays in
+    subst (λ (x : StepReply). TakesOne subject joined first since had count old.session.parts.link.is_up (Ok (message_in x)) new.session)
+    (sym r.1) r.2
 
 -- such a take may always come
 pub take_comes : (subject joined : List ℕ) (first since : List Operation) (had : List ℕ) (count : ℕ) (old : Logged)
@@ -576,3 +582,19 @@ written_far subject joined first taken head old new r0 r before after far wrote 
     over_by : (old.parts.link.is_up ≡ false) ⊎ (1 ≤ after.faults) → IsOver (joined ++ far.bytes) r after
     over_by (inl was) = more_faults (far.over was)
     over_by (inr failed) = inl (omega (arith, failed))
+
+-- ---- as the calls see it
+
+-- a subscribe that was played
+pub subscribed_by : (most : ℕ) (joined subject : List ℕ) (old new : Logged) (text : List ℕ) (reply : StepReply)
+    → HasBegun most joined old.session → text ≡ subject → PlaysWhole old (turns.Do (call.Subscribe text None)) (Ok reply) new
+    → Subscribes joined subject (subscribe_answer reply) old.session new.session
+subscribed_by most joined subject old new text reply b is plays =
+    let turn = turns.Do (call.Subscribe subject None) in
+    let here = subst (λ (t : List ℕ). PlaysWhole old (turns.Do (call.Subscribe t None)) (Ok reply) new) is plays in
+    subst (λ (s : Seen). Subscribes joined subject (subscribe_answer reply) old.session s)
+    (sym (settled_played old new turn b.settled here.2))
+    (subst (λ (r : StepReply). Subscribes joined subject (subscribe_answer r) old.session
+            (all_due (seen_all old.session (own_steps old.session.parts turn))))
+        (sym (settled_reply old turn reply b.settled here.1))
+        (subscribes most joined subject old.session b))

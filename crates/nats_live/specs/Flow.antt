@@ -16,6 +16,7 @@ use Rattle.nats_history.specs.declared.call.Call.{Call}
 use Rattle.nats_history.specs.declared.call.Call.TheVariants as call
 use Rattle.nats_history.specs.declared.call.CallReply.{CallReply}
 use Rattle.nats_history.specs.declared.call.CallReply.TheVariants as replies
+use Rattle.nats_history.specs.declared.call.TakeReply.TheVariants as takes
 use Rattle.nats_core.specs.declared.entry.StepReply.{StepReply}
 use Rattle.nats_core.specs.declared.entry.StepReply.TheVariants as answers
 use Rattle.nats_core.specs.Journal.{Logged, with_session}
@@ -331,25 +332,30 @@ subscribe_answer (answers.Call replies.InvalidSubject) =
     Err (refused.Subscribe (subscribing.InvalidSubject, Some cause.Format))
 subscribe_answer reply = Err (refused.Subscribe (subscribing.Other, Some cause.Closed))
 
+-- the message of a reply to a take, where one waited
+abbrev pub message_in : StepReply → Option Message
+message_in (answers.Take (takes.Message m)) = Some m
+message_in reply = None
+
 -- the oldest message that waits was taken; none where none does; whether the link is up stays
-abbrev pub TakesOne : List ℕ → List ℕ → List Operation → List Operation → List ℕ → ℕ → Bool → Result (Option Message) NoMemory → Seen
+abbrev pub TakesOne : List ℕ → List ℕ → List Operation → List Operation → List ℕ → ℕ → Bool → Result (Option Message) LiveError → Seen
     → Type 0
 TakesOne subject joined first since took taken up (Ok (Some m)) new = (new.parts.link.is_up ≡ up)
     × Receives subject joined first since took (taken + 1) new
     × (take 1 (drop taken (messages 1 since)) ≡ m ∷ [])
 TakesOne subject joined first since took taken up (Ok None) new = (new.parts.link.is_up ≡ up)
     × Receives subject joined first since took taken new × (taken ≡ length (messages 1 since))
-TakesOne subject joined first since took taken up (Err e) new = Unit {0}
+TakesOne subject joined first since took taken up (Err e) new = e ≡ refused.NoMemory
 
 -- messages that waited were taken and printed, until no more are wanted or none waits
-abbrev pub TakesAll : List ℕ → List ℕ → List Operation → List Operation → List ℕ → ℕ → Bool → ℕ → List ℕ → Result ℕ NoMemory → Seen
+abbrev pub TakesAll : List ℕ → List ℕ → List Operation → List Operation → List ℕ → ℕ → Bool → ℕ → List ℕ → Result ℕ LiveError → Seen
     → List ℕ → Type 0
 TakesAll subject joined first since took taken up wanted before (Ok left) new after = (left ≤ wanted)
     × (new.parts.link.is_up ≡ up)
     × Receives subject joined first since took (taken + (wanted - left)) new
     × (after ≡ before ++ flat_map message_line (take (wanted - left) (drop taken (messages 1 since))))
     × ((left ≡ 0) ⊎ (taken + (wanted - left) ≡ length (messages 1 since)))
-TakesAll subject joined first since took taken up wanted before (Err e) new after = Unit {0}
+TakesAll subject joined first since took taken up wanted before (Err e) new after = e ≡ refused.NoMemory
 
 -- all that waited was written, or the link is over, and was before, or failed
 abbrev pub IsWritten : List ℕ → List ℕ → List Operation → List Operation → List ℕ → ℕ → List ℕ → Bool → Result (Unit {0}) NoMemory

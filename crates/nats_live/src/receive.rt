@@ -3,14 +3,14 @@ ghost use Rattle.std.specs.Prelude.{◌≡◌, ◌≤◌, ◌<◌, ℕ, [], List
 ghost use Rattle.nats_dial.specs.Lines.{Took};
 ghost use Rattle.nats_wire.specs.Operations.{Operation};
 ghost use Rattle.nats_core.specs.Calls.{parts_in};
-ghost use Rattle.nats_live.specs.Flow.{HasBegun, IsWritten, ReceiveEnds, ReceivesAll, Receives, Subscribes, TakesAll, TakesOne, subscribe_answer};
+ghost use Rattle.nats_live.specs.Flow.{HasBegun, IsWritten, ReceiveEnds, ReceivesAll, Receives, Subscribes, TakesAll, TakesOne, message_in, subscribe_answer};
 
 use crate::error::LiveError;
 use crate::step::{play, read_some, write_some};
 use nats_client::{SubscribeError, SubscribeErrorKind};
 use nats_core::{
-    Call, CallReply, Core, LinkRead, LinkWrite, Message, NoMemory, StepError, StepReply, Subject,
-    TakeReply, Turn, WriteOnce,
+    Call, CallReply, Core, LinkRead, LinkWrite, Message, NoMemory, StepReply, Subject, TakeReply,
+    Turn, WriteOnce,
 };
 use nats_names::Cause;
 use nats_script::push_message_line;
@@ -51,18 +51,24 @@ fn subscribe(alloc: Global, core: &mut Core, subject: &str) -> Result<(), LiveEr
     subscribe_answer(reply)
 }
 
+// The message of a reply to a take, where one waited.
+fn message_in(reply: StepReply) -> Option<Message>
+    ensures { result ≡ message_in reply }
+{
+    match reply {
+        StepReply::Take(TakeReply::Message(message)) => Some(message),
+        StepReply::Take(_) | StepReply::Call(_) | StepReply::Done => None,
+    }
+}
+
 // Takes the oldest message that waits; none where none does.
-fn take_one(alloc: Global, core: &mut Core) -> Result<Option<Message>, NoMemory>
+fn take_one(alloc: Global, core: &mut Core) -> Result<Option<Message>, LiveError>
     ensures { (subject joined took : List ℕ) (first since : List Operation) (taken : ℕ)
         → Receives subject joined first since took taken core.old.session
         → TakesOne subject joined first since took taken (parts_in core.old).link.is_up result core.new.session }
 {
-    match play(alloc, core, Turn::Take(SUBSCRIPTION)) {
-        Ok(StepReply::Take(TakeReply::Message(message))) => Ok(Some(message)),
-        Ok(_) => Ok(None),
-        Err(StepError::NoMemory) => Err(NoMemory),
-        Err(StepError::OutOfTurn | StepError::LinkGone { current: _ }) => Ok(None),
-    }
+    let reply = play(alloc, core, Turn::Take(SUBSCRIPTION))?;
+    Ok(message_in(reply))
 }
 
 // Takes the messages that wait, as long as more are wanted, and prints each. It answers how many are wanted then.
@@ -71,7 +77,7 @@ fn take_all(
     core: &mut Core,
     wanted: u64,
     text: &mut Vec<u8>,
-) -> Result<u64, NoMemory>
+) -> Result<u64, LiveError>
     ensures { (subject joined took : List ℕ) (first since : List Operation) (taken : ℕ)
         → Receives subject joined first since took taken core.old.session
         → TakesAll subject joined first since took taken (parts_in core.old).link.is_up wanted text.old.items result
