@@ -23,7 +23,7 @@ use Rattle.nats_live.specs.Back.{IsBack}
 use Rattle.nats_live.specs.Causes.{OffersNothing, LinkBrokeOrEnded, FaultLater, WhyNotPublished, WhyNotReceived}
 use Rattle.nats_live.specs.Ended.{LastLink, messages, ends_in_fault, WasPublished, WasReceived}
 use Rattle.nats_live.specs.Steps.{ReadsWhole}
-use Rattle.nats_live.specs.Flow.{HasBegun, Accepts, FlushEnds, Publishes, PublishedOver, Receives, IsReceiving, IsOver, IsWritten, TakesAll, ReceiveEnds, ReceivesAll, ReceivedOver, CameSoFar, GaveLater, published_text, subscribed_text}
+use Rattle.nats_live.specs.Flow.{HasBegun, Accepts, FlushEnds, Publishes, PublishedOver, Receives, Subscribes, IsReceiving, IsOver, IsWritten, TakesAll, ReceiveEnds, ReceivesAll, ReceivedOver, CameSoFar, GaveLater, published_text, subscribed_text}
 use Rattle.nats_live.proofs.Handing.{gave_nothing, ends_last, broke, broke_or_ended, link_ended, was_published, fault_in_rest, too_large, was_received, fewer_came, fault_later}
 use Rattle.nats_live.proofs.Rounds.{printed_more, printed_same, read_lost, read_more, written_far}
 
@@ -344,3 +344,34 @@ pub not_received_clause : (addr : List ℕ) (info : ServerInfo) (rest subject : 
 not_received_clause addr info rest subject n r0 r w0 w a m b (Ok text) some up onward back is = tt
 not_received_clause addr info rest subject n r0 r w0 w a m b (Err e) some up onward back is =
     why_not_received addr info rest subject n r0 r w0 w a m b e some up onward back is
+
+-- ---- receiving on a session that has begun
+
+-- the subscription was received on
+pub receives_all : (joined head subject : List ℕ) (n : ℕ) (seen : Seen) (r0 r : ReadTold) (w : WriteTold) (result : Result (Vec ℕ) LiveError)
+    → ReceiveEnds subject joined (operations joined) n head result seen r0 r w → ReceivesAll joined head subject n result seen r0 r w
+receives_all joined head subject n seen r0 r w (Ok text) ends = ends
+receives_all joined head subject n seen r0 r w (Err refused.LinkEnded) ends = inr ends
+receives_all joined head subject n seen r0 r w (Err refused.NoMemory) ends = tt
+receives_all joined head subject n seen r0 r w (Err (refused.Connect e)) ends = absurd ends
+receives_all joined head subject n seen r0 r w (Err (refused.Publish e)) ends = absurd ends
+receives_all joined head subject n seen r0 r w (Err (refused.Subscribe e)) ends = absurd ends
+
+-- the link was over before it could be
+pub receives_over : (most : ℕ) (joined head subject : List ℕ) (n : ℕ) (old new : Seen) (r : ReadTold) (w : WriteTold)
+    → HasBegun most joined old → old.parts.link.is_up ≡ false → ReceivesAll joined head subject n (Err refused.LinkEnded) new r r w
+receives_over most joined head subject n old new r w b down =
+    inl (refl, b.downs (sym (ap (λ (s : Seen). s.parts.link.is_up) b.is) ∙ down))
+
+-- the subscribe was refused
+pub receives_err : (joined head subject : List ℕ) (n : ℕ) (old new : Seen) (r : ReadTold) (w : WriteTold) (e : LiveError)
+    → Subscribes joined subject (Err e) old new → ReceivesAll joined head subject n (Err e) new r r w
+receives_err joined head subject n old new r w (refused.Subscribe (subscribing.InvalidSubject, source)) is = is
+receives_err joined head subject n old new r w (refused.Subscribe (subscribing.InvalidQueueName, source)) is = absurd is
+receives_err joined head subject n old new r w (refused.Subscribe (subscribing.Other, source)) is = absurd is
+receives_err joined head subject n old new r w (refused.Subscribe (subscribing.Full, source)) is = absurd is
+receives_err joined head subject n old new r w (refused.Subscribe (subscribing.NoMemory, source)) is = absurd is
+receives_err joined head subject n old new r w (refused.Publish e) is = absurd is
+receives_err joined head subject n old new r w (refused.Connect e) is = absurd is
+receives_err joined head subject n old new r w refused.LinkEnded is = absurd is
+receives_err joined head subject n old new r w refused.NoMemory is = tt

@@ -259,6 +259,22 @@ writes_gone subject joined first since had taken head was old new before w after
     (subst (λ (s : Seen). IsWritten subject joined first since had taken head was (Ok tt) s before w) (sym is)
         (on.more, on.receives, on.wrote, on.faults, (λ yes. absurd (false≢true (sym down ∙ yes))), on.over))
 
+-- a write that is the last of them
+pub writes_done : (subject joined : List ℕ) (first since : List Operation) (had : List ℕ) (taken : ℕ) (head : List ℕ) (was : Bool)
+    (old new : Logged) (before w after : WriteTold) (once : WriteOnce)
+    → (once ≡ writes.Idle) ⊎ ((once ≡ writes.Lost) ⊎ (once ≡ writes.Gone))
+    → WritesOn subject joined first since had taken head was old.session before w → WritesWhole old w after (Ok once) new
+    → IsWritten subject joined first since had taken head was (Ok tt) new.session before after
+writes_done subject joined first since had taken head was old new before w after once (inl is) on wrote =
+    writes_idle subject joined first since had taken head was old new before w after on
+    (subst (λ (o : WriteOnce). WritesWhole old w after (Ok o) new) is wrote)
+writes_done subject joined first since had taken head was old new before w after once (inr (inl is)) on wrote =
+    writes_lost subject joined first since had taken head was old new before w after on
+    (subst (λ (o : WriteOnce). WritesWhole old w after (Ok o) new) is wrote)
+writes_done subject joined first since had taken head was old new before w after once (inr (inr is)) on wrote =
+    writes_gone subject joined first since had taken head was old new before w after on
+    (subst (λ (o : WriteOnce). WritesWhole old w after (Ok o) new) is wrote)
+
 -- ---- taking all that waits
 
 -- one message more was taken: so far the text, and how many are left
