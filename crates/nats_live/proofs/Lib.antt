@@ -1,5 +1,6 @@
 mod Begins
 mod Beyond
+mod Coming
 mod Dialing
 mod Ends
 mod Flushing

@@ -1,0 +1,13 @@
+-- The bytes that came behind the handshake are the first piece.
+use Rattle.std.proofs.Common.{ap, sym, subst, ◌∙◌, List, ℕ}
+use Rattle.nats_history.specs.declared.turn.Turn.TheVariants as turns
+use Rattle.nats_core.specs.Calls.{parts_in}
+use Rattle.nats_live.specs.Flow.{HasBegun}
+use Rattle.nats_live.proofs.Coming.{fed_begun, piece_comes}
+use Rattle.nats_live.proofs.Posting.{refused_play}
+use Rattle.nats_live.proofs.begin.feed.Goals as goal
+
+pub returns : goal.returns
+returns c = λ most up b.
+    subst (λ (bytes : List ℕ). HasBegun most bytes c.play.new.core.session) c.in_ok-bytes.ensures
+    (fed_begun most c.in_ok-bytes.bytes c.args.core.now c.play.new.core c.in_ok-play.field-0 b up c.in_ok-play.ensures)
