@@ -536,3 +536,12 @@ module _ {P R T : Type 0} (Takes : P → P → List (List ℕ) → Result (Unit 
                 → Onward a b × IsUp Offers name no_echo l.info l.rest.items (read_of l.read) (write_of l.write)
             connects_up last a p l b q (inl (is, same, stays)) = cc
             connects_up last a p l b q (inr (chosen, n, begins, goes)) = goes_up (left_of (told n)) all_failed a n l b q goes
+
+            -- no count fell, whatever came of it
+            pub connects_on : (last : ServerInfo) (a : Seen) (p : P) (result : Result (Linked R T) Failure) (b : Seen) (q : P)
+                → Connects Takes Counts Hands Begins told Offers by_option name no_echo timeout read_of write_of last a p result b q
+                → Onward a b
+            connects_on last a p (Ok l) b q c = (connects_up last a p l b q c).0
+            connects_on last a p (Err e) b q (inl (is, same, stays)) = rw same (onward_same a)
+            connects_on last a p (Err e) b q (inr (chosen, n, begins, goes)) =
+                (goes_cause (left_of (told n)) all_failed a n e b q goes).2.onward

@@ -22,8 +22,9 @@ use Rattle.nats_pool.specs.declared.pool_parts.Pool.{Pool}
 use Rattle.nats_pool.specs.declared.server.Server.{Server}
 use Rattle.nats_pool.specs.declared.server.ReconnectToServer.{ReconnectToServer}
 use Rattle.nats_pool.specs.Discovery.{Discovers, DiscoversWhere}
-use Rattle.nats_pool.specs.Handing.{RoundTold}
-use Rattle.nats_pool.specs.Pools.{options_of}
+use Rattle.nats_pool.specs.declared.callbacks.ChoiceFn.{ChoiceFn}
+use Rattle.nats_pool.specs.Handing.{RoundTold, pool_told}
+use Rattle.nats_pool.specs.Pools.{Begins, NamedBy, numbers_left, options_of, round_of, servers_of}
 use Rattle.nats_pool.specs.Rounds.{IsDefaultOrder, IsRoundBy, plan_of}
 use Rattle.nats_pool.specs.Servers.{new_server}
 use Rattle.nats_outside.specs.Told.{Seen, ReadTold, WriteTold}
@@ -38,8 +39,9 @@ use Rattle.nats_handshake.specs.Heard.{RefusesIn, RefusesText}
 use Rattle.nats_handshake.specs.Shaking.{Declines, wanting}
 use Rattle.nats_dial.specs.Causes.{LastRefused, last_tls, LinkCause, ServerCause, Why, RoundCause}
 use Rattle.nats_dial.specs.Tries.{IsUp}
-use Rattle.nats_live.specs.Causes.{OffersNothing, TakesTexts}
+use Rattle.nats_live.specs.Causes.{IsRoundWith, OffersNothing, TakesTexts}
 use Rattle.nats_live.specs.Ended.{nothing}
+use Rattle.nats_live.specs.Pooled.{IsPoolOf}
 
 -- ---- the round of one server
 
@@ -184,3 +186,25 @@ module _ {P : Type 0} (Takes : P → P → List (List ℕ) → Result (Unit {0})
         plain_round before after a e b (inl is) = inl is
         plain_round before after a e b (inr (tried, rest, has, handed, is)) =
             inr (tried, rest, has, handed, why tried rest before after a e b is)
+
+-- ---- the pool of one server
+
+module _ {X Y : Type 0} {F : X → Type 0} {G : Y → Type 0} {g : Mut ((x : X) × F x) (ℕ × Unit {0}) ℕ}
+    {h : Mut ((y : Y) × G y) (Vec Server × (ServerInfo × Unit {0})) (Option ReconnectToServer)} where
+  -- the round that began on it has that server alone, and no limit
+  pub begun_round : (Answers : ChoiceFn Y G h → Vec Server → ServerInfo → Option ReconnectToServer → Type 0) (last : ServerInfo) (server : Parts)
+      (p n : Pool X Y F G g h) (chosen : Choice) (told : RoundTold) → IsPoolOf server p → Begins Answers last p n chosen
+      → told.round ≡ (pool_told n).round → told.limit ≡ (pool_told n).limit → IsRoundWith server told
+  begun_round Answers last server p n chosen told is begins round limit = (
+    plan_of (new_server server),
+    refl,
+    round ∙ one_planned server (servers_of p) ((options_of p).retain_servers_order) (numbers_left p) begins.named chosen (round_of n)
+        (numbers_left n) (none_named Answers (servers_of p) last begins.named ((options_of p).choice) is.unchosen begins.names) is.servers begins.plan,
+    limit ∙ (ap (λ (o : _). o.max_reconnects) begins.options ∙ is.unlimited),
+  )
+    where
+      none_named : (Answers : ChoiceFn Y G h → Vec Server → ServerInfo → Option ReconnectToServer → Type 0) (servers : List Server)
+          (last : ServerInfo) (named : Option ReconnectToServer) (choice : Option (ChoiceFn Y G h)) → choice ≡ None
+          → NamedBy Answers choice servers last named → named ≡ None
+      none_named Answers servers last named None is names = names
+      none_named Answers servers last named (Some f) is names = cc
