@@ -1,12 +1,12 @@
 -- A round of connecting on default options, whose pool has one server: what it says of texts and of what is offered.
-use Rattle.std.proofs.Common.{◌≡◌, refl, ◌∙◌, sym, ap, subst, inl, inr, ◌⊎◌, ℕ, arith, Bool, true, false, List, [], ◌∷◌, map, length, drop, All, IsPermutation, Option, Some, None, Result, Ok, Err}
+use Rattle.std.proofs.Common.{◌≡◌, refl, ◌∙◌, sym, ap, subst, inl, inr, ◌⊎◌, ℕ, arith, Bool, true, false, true≢false, if◌then◌else◌, List, [], ◌∷◌, map, length, drop, All, IsPermutation, Option, Some, None, Result, Ok, Err}
 use Rattle.std.specs.Global.{Vec}
 use Rattle.std.proofs.lemmas.List.Elements.{All-nil, All-cons, All-head}
 use Rattle.std.proofs.lemmas.List.Sorted.{All-permutation, length_permutation}
 use denote.Param.Members.{Mut}
 use Rattle.rand_core.specs.Stream.{Stream}
 use Rattle.url.specs.Parts.{Parts}
-use Rattle.nats_addr.specs.Addr.{addrs_of}
+use Rattle.nats_addr.specs.Addr.{addr_of}
 use Rattle.nats_info.specs.declared.info.ServerInfo.{ServerInfo}
 use Rattle.nats_names.specs.declared.addr_error.AddrError.{AddrError}
 use Rattle.nats_names.specs.declared.addr_error.AddrError.TheVariants as refusal
@@ -36,10 +36,11 @@ use Rattle.nats_handshake.specs.Course.{greeting_at}
 use Rattle.nats_handshake.specs.Credentials.{SignedBy, ThenTold, Offers}
 use Rattle.nats_handshake.specs.Errors.{Failure}
 use Rattle.nats_handshake.specs.Heard.{RefusesIn, RefusesText}
-use Rattle.nats_handshake.specs.Shaking.{Declines, wanting}
+use Rattle.nats_handshake.specs.Shaking.{Declines, is_wanting, wanting}
 use Rattle.nats_dial.specs.Causes.{LastRefused, last_tls, LinkCause, ServerCause, Why, RoundCause}
 use Rattle.nats_dial.specs.Tries.{IsUp}
-use Rattle.nats_live.specs.Causes.{IsRoundWith, OffersNothing, TakesTexts}
+use Rattle.nats_live.specs.declared.error.LiveError.TheVariants as refused
+use Rattle.nats_live.specs.Causes.{IsRoundWith, NotConnected, OffersNothing, RoundFailed, TakesTexts, WhyNotDialed, connect_refused}
 use Rattle.nats_live.specs.Ended.{nothing}
 use Rattle.nats_live.specs.Pooled.{IsPoolOf}
 
@@ -191,20 +192,36 @@ module _ {P : Type 0} (Takes : P → P → List (List ℕ) → Result (Unit {0})
 
 module _ {X Y : Type 0} {F : X → Type 0} {G : Y → Type 0} {g : Mut ((x : X) × F x) (ℕ × Unit {0}) ℕ}
     {h : Mut ((y : Y) × G y) (Vec Server × (ServerInfo × Unit {0})) (Option ReconnectToServer)} where
+  -- no callback names a server
+  none_named : (Answers : ChoiceFn Y G h → Vec Server → ServerInfo → Option ReconnectToServer → Type 0) (servers : List Server)
+      (last : ServerInfo) (named : Option ReconnectToServer) (choice : Option (ChoiceFn Y G h)) → choice ≡ None
+      → NamedBy Answers choice servers last named → named ≡ None
+  none_named Answers servers last named None is names = names
+  none_named Answers servers last named (Some f) is names = cc
+
   -- the round that began on it has that server alone, and no limit
   pub begun_round : (Answers : ChoiceFn Y G h → Vec Server → ServerInfo → Option ReconnectToServer → Type 0) (last : ServerInfo) (server : Parts)
       (p n : Pool X Y F G g h) (chosen : Choice) (told : RoundTold) → IsPoolOf server p → Begins Answers last p n chosen
       → told.round ≡ (pool_told n).round → told.limit ≡ (pool_told n).limit → IsRoundWith server told
-  begun_round Answers last server p n chosen told is begins round limit = (
-    plan_of (new_server server),
-    refl,
-    round ∙ one_planned server (servers_of p) ((options_of p).retain_servers_order) (numbers_left p) begins.named chosen (round_of n)
-        (numbers_left n) (none_named Answers (servers_of p) last begins.named ((options_of p).choice) is.unchosen begins.names) is.servers begins.plan,
-    limit ∙ (ap (λ (o : _). o.max_reconnects) begins.options ∙ is.unlimited),
-  )
-    where
-      none_named : (Answers : ChoiceFn Y G h → Vec Server → ServerInfo → Option ReconnectToServer → Type 0) (servers : List Server)
-          (last : ServerInfo) (named : Option ReconnectToServer) (choice : Option (ChoiceFn Y G h)) → choice ≡ None
-          → NamedBy Answers choice servers last named → named ≡ None
-      none_named Answers servers last named None is names = names
-      none_named Answers servers last named (Some f) is names = cc
+  begun_round Answers last server p n chosen told is begins round limit =
+      let named = none_named Answers (servers_of p) last begins.named ((options_of p).choice) is.unchosen begins.names in (
+        plan_of (new_server server),
+        refl,
+        round ∙ one_planned server (servers_of p) ((options_of p).retain_servers_order) (numbers_left p) begins.named chosen (round_of n)
+            (numbers_left n) named is.servers begins.plan,
+        limit ∙ (ap (λ (o : _). o.max_reconnects) begins.options ∙ is.unlimited),
+      )
+
+-- ---- no link came of an address
+
+pub not_dialed : (addr : List ℕ) (server : Parts) (a b : Seen) (e : Failure) (before after : RoundTold) → addr_of addr ≡ Ok server
+    → (e ≡ wanting) ⊎ (IsRoundWith server after × RoundFailed before after a e b) → WhyNotDialed addr a (connect_refused e) b
+not_dialed addr server a b e before after spelled failed = by (is_wanting e.0) refl
+  where
+    why : is_wanting e.0 ≡ false → (e ≡ wanting) ⊎ (IsRoundWith server after × RoundFailed before after a e b) → NotConnected addr a e b
+    why fine (inl is) = absurd (true≢false (sym (ap (λ (f : Failure). is_wanting f.0) is) ∙ fine))
+    why fine (inr (alone, round)) = (fine, inr (before, after, (server, spelled, alone), round))
+
+    by : (w : Bool) → is_wanting e.0 ≡ w → WhyNotDialed addr a (if w then refused.NoMemory else refused.Connect e) b
+    by true is = tt
+    by false is = why is failed
