@@ -1,5 +1,5 @@
 -- A text of letters and digits with one more.
-use Rattle.std.proofs.Common.{◌≡◌, refl, ◌∙◌, sym, ap, inl, inr, ◌⊎◌, ℕ, ◌<◌, arith, Bool, true, false, ◌&&◌, ◌||◌, nat_le, le-leb, List, [], ◌∷◌, ◌++◌, encode_utf8}
+use Rattle.std.proofs.Common.{◌≡◌, refl, ◌∙◌, ap, inl, inr, ℕ, ◌<◌, arith, Bool, true, false, ◌&&◌, ◌||◌, nat_le, le-leb, List, [], ◌∷◌, ◌++◌}
 use Rattle.std.proofs.lemmas.Bool.{false≢true}
 use Rattle.std.specs.Char.{IsAsciiAlphanumeric}
 use Rattle.std.specs.List.{list_all}

@@ -1,5 +1,4 @@
 -- What stands beside that which connects.
-use Rattle.std.specs.Prelude.{ℕ}
 
 -- a spawner, and the clock that jobs get copies of
 pub record Aside (S C : Type 0) : Type 0 where

@@ -1,5 +1,4 @@
 -- What a clock tells that stands still.
-use Rattle.std.specs.Prelude.{ℕ}
 use Rattle.nats_outside.specs.Told.{ClockTold}
 use Rattle.nats_client.specs.declared.still_clock.StillClock.{StillClock}
 

@@ -1,5 +1,5 @@
 -- What the parts of the outside over the system tell: counts and words, and no content.
-use Rattle.std.specs.Prelude.{ℕ, true, false, List, None, length}
+use Rattle.std.specs.Prelude.{ℕ, List, None, length}
 use Rattle.std.specs.declared.net.socket_addr.SocketAddr.{SocketAddr}
 use Rattle.nats_addr.specs.Resolving.{ResolverTold, risen, word_of_list, empties_by}
 use Rattle.nats_outside.specs.Told.{ReadTold, WriteTold, DialerTold, ClockTold}

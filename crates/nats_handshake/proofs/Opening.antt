@@ -1,5 +1,5 @@
 -- A handshake that goes on by pieces opens its link at the first piece that holds its success.
-use Rattle.std.proofs.Common.{◌≡◌, refl, ◌∙◌, sym, ap, Bool, ℕ, List, [], ◌∷◌, ◌++◌, drop, append_assoc, Option, Some, None, Result, Ok, Err}
+use Rattle.std.proofs.Common.{◌≡◌, refl, ◌∙◌, sym, ap, Bool, ℕ, List, [], ◌∷◌, ◌++◌, drop, append_assoc, Option, Some, None, Result, Ok}
 use Rattle.std.specs.List.{concat}
 use Rattle.std.specs.Option.{option_or}
 use Rattle.nats_names.specs.declared.addr_error.AddrError.{AddrError}

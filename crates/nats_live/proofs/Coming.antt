@@ -1,11 +1,11 @@
 -- How a session begins: its link comes up, and the bytes that came behind the handshake are its first piece.
-use Rattle.std.proofs.Common.{◌≡◌, refl, ◌∙◌, sym, ap, subst, ℕ, Bool, true, false, nat_lt, List, [], length, Option, None, if◌then◌else◌, Result, Ok, Err}
+use Rattle.std.proofs.Common.{◌≡◌, refl, ◌∙◌, sym, ap, subst, ℕ, true, nat_lt, List, [], length, None, Ok}
 use Rattle.nats_info.specs.declared.info.ServerInfo.{ServerInfo}
 use Rattle.nats_wire.specs.Operations.{Front, unfinished, front, sight}
 use Rattle.nats_history.specs.declared.turn.Turn.TheVariants as turns
 use Rattle.nats_history.specs.History.{opened, fed}
-use Rattle.nats_history.specs.Schedule.{due, due_by, is_valid_turn, own_steps, write_limit}
-use Rattle.nats_session.specs.Handler.{Seen, idle, seen_after, seen_all}
+use Rattle.nats_history.specs.Schedule.{due, due_by, is_valid_turn, write_limit}
+use Rattle.nats_session.specs.Handler.{Seen, idle, seen_after}
 use Rattle.nats_core.specs.declared.entry.StepReply.{StepReply}
 use Rattle.nats_core.specs.Journal.{Logged, all_due, new_core}
 use Rattle.nats_core.proofs.Dues.{none_played, none_after_all}

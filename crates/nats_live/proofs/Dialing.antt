@@ -1,5 +1,5 @@
 -- A round of connecting on default options, whose pool has one server: what it says of texts and of what is offered.
-use Rattle.std.proofs.Common.{◌≡◌, refl, ◌∙◌, sym, ap, subst, inl, inr, ◌⊎◌, ℕ, arith, Bool, true, false, true≢false, if◌then◌else◌, List, [], ◌∷◌, map, length, drop, All, IsPermutation, Option, Some, None, Result, Ok, Err}
+use Rattle.std.proofs.Common.{◌≡◌, refl, ◌∙◌, sym, ap, subst, inl, inr, ◌⊎◌, ℕ, arith, Bool, true, false, true≢false, if◌then◌else◌, List, [], ◌∷◌, map, length, All, Option, Some, None, Result, Ok, Err}
 use Rattle.std.specs.Global.{Vec}
 use Rattle.std.proofs.lemmas.List.Elements.{All-nil, All-cons, All-head}
 use Rattle.std.proofs.lemmas.List.Sorted.{All-permutation, length_permutation}
@@ -11,12 +11,10 @@ use Rattle.nats_info.specs.declared.info.ServerInfo.{ServerInfo}
 use Rattle.nats_names.specs.declared.addr_error.AddrError.{AddrError}
 use Rattle.nats_names.specs.declared.addr_error.AddrError.TheVariants as refusal
 use Rattle.nats_names.specs.declared.cause.Cause.{Cause}
-use Rattle.nats_names.specs.declared.cause.Cause.TheVariants as cause
 use Rattle.nats_wire.specs.Operations.{front}
 use Rattle.nats_pool.specs.Auths.{AuthValue}
 use Rattle.nats_pool.specs.declared.auth.Auth.{Auth}
 use Rattle.nats_pool.specs.declared.pool_parts.Choice.{Choice}
-use Rattle.nats_pool.specs.declared.pool_parts.Choice.TheVariants as choice
 use Rattle.nats_pool.specs.declared.pool_parts.Planned.{Planned}
 use Rattle.nats_pool.specs.declared.pool_parts.Pool.{Pool}
 use Rattle.nats_pool.specs.declared.server.Server.{Server}
@@ -37,7 +35,7 @@ use Rattle.nats_handshake.specs.Credentials.{SignedBy, ThenTold, Offers}
 use Rattle.nats_handshake.specs.Errors.{Failure}
 use Rattle.nats_handshake.specs.Heard.{RefusesIn, RefusesText}
 use Rattle.nats_handshake.specs.Shaking.{Declines, is_wanting, wanting}
-use Rattle.nats_dial.specs.Causes.{LastRefused, last_tls, LinkCause, ServerCause, Why, RoundCause}
+use Rattle.nats_dial.specs.Causes.{last_tls, LinkCause, ServerCause, Why, RoundCause}
 use Rattle.nats_dial.specs.Tries.{IsUp}
 use Rattle.nats_live.specs.declared.error.LiveError.TheVariants as refused
 use Rattle.nats_live.specs.Causes.{IsRoundWith, NotConnected, OffersNothing, RoundFailed, TakesTexts, WhyNotDialed, connect_refused}

@@ -1,12 +1,9 @@
 -- What a session on a link comes to, by what its loops leave.
-use Rattle.std.proofs.Common.{◌≡◌, refl, ◌∙◌, sym, ap, subst, inl, inr, ◌⊎◌, ℕ, zero, suc, ◌+◌, ◌-◌, ◌<◌, ◌≤◌, arith, Bool, true, false, true≢false, List, [], ◌∷◌, ◌++◌, length, take, append-nil, flat_map, Option, Some, None, IfSome, IfOk, IfErr, OnOk, Result, Ok, Err}
+use Rattle.std.proofs.Common.{◌≡◌, refl, ◌∙◌, sym, ap, subst, inl, inr, ◌⊎◌, ℕ, ◌+◌, ◌-◌, ◌<◌, ◌≤◌, arith, true, false, true≢false, List, [], ◌++◌, length, take, append-nil, flat_map, Some, None, IfSome, IfOk, IfErr, OnOk, Result, Ok, Err}
 use Rattle.std.specs.Global.{Vec}
-use Rattle.std.proofs.lemmas.Bool.{false≢true}
 use Rattle.nats_info.specs.declared.info.ServerInfo.{ServerInfo}
-use Rattle.nats_names.specs.declared.cause.Cause.{Cause}
 use Rattle.nats_names.specs.declared.cause.Cause.TheVariants as cause
 use Rattle.nats_outside.specs.Told.{Seen as World, ReadTold, WriteTold}
-use Rattle.nats_wire.specs.declared.message.Message.{Message}
 use Rattle.nats_wire.specs.Operations.{Operation, operations}
 use Rattle.nats_session.specs.Handler.{Seen}
 use Rattle.nats_dial.specs.Causes.{Onward}

@@ -3,7 +3,6 @@ use Rattle.std.proofs.Common.{◌≡◌, refl, ◌∙◌, sym, ap, subst, inl, i
 use Rattle.std.specs.Io.KnownBytes.{append_known}
 use Rattle.std.proofs.lemmas.Bool.{false≢true}
 use Rattle.std.proofs.lemmas.Option.{none-some}
-use Rattle.nats_names.specs.declared.failed.NoMemory.{NoMemory}
 use Rattle.nats_addr.specs.Resolving.{risen}
 use Rattle.nats_outside.specs.Told.{WriteTold}
 use Rattle.nats_dial.specs.Lines.{Took}
@@ -15,14 +14,12 @@ use Rattle.nats_session.specs.Handler.{Seen, seen_all}
 use Rattle.nats_tickets.specs.Kept.{reply_in, without}
 use Rattle.nats_core.specs.declared.answers.WriteOnce.{WriteOnce}
 use Rattle.nats_core.specs.declared.answers.WriteOnce.TheVariants as writes
-use Rattle.nats_core.specs.Journal.{Logged, all_due, with_session, caught_up}
-use Rattle.nats_core.specs.Calls.{parts_in}
+use Rattle.nats_core.specs.Journal.{Logged, all_due}
 use Rattle.nats_core.proofs.Dues.{none_played, none_after_all}
 use Rattle.nats_live.specs.declared.error.LiveError.{LiveError}
-use Rattle.nats_live.specs.declared.error.LiveError.TheVariants as refused
 use Rattle.nats_live.specs.Flow.{Phase, sending, both, sent, flush_waits, flush_awaits, flush_done, FitsPhase, Flushes, FlushEnds, IsSettled, ready_at, unwritten_at}
 use Rattle.nats_live.specs.Steps.{WritesWhole}
-use Rattle.nats_live.proofs.Sending.{Going, IsOff, going_all, going_flushes, going_lost, going_up, going_write, flushes_going, flushes_off, off_all}
+use Rattle.nats_live.proofs.Sending.{Going, going_all, going_flushes, going_lost, going_up, going_write, flushes_going, flushes_off, off_all}
 
 -- ---- what a half took
 

@@ -1,13 +1,10 @@
 -- What the last ended link shows, once a link is handed back.
-use Rattle.std.proofs.Common.{◌≡◌, refl, ◌∙◌, sym, ap, subst, inl, inr, ◌⊎◌, ℕ, zero, suc, ◌+◌, ◌<◌, ◌≤◌, arith, Bool, true, false, List, [], ◌∷◌, ◌++◌, length, drop, append_assoc, append-nil, drop-append-le, drop_of_length-le, Option, Some, None, IfSome, option_map, flat_map, take, Result, Ok, Err}
+use Rattle.std.proofs.Common.{◌≡◌, refl, ◌∙◌, sym, ap, subst, inl, inr, ◌⊎◌, ℕ, zero, suc, ◌+◌, ◌<◌, ◌≤◌, arith, true, false, List, [], ◌++◌, length, drop, append_assoc, append-nil, drop-append-le, drop_of_length-le, Option, Some, None, IfSome, option_map, flat_map, take, Result, Ok}
 use Rattle.std.specs.List.{concat}
 use Rattle.nats_info.specs.declared.info.ServerInfo.{ServerInfo}
 use Rattle.nats_pool.specs.Auths.{AuthValue}
-use Rattle.nats_outside.specs.Counts.{Rose}
-use Rattle.nats_outside.specs.Told.{Seen, ReadTold, WriteTold, DialerTold, ended_more, hung_up, word_of}
+use Rattle.nats_outside.specs.Told.{Seen, ReadTold, WriteTold, ended_more, word_of}
 use Rattle.nats_outside.specs.declared.dialer.DialWord.TheVariants as word
-use Rattle.nats_wire.specs.declared.op.ClientOp.TheVariants as client
-use Rattle.nats_wire.specs.Commands.{command_text}
 use Rattle.nats_wire.specs.Operations.{Operation, operations}
 use Rattle.nats_handshake.specs.Opened.{Opened, opened, opened_in}
 use Rattle.nats_handshake.specs.Shaking.{opening}
@@ -16,12 +13,10 @@ use Rattle.nats_dial.specs.Causes.{Onward}
 use Rattle.nats_dial.specs.Lines.{Took}
 use Rattle.nats_dial.specs.Tries.{IsUp}
 use Rattle.nats_script.specs.Printed.{message_line}
-use Rattle.nats_live.specs.declared.error.LiveError.{LiveError}
-use Rattle.nats_live.specs.declared.error.LiveError.TheVariants as refused
 use Rattle.nats_live.specs.Back.{IsBack}
-use Rattle.nats_live.specs.Causes.{OffersNothing, LinkBroke, LinkBrokeOrEnded, LastOpened, FaultInRest, FaultLater, FewerCame, TooLarge}
-use Rattle.nats_live.specs.Ended.{EndedLink, LastLink, before, after, behind_handshake, messages, pongs, ends_in_fault, nothing, handshake_text, received_text, WasPublished, WasReceived}
-use Rattle.nats_live.specs.Flow.{GaveLater, CameSoFar, IsOver, published_text, sub_text, subscribed_text}
+use Rattle.nats_live.specs.Causes.{OffersNothing, LinkBroke, LinkBrokeOrEnded, FaultInRest, FaultLater, FewerCame, TooLarge}
+use Rattle.nats_live.specs.Ended.{EndedLink, LastLink, after, behind_handshake, messages, pongs, ends_in_fault, nothing, handshake_text, WasPublished, WasReceived}
+use Rattle.nats_live.specs.Flow.{GaveLater, CameSoFar, published_text, sub_text, subscribed_text}
 
 -- ---- the link as it opened
 

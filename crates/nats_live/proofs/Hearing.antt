@@ -1,5 +1,5 @@
 -- A subscription on a session that reads: what one due step makes of it, while no message of its queue may be too many.
-use Rattle.std.proofs.Common.{◌≡◌, refl, ◌∙◌, sym, ap, subst, inl, inr, ◌⊎◌, ℕ, zero, suc, ◌+◌, ◌<◌, ◌≤◌, arith, Bool, true, false, true≢false, ◌==◌, ◌||◌, ◌&&◌, nat_lt, lt-ltb, ne_eqb, List, [], ◌∷◌, ◌++◌, length, length-append, drop, append_assoc, append-nil, length-drop, drop_of_length-le, drop-append-le, Option, Some, None, if◌then◌else◌}
+use Rattle.std.proofs.Common.{◌≡◌, refl, ◌∙◌, sym, ap, subst, ℕ, zero, suc, ◌+◌, ◌<◌, ◌≤◌, arith, Bool, true, false, true≢false, ◌==◌, ◌||◌, ◌&&◌, nat_lt, lt-ltb, ne_eqb, List, [], ◌∷◌, ◌++◌, length, length-append, drop, append_assoc, append-nil, length-drop, drop_of_length-le, drop-append-le, Option, Some, None, if◌then◌else◌}
 use Rattle.std.proofs.lemmas.Bool.{false≢true}
 use Rattle.nats_wire.specs.declared.message.Message.{Message}
 use Rattle.nats_wire.specs.declared.op.ClientOp.{ClientOp}
@@ -7,16 +7,15 @@ use Rattle.nats_wire.specs.Operations.{Operation, message, info_op, error_op, ok
 use Rattle.nats_wire.proofs.Fronts.{front_fits, front_takes}
 use Rattle.nats_history.specs.declared.call.CallReply.{CallReply}
 use Rattle.nats_history.specs.declared.stage.Stage.TheVariants as stages
-use Rattle.nats_history.specs.declared.transcript.LinkWord.TheVariants as word
 use Rattle.nats_history.specs.History as history
-use Rattle.nats_history.specs.History.{Step, Sub, asking_after, settled_by, cut, is_closing_at, is_over, forgotten, end_if, unsubscribe_command, reached}
-use Rattle.nats_history.specs.Schedule.{due, due_by, due_chain, own_steps, write_limit}
+use Rattle.nats_history.specs.History.{Step, Sub, cut, is_closing_at, is_over, forgotten, end_if, unsubscribe_command}
+use Rattle.nats_history.specs.Schedule.{due, due_chain, own_steps, write_limit}
 use Rattle.nats_history.specs.Counts.{statistics_after}
 use Rattle.nats_history.specs.declared.turn.Turn.TheVariants as turns
 use Rattle.nats_history.specs.After.{sub_after, written}
 use Rattle.nats_tables.specs.Numbers.{at_number, item_of}
 use Rattle.nats_tables.specs.Rows.{tidied}
-use Rattle.nats_session.specs.Handler.{Seen, seen_all, seen_after, push_all}
+use Rattle.nats_session.specs.Handler.{Seen, seen_all, push_all}
 use Rattle.nats_core.specs.Journal.{due_round, due_rounds, all_due}
 use Rattle.nats_live.specs.Ended.{messages, pong, pongs, is_fault, ends_in_fault}
 use Rattle.nats_live.specs.State.{Noise, default_config, state}
@@ -151,7 +150,7 @@ hears_less mux n subject puts queue unread waiting =
 -- ---- a piece is read
 
 -- as many bytes at most are unread as there is room for messages; or none of a piece of so many bytes was read, and no message waits
-data Room (unread : List ℕ) (queue : List Message) : Type 0 where
+pub data Room (unread : List ℕ) (queue : List Message) : Type 0 where
   below : length queue + length unread < default_room → Room unread queue
   fresh : (old more : List ℕ) → unread ≡ old ++ more → front old ≡ unfinished → length more < default_room → queue ≡ []
       → Room unread queue

@@ -1,13 +1,9 @@
 -- A publish, and then a flush, are accepted by a session that has begun, or refused.
-use Rattle.std.proofs.Common.{◌≡◌, refl, ◌∙◌, sym, ap, subst, ℕ, ◌+◌, ◌<◌, arith, Bool, true, false, true≢false, not, ◌&&◌, nat_lt, List, [], ◌∷◌, ◌++◌, length, le-ltb, ltb-true, Option, Some, None, if◌then◌else◌, Result, Ok, Err}
+use Rattle.std.proofs.Common.{◌≡◌, refl, ◌∙◌, sym, ap, subst, ℕ, ◌+◌, ◌<◌, arith, Bool, true, false, true≢false, not, ◌&&◌, nat_lt, List, [], ◌++◌, length, le-ltb, ltb-true, Option, Some, None, if◌then◌else◌, Result, Ok, Err}
 use Rattle.std.specs.List.{list_all}
-use Rattle.std.proofs.lemmas.Option.{none-some}
 use Rattle.nats_names.specs.Names.{is_separator, is_nonempty, is_publishable}
-use Rattle.nats_names.specs.declared.cause.Cause.TheVariants as cause
 use Rattle.nats_wire.specs.declared.message.OutboundMessage.{OutboundMessage}
-use Rattle.nats_wire.specs.declared.op.ClientOp.TheVariants as client
-use Rattle.nats_wire.specs.Commands.{command_text}
-use Rattle.nats_wire.specs.Operations.{front, operations, unfinished}
+use Rattle.nats_wire.specs.Operations.{front, unfinished}
 use Rattle.nats_history.specs.declared.call.Call.{Call}
 use Rattle.nats_history.specs.declared.call.Call.TheVariants as call
 use Rattle.nats_history.specs.declared.call.CallReply.{CallReply}
@@ -27,7 +23,6 @@ use Rattle.nats_core.specs.Journal.{Logged, all_due, caught_up, reply_to}
 use Rattle.nats_core.proofs.Dues.{none_played, none_after_all}
 use Rattle.nats_live.specs.declared.error.LiveError.{LiveError}
 use Rattle.nats_live.specs.declared.error.LiveError.TheVariants as refused
-use Rattle.nats_live.specs.Ended.{pongs}
 use Rattle.nats_live.specs.State.{Noise, default_config, state, begun}
 use Rattle.nats_live.specs.Steps.{PlaysWhole, step_refused, wholly_played}
 use Rattle.nats_live.specs.Flow.{Phase, sending, both, sent, flush_waits, flush_awaits, flush_done, HasBegun, Accepts, at_phase, publish_text, published_text, publish_answer, ticket_of, unwritten_at}

@@ -1,9 +1,8 @@
 -- A subscription on a session of which no operation is unread: what one due step, one write, one take and the link's end make of it.
-use Rattle.std.proofs.Common.{◌≡◌, refl, ◌∙◌, sym, ap, subst, ℕ, zero, suc, ◌+◌, ◌≤◌, arith, min, Bool, true, false, true≢false, nat_lt, List, [], ◌∷◌, ◌++◌, length, take, drop, append_assoc, append-nil, length-drop, drop-drop, Option, Some, None, if◌then◌else◌}
+use Rattle.std.proofs.Common.{◌≡◌, refl, ◌∙◌, sym, ap, subst, ℕ, zero, suc, ◌+◌, ◌≤◌, arith, min, Bool, true, false, true≢false, nat_lt, List, [], ◌∷◌, ◌++◌, length, take, drop, append-nil, length-drop, drop-drop, None}
 use Rattle.std.proofs.lemmas.Bool.{false≢true}
 use Rattle.nats_wire.specs.declared.message.Message.{Message}
 use Rattle.nats_wire.specs.Operations.{Operation, Front, unfinished, front, operations}
-use Rattle.nats_history.specs.declared.call.Call.{Call}
 use Rattle.nats_history.specs.declared.call.Call.TheVariants as call
 use Rattle.nats_history.specs.declared.call.TakeReply.{TakeReply}
 use Rattle.nats_history.specs.declared.call.TakeReply.TheVariants as takes
@@ -14,7 +13,7 @@ use Rattle.nats_history.specs.Counts.{statistics_after}
 use Rattle.nats_history.specs.Schedule.{due, due_call, due_chain, own_steps, take_reply, took_step, write_limit}
 use Rattle.nats_session.specs.Handler.{Seen, seen_all, seen_after, push_all}
 use Rattle.nats_core.specs.Journal.{due_round, due_rounds, all_due}
-use Rattle.nats_live.specs.Ended.{messages, pongs}
+use Rattle.nats_live.specs.Ended.{messages}
 use Rattle.nats_live.specs.State.{Noise, default_config, state}
 use Rattle.nats_live.specs.Flow.{GoesOn, Receives, receiving, sub_text, subscribed_text, unasked}
 use Rattle.nats_live.proofs.Begins.{all_rounds, nothing_there}

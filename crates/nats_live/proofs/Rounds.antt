@@ -1,5 +1,5 @@
 -- Receiving, as its loops see it: subscribing, writes, takes and reads.
-use Rattle.std.proofs.Common.{◌≡◌, refl, ◌∙◌, sym, ap, subst, inl, inr, ◌⊎◌, ℕ, zero, suc, ◌+◌, ◌-◌, ◌<◌, ◌≤◌, arith, Bool, true, false, true≢false, not, nat_lt, le-ltb, List, [], ◌∷◌, ◌++◌, length, take, drop, append_assoc, append-nil, length-append, length-drop, length-take, drop-drop, take-add, flat_map, Option, Some, None, option_map, if◌then◌else◌, Result, Ok, Err}
+use Rattle.std.proofs.Common.{◌≡◌, refl, ◌∙◌, sym, ap, subst, inl, inr, ◌⊎◌, ℕ, zero, suc, ◌+◌, ◌-◌, ◌<◌, ◌≤◌, arith, Bool, true, false, true≢false, not, nat_lt, le-ltb, List, [], ◌∷◌, ◌++◌, length, take, drop, append_assoc, append-nil, length-append, length-take, drop-drop, take-add, flat_map, Option, Some, None, option_map, if◌then◌else◌, Result, Ok}
 use Rattle.std.specs.List.{concat}
 use Rattle.std.specs.Io.KnownBytes.{append_known}
 use Rattle.std.proofs.lemmas.Bool.{false≢true}
@@ -7,8 +7,6 @@ use Rattle.std.proofs.lemmas.List.{take-append-le}
 use Rattle.std.proofs.lemmas.Grind.{flat_map-append}
 use Rattle.std.proofs.lemmas.Option.{none-some}
 use Rattle.nats_names.specs.Names.{is_valid}
-use Rattle.nats_names.specs.declared.cause.Cause.TheVariants as cause
-use Rattle.nats_addr.specs.Resolving.{risen}
 use Rattle.nats_outside.specs.Told.{ReadTold, WriteTold, piece_more}
 use Rattle.nats_dial.specs.Lines.{Took}
 use Rattle.nats_wire.specs.declared.message.Message.{Message}
@@ -21,9 +19,8 @@ use Rattle.nats_history.specs.declared.call.TakeReply.{TakeReply}
 use Rattle.nats_history.specs.declared.call.TakeReply.TheVariants as takes
 use Rattle.nats_history.specs.declared.turn.Turn.TheVariants as turns
 use Rattle.nats_history.specs.History as history
-use Rattle.nats_history.specs.Schedule.{due, due_by, due_call, is_valid_turn, take_reply, refusal, reply_by, accepted_reply, accepted_step, own_steps, write_limit}
+use Rattle.nats_history.specs.Schedule.{due, due_by, is_valid_turn, take_reply, refusal, reply_by, accepted_reply, accepted_step, own_steps}
 use Rattle.nats_session.specs.Handler.{Seen, seen_all, seen_after}
-use Rattle.nats_core.specs.declared.answers.ReadOnce.{ReadOnce}
 use Rattle.nats_core.specs.declared.answers.ReadOnce.TheVariants as reads
 use Rattle.nats_core.specs.declared.answers.WriteOnce.{WriteOnce}
 use Rattle.nats_core.specs.declared.answers.WriteOnce.TheVariants as writes
@@ -34,14 +31,13 @@ use Rattle.nats_core.specs.Links.{GivesNone}
 use Rattle.nats_core.proofs.Dues.{none_played, none_after_all}
 use Rattle.nats_script.specs.Printed.{message_line}
 use Rattle.nats_live.specs.declared.error.LiveError.{LiveError}
-use Rattle.nats_live.specs.declared.error.LiveError.TheVariants as refused
 use Rattle.nats_live.specs.Ended.{messages, pongs, ends_in_fault}
 use Rattle.nats_live.specs.State.{Noise, state, begun}
 use Rattle.nats_live.specs.Steps.{PlaysWhole, ReadsWhole, WritesWhole}
 use Rattle.nats_live.specs.Flow.{GoesOn, HasBegun, Receives, Subscribes, GaveLater, IsOver, IsReceiving, IsWritten, TakesOne, TakesAll, message_in, receiving, sub_text, subscribed_text, subscribe_answer, unasked}
 use Rattle.nats_live.proofs.Begins.{nothing_there}
 use Rattle.nats_live.proofs.Flushing.{failed_once, took_failed, took_more}
-use Rattle.nats_live.proofs.Hearing.{Hearing, hearing_all, hearing_fed, hearing_over, hearing_receives}
+use Rattle.nats_live.proofs.Hearing.{hearing_all, hearing_fed, hearing_over, hearing_receives}
 use Rattle.nats_live.proofs.Ops.{messages_more}
 use Rattle.nats_live.proofs.Posting.{noise_accepted, settled_played, settled_reply}
 use Rattle.nats_live.proofs.Quiet.{Quiet, quiet_all, quiet_lost, quiet_receives, quiet_take, quiet_up, quiet_write, receives_quiet, Took1}

@@ -1,5 +1,5 @@
 -- A publish and a flush on a session that has begun: what one due step, one write and the link's end make of them.
-use Rattle.std.proofs.Common.{◌≡◌, refl, ◌∙◌, sym, ap, subst, ℕ, zero, suc, ◌+◌, ◌-◌, ◌<◌, ◌≤◌, arith, min, Bool, true, false, true≢false, nat_lt, nat_le, List, [], ◌∷◌, ◌++◌, length, take, drop, append_assoc, append-nil, take-append-drop, length-drop, drop_of_length-le, leb-true, leb-false, Option, Some, None, if◌then◌else◌}
+use Rattle.std.proofs.Common.{◌≡◌, refl, ◌∙◌, sym, ap, subst, ℕ, zero, suc, ◌+◌, ◌-◌, ◌≤◌, arith, min, Bool, true, false, true≢false, nat_lt, nat_le, List, [], ◌∷◌, ◌++◌, length, take, drop, append_assoc, append-nil, take-append-drop, length-drop, drop_of_length-le, leb-true, leb-false, Some, None, if◌then◌else◌}
 use Rattle.std.proofs.lemmas.Bool.{false≢true}
 use Rattle.std.proofs.lemmas.Option.{none-some}
 use Rattle.nats_wire.specs.declared.message.OutboundMessage.{OutboundMessage}
@@ -10,7 +10,7 @@ use Rattle.nats_history.specs.declared.call.CallReply.{CallReply}
 use Rattle.nats_history.specs.declared.call.CallReply.TheVariants as replies
 use Rattle.nats_history.specs.declared.transcript.LinkWord.TheVariants as word
 use Rattle.nats_history.specs.declared.turn.Turn.TheVariants as turns
-use Rattle.nats_history.specs.History.{Step, handled, taken, link_end, end_events, replied}
+use Rattle.nats_history.specs.History.{handled, taken, link_end, replied}
 use Rattle.nats_history.specs.Counts.{statistics_after}
 use Rattle.nats_history.specs.Schedule.{due, due_by, due_call, due_chain, own_steps, write_limit}
 use Rattle.nats_session.specs.Handler.{Seen, seen_all, seen_after, push_all}
@@ -18,7 +18,7 @@ use Rattle.nats_core.specs.Journal.{due_round, due_rounds, all_due}
 use Rattle.nats_core.proofs.Dues.{none_played}
 use Rattle.nats_tickets.specs.Kept.{reply_in}
 use Rattle.nats_live.specs.State.{Noise, default_config, state, no_subs}
-use Rattle.nats_live.specs.Flow.{Phase, sending, both, sent, flush_waits, flush_awaits, flush_done, HasFlush, FitsPhase, Sends, Flushes, at_phase, calls_at, ready_at, unwritten_at, publish_text, one_flush}
+use Rattle.nats_live.specs.Flow.{Phase, sending, both, sent, flush_waits, flush_awaits, flush_done, HasFlush, FitsPhase, Flushes, at_phase, ready_at, unwritten_at, publish_text, one_flush}
 use Rattle.nats_live.proofs.Begins.{all_rounds, nothing_there}
 use Rattle.nats_live.proofs.States.{round_by, round_up, round_down}
 

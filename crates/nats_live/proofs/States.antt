@@ -1,5 +1,5 @@
 -- A session of one link, written out: what one due step makes of it is computed.
-use Rattle.std.proofs.Common.{◌≡◌, refl, ◌∙◌, sym, ap, ℕ, zero, suc, ◌==◌, Bool, true, false, nat_lt, List, [], ◌∷◌, ◌++◌, length, append-nil, Option, Some, None, if◌then◌else◌}
+use Rattle.std.proofs.Common.{◌≡◌, refl, ◌∙◌, sym, ap, ℕ, zero, suc, ◌==◌, Bool, true, false, nat_lt, List, [], ◌++◌, length, append-nil, Option, None, if◌then◌else◌}
 use Rattle.nats_wire.specs.Operations.{Operation, message, info_op, error_op, ok_op, ping_op, pong_op, Front, unfinished, got, fault, front, past}
 use Rattle.nats_history.specs.declared.call.CallReply.{CallReply}
 use Rattle.nats_history.specs.declared.transcript.LinkWord.TheVariants as word
@@ -122,7 +122,7 @@ pub begun_fault : (mux : List ℕ) (n : Noise) (unread waiting : List ℕ) (m : 
     → round_by (fault m) (state mux n (begun true unread waiting)) ≡ state mux (noise_end mux n) (begun false [] [])
 begun_fault mux n unread waiting m = refl
 
-no_call : (room : Bool) → due_call room [] ≡ None
+pub no_call : (room : Bool) → due_call room [] ≡ None
 no_call true = refl
 no_call false = refl
 

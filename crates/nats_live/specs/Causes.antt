@@ -1,5 +1,5 @@
 -- Why a command on a live link was refused, over what the world told before and after it.
-use Rattle.std.specs.Prelude.{◌≡◌, ◌⊎◌, ◌<◌, ◌≤◌, ℕ, true, false, List, [], ◌∷◌, length, Option, Some, None, Result, Ok, Err, IfSome, codes, if◌then◌else◌}
+use Rattle.std.specs.Prelude.{◌≡◌, ◌⊎◌, ◌<◌, ◌≤◌, ℕ, true, false, List, [], ◌∷◌, length, Some, None, Result, Ok, Err, IfSome, codes, if◌then◌else◌}
 use Rattle.nats_names.specs.declared.addr_error.AddrError.{AddrError}
 use Rattle.nats_names.specs.declared.addr_error.AddrError.TheVariants as addr_error
 use Rattle.nats_names.specs.declared.cause.Cause.TheVariants as cause

@@ -1,5 +1,5 @@
 -- A pool of one server.
-use Rattle.std.specs.Prelude.{◌≡◌, ℕ, List, [], ◌∷◌, Option, None}
+use Rattle.std.specs.Prelude.{◌≡◌, ℕ, [], ◌∷◌, Option, None}
 use Rattle.std.specs.Global.{Vec}
 use denote.Param.Members.{Mut}
 use Rattle.url.specs.Parts.{Parts}

@@ -1,5 +1,5 @@
 -- What each status says of commands on a live link.
-use Rattle.std.proofs.Common.{◌≡◌, ◌≢◌, refl, ◌∙◌, sym, ap, subst, inl, inr, ◌⊎◌, ℕ, arith, true, List, [], ◌∷◌, Option, Some, None}
+use Rattle.std.proofs.Common.{◌≡◌, ◌≢◌, refl, ◌∙◌, sym, ap, subst, inl, inr, ◌⊎◌, ℕ, arith, true, List, [], ◌∷◌, Option, Some}
 use Rattle.std.specs.Io.KnownBytes.{Appends}
 use Rattle.nats_outside.specs.Told.{Seen}
 use Rattle.nats_live.specs.declared.error.LiveError.{LiveError}

@@ -1,10 +1,7 @@
 -- The bytes that came behind the handshake are the first piece.
-use Rattle.std.proofs.Common.{ap, sym, subst, ◌∙◌, List, ℕ}
-use Rattle.nats_history.specs.declared.turn.Turn.TheVariants as turns
-use Rattle.nats_core.specs.Calls.{parts_in}
+use Rattle.std.proofs.Common.{subst, List, ℕ}
 use Rattle.nats_live.specs.Flow.{HasBegun}
-use Rattle.nats_live.proofs.Coming.{fed_begun, piece_comes}
-use Rattle.nats_live.proofs.Posting.{refused_play}
+use Rattle.nats_live.proofs.Coming.{fed_begun}
 use Rattle.nats_live.proofs.begin.feed.Goals as goal
 
 pub returns : goal.returns

@@ -1,7 +1,5 @@
 -- A link came up on a new core.
-use Rattle.nats_history.specs.declared.turn.Turn.TheVariants as turns
-use Rattle.nats_live.proofs.Coming.{up_begun, up_comes}
-use Rattle.nats_live.proofs.Posting.{refused_play}
+use Rattle.nats_live.proofs.Coming.{up_begun}
 use Rattle.nats_live.proofs.begin.on_link.Goals as goal
 
 pub returns-clause-begun : goal.returns-clause-begun

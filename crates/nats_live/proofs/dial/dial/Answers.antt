@@ -1,5 +1,5 @@
 -- A link came of the address, or a round with its server alone gave none.
-use Rattle.std.proofs.Common.{subst, sym, Err}
+use Rattle.std.proofs.Common.{subst}
 use Rattle.nats_outside.specs.Told.{Seen}
 use Rattle.nats_dial.specs.Causes.{Onward}
 use Rattle.nats_pool.specs.Handing.{pool_told}

@@ -1,6 +1,5 @@
 -- What was published, or why not, is what the last ended link shows.
 use Rattle.std.proofs.Common.{subst, sym}
-use Rattle.nats_outside.specs.Told.{Seen}
 use Rattle.nats_dial.specs.Causes.{Onward}
 use Rattle.nats_live.proofs.Ends.{not_published_clause, published_clause}
 use Rattle.nats_live.proofs.Handing.{onward_back}

@@ -1,6 +1,4 @@
 -- What came of the session is what its link shows.
-use Rattle.nats_live.specs.Flow.{PublishedOver}
-use Rattle.nats_live.specs.declared.error.LiveError.TheVariants as refused
 use Rattle.nats_live.proofs.Ends.{published_over}
 use Rattle.nats_live.proofs.live.publish_over.Goals as goal
 

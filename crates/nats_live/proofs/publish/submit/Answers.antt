@@ -1,5 +1,5 @@
 -- Both calls are accepted, or the first is refused.
-use Rattle.std.proofs.Common.{refl, sym, ap, subst, ◌∙◌, Err}
+use Rattle.std.proofs.Common.{refl, sym, subst, Err}
 use Rattle.nats_history.specs.declared.call.Call.TheVariants as call
 use Rattle.nats_history.specs.declared.turn.Turn.TheVariants as turns
 use Rattle.nats_live.specs.declared.error.LiveError.{LiveError}

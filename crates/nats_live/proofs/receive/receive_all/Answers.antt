@@ -1,7 +1,6 @@
 -- A round writes, takes and reads; it ends where enough was taken, or the link is over.
-use Rattle.std.proofs.Common.{rules, arith, sym, ap, subst, ◌∙◌, Err, length}
-use Rattle.nats_core.specs.Calls.{parts_in}
-use Rattle.nats_live.proofs.Ends.{round_ends, round_lost, round_over, round_read, round_taken, rounds_begin}
+use Rattle.std.proofs.Common.{rules, arith, sym, ◌∙◌}
+use Rattle.nats_live.proofs.Ends.{round_ends, round_over, round_taken, rounds_begin}
 use Rattle.nats_live.proofs.receive.receive_all.Goals as goal
 
 pub rounds-init : goal.rounds-init

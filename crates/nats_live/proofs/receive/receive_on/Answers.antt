@@ -1,11 +1,6 @@
 -- A subscription is received on, unless the link is over already.
-use Rattle.std.proofs.Common.{inl, inr, refl, sym, ap, subst, ◌∙◌, Ok, Err, true, Result}
-use Rattle.std.specs.Global.{Vec}
+use Rattle.std.proofs.Common.{sym, ◌∙◌, true}
 use Rattle.nats_wire.specs.Operations.{operations}
-use Rattle.nats_core.specs.Calls.{parts_in}
-use Rattle.nats_session.specs.Handler.{Seen}
-use Rattle.nats_live.specs.declared.error.LiveError.{LiveError}
-use Rattle.nats_live.specs.Flow.{ReceivesAll}
 use Rattle.nats_live.proofs.Ends.{receives_all, receives_over}
 use Rattle.nats_live.proofs.receive.receive_on.Goals as goal
 

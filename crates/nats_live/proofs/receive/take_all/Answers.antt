@@ -1,10 +1,7 @@
 -- Each message that is taken is printed.
 use Rattle.std.proofs.Common.{arith}
 use Rattle.nats_core.specs.Calls.{parts_in}
-use Rattle.nats_live.specs.declared.error.LiveError.TheVariants as refused
-use Rattle.nats_live.specs.Flow.{TakesAll}
 use Rattle.nats_live.proofs.Rounds.{takes_begin, takes_done, takes_end, takes_step}
-use Rattle.nats_live.proofs.Wants.{err_by}
 use Rattle.nats_live.proofs.receive.take_all.Goals as goal
 
 pub takes-init : goal.takes-init

@@ -1,9 +1,6 @@
 -- A take that was played gives the oldest message that waits.
-use Rattle.std.proofs.Common.{sym, subst, ◌∙◌, Err}
 use Rattle.nats_history.specs.declared.turn.Turn.TheVariants as turns
 use Rattle.nats_core.specs.Calls.{parts_in}
-use Rattle.nats_live.specs.declared.error.LiveError.{LiveError}
-use Rattle.nats_live.specs.declared.error.LiveError.TheVariants as refused
 use Rattle.nats_live.specs.Flow.{TakesOne}
 use Rattle.nats_live.specs.Steps.{step_refused}
 use Rattle.nats_live.proofs.Posting.{refused_play}

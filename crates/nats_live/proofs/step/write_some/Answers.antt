@@ -1,7 +1,6 @@
 -- A write is played with all that it made due.
-use Rattle.std.proofs.Common.{sym, ◌∙◌}
 use Rattle.nats_core.proofs.Cores.{none_caught_up}
-use Rattle.nats_live.proofs.Stepping.{writes_gone, writes_once, writes_wanting}
+use Rattle.nats_live.proofs.Stepping.{writes_gone, writes_once}
 use Rattle.nats_live.proofs.step.write_some.Goals as goal
 
 pub write_link-requires-clause-settled : goal.write_link-requires-clause-settled
