@@ -1,5 +1,6 @@
 -- What the last ended link shows, once a link is handed back.
-use Rattle.std.proofs.Common.{◌≡◌, refl, ◌∙◌, sym, ap, subst, inl, inr, ◌⊎◌, ℕ, zero, suc, ◌+◌, ◌<◌, ◌≤◌, arith, true, false, List, [], ◌++◌, length, drop, append_assoc, append-nil, drop-append-le, drop_of_length-le, Option, Some, None, IfSome, option_map, flat_map, take, Result, Ok}
+use Rattle.std.proofs.Common.{◌≡◌, refl, ◌∙◌, sym, ap, subst, inl, inr, ◌⊎◌, ℕ, zero, suc, ◌+◌, ◌<◌, ◌≤◌, arith, true, false, List, [], ◌++◌, length, drop, append_assoc, append-nil, drop_of_length-le, Option, Some, None, IfSome, option_map, flat_map, take, Result, Ok}
+use Rattle.std.proofs.lemmas.List.{drop-append-le}
 use Rattle.std.specs.List.{concat}
 use Rattle.nats_info.specs.declared.info.ServerInfo.{ServerInfo}
 use Rattle.nats_pool.specs.Auths.{AuthValue}

@@ -1,5 +1,6 @@
 -- A subscription on a session that reads: what one due step makes of it, while no message of its queue may be too many.
-use Rattle.std.proofs.Common.{◌≡◌, refl, ◌∙◌, sym, ap, subst, ℕ, zero, suc, ◌+◌, ◌<◌, ◌≤◌, arith, Bool, true, false, true≢false, ◌==◌, ◌||◌, ◌&&◌, nat_lt, lt-ltb, ne_eqb, List, [], ◌∷◌, ◌++◌, length, length-append, drop, append_assoc, append-nil, length-drop, drop_of_length-le, drop-append-le, Option, Some, None, if◌then◌else◌}
+use Rattle.std.proofs.Common.{◌≡◌, refl, ◌∙◌, sym, ap, subst, ℕ, zero, suc, ◌+◌, ◌<◌, ◌≤◌, arith, Bool, true, false, true≢false, ◌==◌, ◌||◌, ◌&&◌, nat_lt, lt-ltb, ne_eqb, List, [], ◌∷◌, ◌++◌, length, length-append, drop, append_assoc, append-nil, length-drop, drop_of_length-le, Option, Some, None, if◌then◌else◌}
+use Rattle.std.proofs.lemmas.List.{drop-append-le}
 use Rattle.std.proofs.lemmas.Bool.{false≢true}
 use Rattle.nats_wire.specs.declared.message.Message.{Message}
 use Rattle.nats_wire.specs.declared.op.ClientOp.{ClientOp}
