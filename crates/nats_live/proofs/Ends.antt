@@ -22,7 +22,7 @@ use Rattle.nats_live.specs.Ended.{LastLink, messages, ends_in_fault, WasPublishe
 use Rattle.nats_live.specs.Steps.{ReadsWhole}
 use Rattle.nats_live.specs.Flow.{HasBegun, Accepts, FlushEnds, Publishes, PublishedOver, Receives, Subscribes, IsReceiving, IsOver, IsWritten, TakesAll, ReceiveEnds, ReceivesAll, ReceivedOver, CameSoFar, GaveLater, published_text, subscribed_text}
 use Rattle.nats_live.proofs.Handing.{gave_nothing, ends_last, broke, broke_or_ended, link_ended, was_published, fault_in_rest, too_large, was_received, fewer_came, fault_later}
-use Rattle.nats_live.proofs.Rounds.{printed_more, printed_same, read_lost, read_more, written_far}
+use Rattle.nats_live.proofs.Rounds.{asked_more, over_more, printed_more, printed_same, read_lost, read_more}
 
 -- ---- the rounds of receiving
 
@@ -72,7 +72,6 @@ pub round_taken : (subject joined : List ℕ) (first : List Operation) (head : L
         → TakesAll subject (joined ++ on.far.bytes) first on.far.since took on.taken mid.parts.link.is_up wanted text (Ok left) new after)
     → RoundTaken subject joined first head count left after new r0 r w
 round_taken subject joined first head count wanted left text after old mid new r0 r before w on wrote takes =
-    let next = written_far subject joined first on.taken head old mid r0 r before w on.far wrote in
     let took = on.far.took ++ wrote.0 in
     let t = takes took wrote.1 in
     record {
@@ -84,8 +83,8 @@ round_taken subject joined first head count wanted left text after old mid new r
         gave = on.far.gave;
         receives = t.2;
         wrote = wrote.2;
-        asked = next.0.asked;
-        over = λ down. next.0.over (sym t.1 ∙ down);
+        asked = asked_more subject on.far.took wrote.0 first on.far.since on.far.asked;
+        over = λ down. over_more (joined ++ on.far.bytes) r before w old.parts.link.is_up wrote.3 on.far.over (wrote.5 (sym t.1 ∙ down));
       };
       sum = omega (arith, on.sum, t.0);
       printed = printed_more on.taken (wanted - left) (messages 1 on.far.since) text after on.printed t.3;

@@ -559,41 +559,26 @@ printed_same taken since more later text fits is text_is =
 
 -- ---- what was written, while receiving
 
-pub written_far : (subject joined : List ℕ) (first : List Operation) (taken : ℕ) (head : List ℕ) (old new : Seen) (r0 r : ReadTold)
-    (before after : WriteTold) (far : IsReceiving subject joined first taken head old r0 r before)
-    → IsWritten subject (joined ++ far.bytes) first far.since far.took taken head old.parts.link.is_up (Ok tt) new before after
-    → (next : IsReceiving subject joined first taken head new r0 r after) × (next.since ≡ far.since)
-    × (new.parts.link.is_up ≡ true → next.took ≡ subscribed_text subject first next.since)
-written_far subject joined first taken head old new r0 r before after far wrote = (
-  record {
-    bytes = far.bytes;
-    since = far.since;
-    took = far.took ++ wrote.0;
-    gave = far.gave;
-    receives = wrote.1;
-    wrote = wrote.2;
-    asked = asked_more far.asked;
-    over = λ down. over_by (wrote.5 down);
-  },
-  refl,
-  wrote.4,
+-- the text of the subscribe stays taken
+pub asked_more : (subject took more : List ℕ) (first since : List Operation)
+    → (since ≡ []) ⊎ ((answered : List ℕ) × (took ≡ subscribed_text subject first [] ++ answered))
+    → (since ≡ []) ⊎ ((answered : List ℕ) × (took ++ more ≡ subscribed_text subject first [] ++ answered))
+asked_more subject took more first since (inl none) = inl none
+asked_more subject took more first since (inr some) = inr (
+  some.0 ++ more,
+  ap (λ (t : List ℕ). t ++ more) some.1 ∙ append_assoc (subscribed_text subject first []) some.0 more,
 )
-  where
-    asked_more : (far.since ≡ []) ⊎ ((answered : List ℕ) × (far.took ≡ subscribed_text subject first [] ++ answered))
-        → (far.since ≡ []) ⊎ ((answered : List ℕ) × (far.took ++ wrote.0 ≡ subscribed_text subject first [] ++ answered))
-    asked_more (inl none) = inl none
-    asked_more (inr some) = inr (
-      some.0 ++ wrote.0,
-      ap (λ (t : List ℕ). t ++ wrote.0) some.1 ∙ append_assoc (subscribed_text subject first []) some.0 wrote.0,
-    )
 
-    more_faults : IsOver (joined ++ far.bytes) r before → IsOver (joined ++ far.bytes) r after
-    more_faults (inl faults) = inl (omega (arith, faults, wrote.3))
-    more_faults (inr other) = inr other
+-- a link that is over stays so, and one whose half failed is
+more_faults : (joined : List ℕ) (r : ReadTold) (before after : WriteTold) → before.faults ≤ after.faults → IsOver joined r before
+    → IsOver joined r after
+more_faults joined r before after le (inl faults) = inl (omega (arith, faults, le))
+more_faults joined r before after le (inr other) = inr other
 
-    over_by : (old.parts.link.is_up ≡ false) ⊎ (1 ≤ after.faults) → IsOver (joined ++ far.bytes) r after
-    over_by (inl was) = more_faults (far.over was)
-    over_by (inr failed) = inl (omega (arith, failed))
+pub over_more : (joined : List ℕ) (r : ReadTold) (before after : WriteTold) (was : Bool) → before.faults ≤ after.faults
+    → (was ≡ false → IsOver joined r before) → (was ≡ false) ⊎ (1 ≤ after.faults) → IsOver joined r after
+over_more joined r before after was le over (inl down) = more_faults joined r before after le (over down)
+over_more joined r before after was le over (inr failed) = inl (omega (arith, failed))
 
 -- ---- as the calls see it
 
