@@ -11,7 +11,10 @@ use Rattle.nats_dial.specs.Lines.{Took}
 use Rattle.nats_dial.specs.Tries.{IsUp}
 use Rattle.nats_client.specs.declared.errors.PublishErrorKind.TheVariants as publishing
 use Rattle.nats_client.specs.declared.errors.SubscribeErrorKind.TheVariants as subscribing
+use Rattle.std.proofs.lemmas.Bool.{false≢true}
+use Rattle.nats_core.specs.declared.answers.ReadOnce.{ReadOnce}
 use Rattle.nats_core.specs.declared.answers.ReadOnce.TheVariants as reads
+use Rattle.nats_core.proofs.Dues.{none_played}
 use Rattle.nats_core.specs.Journal.{Logged}
 use Rattle.nats_script.specs.Printed.{message_line}
 use Rattle.nats_live.specs.declared.error.LiveError.{LiveError}
@@ -144,6 +147,18 @@ round_lost subject joined first head buf count left text old new r0 r after w t 
       some = some;
       printed = t.printed ∙ ap (λ (ops : List Operation). flat_map message_line (take t.taken (messages 1 ops))) (sym next.1);
     }
+
+pub round_on : (subject joined : List ℕ) (first : List Operation) (head buf : List ℕ) (count left : ℕ) (text : List ℕ) (old new : Logged)
+    (r0 r after : ReadTold) (w : WriteTold) (once : ReadOnce) → RoundTaken subject joined first head count left text old.session r0 r w
+    → 1 ≤ left → old.session.parts.link.is_up ≡ true → length buf < 65536 → ReadsWhole old buf r after (Ok once) new
+    → RoundsOn subject joined first head count left text new.session r0 after w
+round_on subject joined first head buf count left text old new r0 r after w (reads.Played n) t some up fits read =
+    round_read subject joined first head buf count left n text old new r0 r after w t some up fits read
+round_on subject joined first head buf count left text old new r0 r after w reads.Lost t some up fits read =
+    round_lost subject joined first head buf count left text old new r0 r after w t some read
+round_on subject joined first head buf count left text old new r0 r after w reads.Gone t some up fits read =
+    absurd (false≢true (sym read.0
+        ∙ (ap (λ (s : Seen). s.parts.link.is_up) (none_played old.session t.far.receives.settled) ∙ up)))
 
 -- ---- a session, seen by its link alone
 
