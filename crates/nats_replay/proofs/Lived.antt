@@ -180,3 +180,13 @@ pub sub_refused : (addr subject : List ℕ) (n : ℕ) (a b : Seen) (e : LiveErro
     → SubAnswers addr subject n a status b faults faults_now old new
 sub_refused addr subject n a b e status faults faults_now old new told why (inl prints) = inr (inr (e, told, why, prints))
 sub_refused addr subject n a b e status faults faults_now old new told why (inr seven) = inl seven
+
+-- ---- words that play a script ask for no live link
+
+pub run_publishes : {A : Type 0} (words : List (List ℕ)) (addr subject payload : List ℕ) → words ≡ run_words
+    → live_of words ≡ publishes addr subject payload → A
+run_publishes words addr subject payload run is = absurd (pub_live words addr subject payload is (run_not_live words run))
+
+pub run_receives : {A : Type 0} (words : List (List ℕ)) (addr subject : List ℕ) (n : ℕ) → words ≡ run_words
+    → live_of words ≡ receives addr subject n → A
+run_receives words addr subject n run is = absurd (sub_live words addr subject n is (run_not_live words run))
