@@ -56,7 +56,7 @@ fn print<K: Sink>(text: &[u8], status: u8, sink: &mut K) -> u8
 
 // Prints why a command was refused.
 fn refuse<K: Sink>(alloc: Global, error: &LiveError, sink: &mut K) -> u8
-    ensures { RefusalAnswers error.now result (K.faults sink.old) (K.faults sink.new)
+    ensures answers { RefusalAnswers error.now result (K.faults sink.old) (K.faults sink.new)
         (K.written sink.old) (K.written sink.new) }
     ensures silent { result ≡ NO_MEMORY → sink.new ≡ sink.old }
 {

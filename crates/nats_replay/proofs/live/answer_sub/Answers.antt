@@ -1,5 +1,5 @@
 -- What receiving comes to is printed.
-use Rattle.std.proofs.Common.{inl, inr, refl}
+use Rattle.std.proofs.Common.{inl, inr}
 use Rattle.nats_replay.proofs.Lived.{prints_at, sub_refused}
 use Rattle.nats_replay.proofs.live.answer_sub.Goals as goal
 
@@ -16,4 +16,4 @@ pub returns-in-Err-clause-answers : goal.returns-in-Err-clause-answers
 returns-in-Err-clause-answers g c =
     sub_refused c.args.addr.now c.args.subject.now c.args.count (g.W.Reach.seen c.args.world.now) (g.W.Reach.seen c.receive.new.world)
     c.in-Err.error c.refuse.result (g.K.Sink.faults c.args.sink.now) (g.K.Sink.faults c.refuse.new.sink)
-    (g.K.Sink.written c.args.sink.now) (g.K.Sink.written c.refuse.new.sink) c.in-Err.not-NoMemory c.in-Err.ensures.refused c.refuse.ensures.0
+    (g.K.Sink.written c.args.sink.now) (g.K.Sink.written c.refuse.new.sink) c.in-Err.not-NoMemory c.in-Err.ensures.refused c.refuse.ensures.answers
