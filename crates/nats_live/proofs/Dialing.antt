@@ -1,5 +1,5 @@
 -- A round of connecting on default options, whose pool has one server: what it says of texts and of what is offered.
-use Rattle.std.proofs.Common.{◌≡◌, refl, ◌∙◌, sym, ap, subst, inl, inr, ◌⊎◌, ℕ, arith, Bool, true, false, true≢false, if◌then◌else◌, List, [], ◌∷◌, map, length, All, Option, Some, None, Result, Ok, Err}
+use Rattle.std.proofs.Common.{◌≡◌, refl, ◌∙◌, sym, ap, subst, inl, inr, ◌⊎◌, ℕ, arith, Bool, true, false, true≢false, if◌then◌else◌, List, [], ◌∷◌, map, length, All, Option, Some, None, Result, Ok, Err, IfOk, IfErr}
 use Rattle.std.specs.Global.{Vec}
 use Rattle.std.proofs.lemmas.List.Elements.{All-nil, All-cons, All-head}
 use Rattle.std.proofs.lemmas.List.Sorted.{All-permutation, length_permutation}
@@ -76,6 +76,15 @@ own_nothing Signs Tells nonce (Err e) r is told = cc
 pub offers_nothing : {F G : Type 0} (Signs : F → Vec ℕ → Result (Vec ℕ) (List ℕ) → Type 0) (Tells : G → Vec ℕ → Result Auth (List ℕ) → Type 0)
     (nonce : List ℕ) (r : Result AuthValue (List ℕ)) → Offers Signs Tells None None nothing nonce r → OffersNothing nonce r
 offers_nothing Signs Tells nonce r offers = own_nothing Signs Tells nonce offers.0 r offers.1 offers.2
+
+-- the same where options are those of default
+pub offers_default : {F G : Type 0} (Signs : F → Vec ℕ → Result (Vec ℕ) (List ℕ) → Type 0) (Tells : G → Vec ℕ → Result Auth (List ℕ) → Type 0)
+    (signer : Option F) (callback : Option G) (value : AuthValue) → signer ≡ None → callback ≡ None → value ≡ nothing
+    → (nonce : List ℕ) (r : Result AuthValue (List ℕ)) → Offers Signs Tells signer callback value nonce r → OffersNothing nonce r
+offers_default Signs Tells None None value unsigned untold plain nonce r offers =
+    offers_nothing Signs Tells nonce r (subst (λ (a : AuthValue). Offers Signs Tells None None a nonce r) plain offers)
+offers_default Signs Tells (Some f) callback value unsigned untold plain nonce r offers = cc
+offers_default Signs Tells None (Some f) value unsigned untold plain nonce r offers = cc
 
 -- ---- what becomes of the texts of an INFO
 
@@ -209,6 +218,16 @@ module _ {X Y : Type 0} {F : X → Type 0} {G : Y → Type 0} {g : Mut ((x : X) 
             (numbers_left n) named is.servers begins.plan,
         limit ∙ (ap (λ (o : _). o.max_reconnects) begins.options ∙ is.unlimited),
       )
+
+-- ---- by what a call answered
+
+pub if_ok : {L E : Type 0} (P : L → Type 0) (r : Result L E) → ((l : L) → r ≡ Ok l → P l) → IfOk r P
+if_ok P (Ok l) f = f l refl
+if_ok P (Err e) f = tt
+
+pub if_err : {L E : Type 0} (P : E → Type 0) (r : Result L E) → ((e : E) → r ≡ Err e → P e) → IfErr r P
+if_err P (Ok l) f = tt
+if_err P (Err e) f = f e refl
 
 -- ---- no link came of an address
 
