@@ -25,7 +25,8 @@ is_letter c (inl (inl digit)) =
 is_letter c (inl (inr capital)) =
     second_of (nat_le 48 c && nat_le c 57) ((nat_le 65 c && nat_le c 90) || (nat_le 97 c && nat_le c 122))
     (first_of (nat_le 65 c && nat_le c 90) (nat_le 97 c && nat_le c 122)
-        (both (nat_le 65 c) (nat_le c 90) (le-leb 65 c (omega (arith, capital))) (le-leb c 90 (omega (arith, capital)))))
+        (both (nat_le 65 c) (nat_le c 90) (le-leb 65 c (omega (arith, capital)))
+            (le-leb c 90 (omega (arith, capital)))))
 is_letter c (inr small) =
     second_of (nat_le 48 c && nat_le c 57) ((nat_le 65 c && nat_le c 90) || (nat_le 97 c && nat_le c 122))
     (second_of (nat_le 65 c && nat_le c 90) (nat_le 97 c && nat_le c 122)
@@ -37,7 +38,8 @@ is_ascii c (inl (inl digit)) = omega (arith, digit)
 is_ascii c (inl (inr capital)) = omega (arith, capital)
 is_ascii c (inr small) = omega (arith, small)
 
-pub letters_more : (bytes more : List ℕ) (c : ℕ) → list_all is_letter_or_digit bytes ≡ true → IsAsciiAlphanumeric c → more ≡ c ∷ []
+pub letters_more : (bytes more : List ℕ) (c : ℕ) → list_all is_letter_or_digit bytes ≡ true → IsAsciiAlphanumeric c
+    → more ≡ c ∷ []
     → list_all is_letter_or_digit (bytes ++ more) ≡ true
 letters_more bytes more c all letter is =
     ap (λ (m : List ℕ). list_all is_letter_or_digit (bytes ++ m)) is

@@ -18,19 +18,23 @@ use Rattle.nats_live.proofs.States.{round_by, round_up, round_down, noise_read, 
 
 -- ---- all that is due are so many rounds
 
-enough : (k : ℕ) (seen : Seen) → (due (due_rounds k seen).parts ≡ None) ⊎ (most_due (due_rounds k seen).parts + k ≤ most_due seen.parts)
+enough : (k : ℕ) (seen : Seen) → (due (due_rounds k seen).parts ≡ None)
+    ⊎ (most_due (due_rounds k seen).parts + k ≤ most_due seen.parts)
 enough zero seen = inr (omega arith)
 enough (suc k) seen = by (enough k seen) (due (due_rounds k seen).parts) refl
   where
-    by : (due (due_rounds k seen).parts ≡ None) ⊎ (most_due (due_rounds k seen).parts + k ≤ most_due seen.parts) → (next : Option Step)
+    by : (due (due_rounds k seen).parts ≡ None) ⊎ (most_due (due_rounds k seen).parts + k ≤ most_due seen.parts)
+        → (next : Option Step)
         → due (due_rounds k seen).parts ≡ next
-        → (due (due_rounds (suc k) seen).parts ≡ None) ⊎ (most_due (due_rounds (suc k) seen).parts + suc k ≤ most_due seen.parts)
+        → (due (due_rounds (suc k) seen).parts ≡ None) ⊎
+            (most_due (due_rounds (suc k) seen).parts + suc k ≤ most_due seen.parts)
     by (inl none) next is = inl (ap (λ (s : Seen). due s.parts) (none_round (due_rounds k seen) none) ∙ none)
     by (inr less) None is = inl (ap (λ (s : Seen). due s.parts) (none_round (due_rounds k seen) is) ∙ is)
     by (inr less) (Some step) is = inr (omega (arith, less, round_falls (due_rounds k seen) step is))
 
 done_at : (seen : Seen) (k : ℕ) → k ≡ suc (most_due seen.parts)
-    → (due (due_rounds k seen).parts ≡ None) ⊎ (most_due (due_rounds k seen).parts + k ≤ most_due seen.parts) → due (due_rounds k seen).parts ≡ None
+    → (due (due_rounds k seen).parts ≡ None) ⊎ (most_due (due_rounds k seen).parts + k ≤ most_due seen.parts)
+        → due (due_rounds k seen).parts ≡ None
 done_at seen k is (inl none) = none
 done_at seen k is (inr less) = absurd (omega (arith, is, less))
 
@@ -54,8 +58,10 @@ pub record Reading (most : ℕ) (joined : List ℕ) (seen : Seen) : Type 0 where
   pub ups : up ≡ true → GoesOn joined done unread × (waiting ≡ pongs done)
   pub downs : up ≡ false → ends_in_fault joined ≡ true
 
-reading_front : (most : ℕ) (joined mux : List ℕ) (n : Noise) (unread waiting : List ℕ) (done : List Operation) (f : Front) → front unread ≡ f
-    → n.most ≡ most → GoesOn joined done unread → waiting ≡ pongs done → Reading most joined (round_by f (state mux n (begun true unread waiting)))
+reading_front : (most : ℕ) (joined mux : List ℕ) (n : Noise) (unread waiting : List ℕ) (done : List Operation)
+    (f : Front) → front unread ≡ f
+    → n.most ≡ most → GoesOn joined done unread → waiting ≡ pongs done
+        → Reading most joined (round_by f (state mux n (begun true unread waiting)))
 reading_front most joined mux n unread waiting done unfinished e limit goes wrote = record {
   mux = mux;
   noise = n;
@@ -98,7 +104,8 @@ reading_front most joined mux n unread waiting done (fault m) e limit goes wrote
 }
 
 -- a due step is played
-pub reading_round : (most : ℕ) (joined : List ℕ) (seen : Seen) → Reading most joined seen → Reading most joined (due_round seen)
+pub reading_round : (most : ℕ) (joined : List ℕ) (seen : Seen) → Reading most joined seen
+    → Reading most joined (due_round seen)
 reading_round most joined seen r = by r.up refl
   where
     by : (b : Bool) → r.up ≡ b → Reading most joined (due_round seen)
@@ -108,16 +115,20 @@ reading_round most joined seen r = by r.up refl
         subst (Reading most joined)
         (sym (ap due_round r.is ∙ (round_up r.mux r.noise k up
             ∙ ap (λ (b : Bool). round_by (front r.unread) (state r.mux r.noise (begun b r.unread r.waiting))) up)))
-        (reading_front most joined r.mux r.noise r.unread r.waiting r.done (front r.unread) refl r.limit facts.0 facts.1)
+        (reading_front most joined r.mux r.noise r.unread r.waiting r.done
+            (front r.unread) refl r.limit facts.0 facts.1)
     by false down =
         subst (Reading most joined)
         (sym (ap due_round r.is ∙ (round_down r.mux r.noise (begun r.up r.unread r.waiting) down ∙ sym r.is))) r
 
-pub reading_rounds : (most : ℕ) (joined : List ℕ) (k : ℕ) (seen : Seen) → Reading most joined seen → Reading most joined (due_rounds k seen)
+pub reading_rounds : (most : ℕ) (joined : List ℕ) (k : ℕ) (seen : Seen) → Reading most joined seen
+    → Reading most joined (due_rounds k seen)
 reading_rounds most joined zero seen r = r
-reading_rounds most joined (suc k) seen r = reading_round most joined (due_rounds k seen) (reading_rounds most joined k seen r)
+reading_rounds most joined (suc k) seen r =
+    reading_round most joined (due_rounds k seen) (reading_rounds most joined k seen r)
 
-pub reading_all : (most : ℕ) (joined : List ℕ) (seen : Seen) → Reading most joined seen → Reading most joined (all_due seen)
+pub reading_all : (most : ℕ) (joined : List ℕ) (seen : Seen) → Reading most joined seen
+    → Reading most joined (all_due seen)
 reading_all most joined seen r =
     let all = all_rounds seen in
     subst (Reading most joined) (sym all.1) (reading_rounds most joined all.0 seen r)
@@ -137,7 +148,8 @@ nothing_there (fault m) mux n k up none e =
     absurd (none-some (link_end word.Fault) (sym none
         ∙ (ap (λ (u : Bool). if u then due_by (front k.unread) p else None) up ∙ ap (λ (f : Front). due_by f p) e)))
 
-pub has_begun : (most : ℕ) (joined : List ℕ) (seen : Seen) → Reading most joined seen → due seen.parts ≡ None → HasBegun most joined seen
+pub has_begun : (most : ℕ) (joined : List ℕ) (seen : Seen) → Reading most joined seen → due seen.parts ≡ None
+    → HasBegun most joined seen
 has_begun most joined seen r none = record {
   mux = r.mux;
   noise = r.noise;
@@ -161,7 +173,8 @@ has_begun most joined seen r none = record {
 -- ---- how a session begins
 
 -- a link comes up
-pub reading_up : (mux : List ℕ) (info : ServerInfo) → Reading info.max_payload [] (seen_after (record { parts = idle (default_config mux); events = []; ready = [] }) (opened info))
+pub reading_up : (mux : List ℕ) (info : ServerInfo) → Reading info.max_payload []
+    (seen_after (record { parts = idle (default_config mux); events = []; ready = [] }) (opened info))
 reading_up mux info =
     let old = record { parts = idle (default_config mux); events = []; ready = [] } in
     let new = seen_after old (opened info) in

@@ -28,7 +28,8 @@ cut_beyond : (bytes more : List ℕ) (cut : Cut) → cut_line bytes ≡ None →
 cut_beyond [] more cut none is = omega arith
 cut_beyond (a ∷ []) more cut none is = omega arith
 cut_beyond (a ∷ b ∷ rest) more cut none is =
-    cut_step (a == 13 && b == 10) a (suc (length rest)) rest (rest ++ more) (cut_line (b ∷ rest)) (cut_line (b ∷ rest ++ more)) cut
+    cut_step (a == 13 && b == 10) a (suc (length rest)) rest (rest ++ more) (cut_line (b ∷ rest))
+        (cut_line (b ∷ rest ++ more)) cut
     (λ short c later. cut_beyond (b ∷ rest) more c short later) none is
 
 -- ---- the body
@@ -50,19 +51,22 @@ headed_least : (end : ℕ) (rest : List ℕ) (h : Option HeaderHead) (text : OpT
     → headed_or_bad end rest h ≡ whole text n → end + 2 ≤ n
 headed_least end rest None text n is = cc
 headed_least end rest (Some h) text n is =
-    body_least (nat_lt (length rest) (h.head.count + 2)) end h.head.count (headed_text h (take h.head.count rest)) text n is
+    body_least (nat_lt (length rest) (h.head.count + 2)) end h.head.count
+        (headed_text h (take h.head.count rest)) text n is
 
 line_least : (first text : OpText) (m n : ℕ) → whole first m ≡ whole text n → m ≤ n
 line_least first text m n is = let e : m ≡ n = cc in omega arith
 
-error_least : (m : ℕ) (error : Option ServerError) (text : OpText) (n : ℕ) → error_or_bad m error ≡ whole text n → m ≤ n
+error_least : (m : ℕ) (error : Option ServerError) (text : OpText) (n : ℕ) → error_or_bad m error ≡ whole text n
+    → m ≤ n
 error_least m None text n is = cc
 error_least m (Some error) text n is = line_least (plain (error_op error)) text m n is
 
 word_least : (word : Word) (line rest : List ℕ) (text : OpText) (n : ℕ) → sight_of_word word line rest ≡ whole text n
     → length line + 2 ≤ n
 word_least word.Message line rest text n is = message_least (length line) rest (head_of (drop 4 line)) text n is
-word_least word.HeaderMessage line rest text n is = headed_least (length line) rest (header_head_of (drop 5 line)) text n is
+word_least word.HeaderMessage line rest text n is =
+    headed_least (length line) rest (header_head_of (drop 5 line)) text n is
 word_least word.Info line rest text n is = line_least (info_text (drop 4 line)) text (length line + 2) n is
 word_least word.Error line rest text n is = error_least (length line + 2) (error_of line) text n is
 word_least word.Ok line rest text n is = line_least (plain ok_op) text (length line + 2) n is
@@ -82,10 +86,12 @@ body_beyond true false end count rest text long other n test sees is =
     omega (arith, ltb-true (length rest) (count + 2) test)
 
 message_beyond : (end : ℕ) (rest more : List ℕ) (head : Option Head) (text : OpText) (n : ℕ)
-    → message_or_bad end rest head ≡ less → message_or_bad end (rest ++ more) head ≡ whole text n → end + 2 + length rest < n
+    → message_or_bad end rest head ≡ less → message_or_bad end (rest ++ more) head ≡ whole text n
+        → end + 2 + length rest < n
 message_beyond end rest more None text n sees is = cc
 message_beyond end rest more (Some head) text n sees is =
-    body_beyond (nat_lt (length rest) (head.count + 2)) (nat_lt (length (rest ++ more)) (head.count + 2)) end head.count rest
+    body_beyond (nat_lt (length rest) (head.count + 2)) (nat_lt (length (rest ++ more)) (head.count + 2)) end
+        head.count rest
     (plain (message head.sid (message_of head (take head.count rest))))
     (plain (message head.sid (message_of head (take head.count (rest ++ more))))) text n refl sees is
 
@@ -93,7 +99,8 @@ headed_beyond : (end : ℕ) (rest more : List ℕ) (h : Option HeaderHead) (text
     → headed_or_bad end rest h ≡ less → headed_or_bad end (rest ++ more) h ≡ whole text n → end + 2 + length rest < n
 headed_beyond end rest more None text n sees is = cc
 headed_beyond end rest more (Some h) text n sees is =
-    body_beyond (nat_lt (length rest) (h.head.count + 2)) (nat_lt (length (rest ++ more)) (h.head.count + 2)) end h.head.count rest
+    body_beyond (nat_lt (length rest) (h.head.count + 2)) (nat_lt (length (rest ++ more)) (h.head.count + 2)) end
+        h.head.count rest
     (headed_text h (take h.head.count rest)) (headed_text h (take h.head.count (rest ++ more))) text n refl sees is
 
 error_not_less : (m : ℕ) (error : Option ServerError) (A : Type 0) → error_or_bad m error ≡ less → A
@@ -122,11 +129,13 @@ cut_sight bytes more None None text n cut long sees is = cc
 cut_sight bytes more None (Some c) text n cut long sees is =
     omega (arith, cut_beyond bytes more c cut long, word_least (word_of c.line) c.line c.rest text n is)
 cut_sight bytes more (Some c) later text n cut long sees is =
-    let grows : later ≡ Some (record { line = c.line; rest = c.rest ++ more }) = sym long ∙ cut_more bytes more c cut in
+    let grows : later ≡ Some (record { line = c.line; rest = c.rest ++ more }) =
+        sym long ∙ cut_more bytes more c cut in
     let here = ap sight_of_cut (sym grows) ∙ is in
     omega (arith, cut_length bytes c cut, word_beyond (word_of c.line) c.line c.rest more text n sees here)
 
-sight_beyond : (bytes more : List ℕ) (text : OpText) (n : ℕ) → sight bytes ≡ less → sight (bytes ++ more) ≡ whole text n
+sight_beyond : (bytes more : List ℕ) (text : OpText) (n : ℕ) → sight bytes ≡ less
+    → sight (bytes ++ more) ≡ whole text n
     → length bytes < n
 unfolding sight
 sight_beyond bytes more text n sees is =
@@ -141,18 +150,21 @@ is_less less is = refl
 is_less (bad n) is = cc
 is_less (whole text n) is = not_unfinished n (lost_at text n) (op_of text) _ is
 
-of_whole : (m lost : ℕ) (found : Option Operation) (op : Operation) (n : ℕ) → got_or_fault m lost found ≡ got op n → m ≡ n
+of_whole : (m lost : ℕ) (found : Option Operation) (op : Operation) (n : ℕ) → got_or_fault m lost found ≡ got op n
+    → m ≡ n
 of_whole m lost None op n is = cc
 of_whole m lost (Some found) op n is = cc
 
-got_beyond : (bytes more : List ℕ) (s : Sight) (op : Operation) (n : ℕ) → sight bytes ≡ less → sight (bytes ++ more) ≡ s
+got_beyond : (bytes more : List ℕ) (s : Sight) (op : Operation) (n : ℕ) → sight bytes ≡ less
+    → sight (bytes ++ more) ≡ s
     → front_of_sight s ≡ got op n → length bytes < n
 got_beyond bytes more less op n sees long is = cc
 got_beyond bytes more (bad m) op n sees long is = cc
 got_beyond bytes more (whole text m) op n sees long is =
     omega (arith, sight_beyond bytes more text m sees long, of_whole m (lost_at text m) (op_of text) op n is)
 
-pub front_beyond : (bytes more : List ℕ) (op : Operation) (n : ℕ) → front bytes ≡ unfinished → front (bytes ++ more) ≡ got op n
+pub front_beyond : (bytes more : List ℕ) (op : Operation) (n : ℕ) → front bytes ≡ unfinished
+    → front (bytes ++ more) ≡ got op n
     → length bytes < n
 unfolding front
 front_beyond bytes more op n none is =

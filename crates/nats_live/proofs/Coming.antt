@@ -31,17 +31,20 @@ none_due mux info =
     ap (λ (f : Front). due_by f p) front_none ∙ no_call (nat_lt (length p.link.wire.waiting) write_limit)
 
 -- a link came up on a new core
-pub up_begun : (core new : Logged) (mux : List ℕ) (info : ServerInfo) (reply : StepReply) → core ≡ new_core (default_config mux) true
+pub up_begun : (core new : Logged) (mux : List ℕ) (info : ServerInfo) (reply : StepReply)
+    → core ≡ new_core (default_config mux) true
     → PlaysWhole core (turns.Up info) (Ok reply) new
     → HasBegun info.max_payload [] new.session × (new.session.parts.link.is_up ≡ true)
 up_begun core new mux info reply is plays =
     let here = subst (λ (c : Logged). PlaysWhole c (turns.Up info) (Ok reply) new) is plays in
     let next = seen_after (fresh mux) (opened info) in
     let none : due (fresh mux).parts ≡ None = refl in
-    let same : new.session ≡ all_due next = settled_played (new_core (default_config mux) true) new (turns.Up info) none here.2 in
+    let same : new.session ≡ all_due next =
+        settled_played (new_core (default_config mux) true) new (turns.Up info) none here.2 in
     let reading = reading_all info.max_payload [] next (reading_up mux info) in
     (
-      subst (HasBegun info.max_payload []) (sym same) (has_begun info.max_payload [] (all_due next) reading (none_after_all next)),
+      subst (HasBegun info.max_payload []) (sym same)
+          (has_begun info.max_payload [] (all_due next) reading (none_after_all next)),
       ap (λ (s : Seen). s.parts.link.is_up) (same ∙ none_played next (none_due mux info)),
     )
 
@@ -50,18 +53,22 @@ pub up_comes : (core : Logged) (mux : List ℕ) (info : ServerInfo) → core ≡
     → is_valid_turn (all_due core.session).parts (turns.Up info) ≡ true
 up_comes core mux info is =
     let none : due (fresh mux).parts ≡ None = refl in
-    ap (λ (s : Seen). is_valid_turn s.parts (turns.Up info)) (ap (λ (c : Logged). all_due c.session) is ∙ none_played (fresh mux) none)
+    ap (λ (s : Seen). is_valid_turn s.parts (turns.Up info))
+        (ap (λ (c : Logged). all_due c.session) is ∙ none_played (fresh mux) none)
 
 -- the first piece came
 pub fed_begun : (most : ℕ) (bytes : List ℕ) (old new : Logged) (reply : StepReply) → HasBegun most [] old.session
-    → old.session.parts.link.is_up ≡ true → PlaysWhole old (turns.Piece bytes) (Ok reply) new → HasBegun most bytes new.session
+    → old.session.parts.link.is_up ≡ true → PlaysWhole old (turns.Piece bytes) (Ok reply) new
+        → HasBegun most bytes new.session
 fed_begun most bytes old new reply b up plays =
     let next = seen_after old.session (fed bytes) in
     let same : new.session ≡ all_due next = settled_played old new (turns.Piece bytes) b.settled plays.2 in
     subst (HasBegun most bytes) (sym same)
-    (has_begun most bytes (all_due next) (reading_all most bytes next (reading_fed most bytes old.session b up)) (none_after_all next))
+    (has_begun most bytes (all_due next) (reading_all most bytes next (reading_fed most bytes old.session b up))
+        (none_after_all next))
 
 -- it may come while the link is up
-pub piece_comes : (most : ℕ) (bytes : List ℕ) (old : Logged) → HasBegun most [] old.session → old.session.parts.link.is_up ≡ true
+pub piece_comes : (most : ℕ) (bytes : List ℕ) (old : Logged) → HasBegun most [] old.session
+    → old.session.parts.link.is_up ≡ true
     → is_valid_turn (all_due old.session).parts (turns.Piece bytes) ≡ true
 piece_comes most bytes old b up = ap (λ (s : Seen). s.parts.link.is_up) (none_played old.session b.settled) ∙ up

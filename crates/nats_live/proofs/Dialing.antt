@@ -54,33 +54,42 @@ one_ordered : (retains : Bool) (x : Planned) (numbers : Stream) (plan : List Pla
 one_ordered true x numbers plan left order = order.0
 one_ordered false x numbers plan left order =
     one_of x plan (length_permutation (x ∷ []) plan order.permutation)
-    (All-permutation (λ (p : Planned). p ≡ x) (x ∷ []) plan order.permutation (All-cons (λ (p : Planned). p ≡ x) x [] refl (All-nil (λ (p : Planned). p ≡ x))))
+    (All-permutation (λ (p : Planned). p ≡ x) (x ∷ []) plan order.permutation
+        (All-cons (λ (p : Planned). p ≡ x) x [] refl (All-nil (λ (p : Planned). p ≡ x))))
 
 -- it has that server alone
-pub one_planned : (server : Parts) (servers : List Server) (retains : Bool) (numbers : Stream) (named : Option ReconnectToServer)
+pub one_planned : (server : Parts) (servers : List Server) (retains : Bool) (numbers : Stream)
+    (named : Option ReconnectToServer)
     (chosen : Choice) (plan : List Planned) (left : Stream) → named ≡ None → servers ≡ new_server server ∷ []
     → IsRoundBy named servers retains numbers chosen plan left → plan ≡ plan_of (new_server server) ∷ []
 one_planned server servers retains numbers named chosen plan left none is round =
-    let here = subst (λ (n : Option ReconnectToServer). IsRoundBy n servers retains numbers chosen plan left) none round in
+    let here = subst (λ (n : Option ReconnectToServer). IsRoundBy n servers retains numbers chosen plan left) none
+        round in
     one_ordered retains (plan_of (new_server server)) numbers plan left
     (subst (λ (ss : List Server). IsDefaultOrder retains (map plan_of ss) numbers plan left) is here.1)
 
 -- ---- what a client without credentials offers
 
-own_nothing : {F G : Type 0} (Signs : F → Vec ℕ → Result (Vec ℕ) (List ℕ) → Type 0) (Tells : G → Vec ℕ → Result Auth (List ℕ) → Type 0)
-    (nonce : List ℕ) (own r : Result AuthValue (List ℕ)) → SignedBy Signs None None nothing nonce own → ThenTold Tells None nonce own r
+own_nothing : {F G : Type 0} (Signs : F → Vec ℕ → Result (Vec ℕ) (List ℕ) → Type 0)
+    (Tells : G → Vec ℕ → Result Auth (List ℕ) → Type 0)
+    (nonce : List ℕ) (own r : Result AuthValue (List ℕ)) → SignedBy Signs None None nothing nonce own
+        → ThenTold Tells None nonce own r
     → r ≡ Ok nothing
 own_nothing Signs Tells nonce (Ok own) r is told = told ∙ is
 own_nothing Signs Tells nonce (Err e) r is told = cc
 
-pub offers_nothing : {F G : Type 0} (Signs : F → Vec ℕ → Result (Vec ℕ) (List ℕ) → Type 0) (Tells : G → Vec ℕ → Result Auth (List ℕ) → Type 0)
-    (nonce : List ℕ) (r : Result AuthValue (List ℕ)) → Offers Signs Tells None None nothing nonce r → OffersNothing nonce r
+pub offers_nothing : {F G : Type 0} (Signs : F → Vec ℕ → Result (Vec ℕ) (List ℕ) → Type 0)
+    (Tells : G → Vec ℕ → Result Auth (List ℕ) → Type 0)
+    (nonce : List ℕ) (r : Result AuthValue (List ℕ)) → Offers Signs Tells None None nothing nonce r
+        → OffersNothing nonce r
 offers_nothing Signs Tells nonce r offers = own_nothing Signs Tells nonce offers.0 r offers.1 offers.2
 
 -- the same where options are those of default
-pub offers_default : {F G : Type 0} (Signs : F → Vec ℕ → Result (Vec ℕ) (List ℕ) → Type 0) (Tells : G → Vec ℕ → Result Auth (List ℕ) → Type 0)
+pub offers_default : {F G : Type 0} (Signs : F → Vec ℕ → Result (Vec ℕ) (List ℕ) → Type 0)
+    (Tells : G → Vec ℕ → Result Auth (List ℕ) → Type 0)
     (signer : Option F) (callback : Option G) (value : AuthValue) → signer ≡ None → callback ≡ None → value ≡ nothing
-    → (nonce : List ℕ) (r : Result AuthValue (List ℕ)) → Offers Signs Tells signer callback value nonce r → OffersNothing nonce r
+    → (nonce : List ℕ) (r : Result AuthValue (List ℕ)) → Offers Signs Tells signer callback value nonce r
+        → OffersNothing nonce r
 offers_default Signs Tells None None value unsigned untold plain nonce r offers =
     offers_nothing Signs Tells nonce r (subst (λ (a : AuthValue). Offers Signs Tells None None a nonce r) plain offers)
 offers_default Signs Tells (Some f) callback value unsigned untold plain nonce r offers = cc
@@ -104,11 +113,13 @@ module _ {X Y : Type 0} {F : X → Type 0} {G : Y → Type 0} {g : Mut ((x : X) 
 -- ---- a round, without its pool
 
 module _ {P : Type 0} (Takes : P → P → List (List ℕ) → Result (Unit {0}) AddrError → Type 0)
-    (refuses : (p q : P) (urls : List (List ℕ)) (e : AddrError) → Takes p q urls (Err e) → TakesTexts tt tt urls (Err e))
+    (refuses : (p q : P) (urls : List (List ℕ)) (e : AddrError) → Takes p q urls (Err e)
+        → TakesTexts tt tt urls (Err e))
     (Offers : List ℕ → Result AuthValue (List ℕ) → Type 0)
     (offers : (nonce : List ℕ) (r : Result AuthValue (List ℕ)) → Offers nonce r → OffersNothing nonce r)
   where
-    pub plain_up : (name : Option (List ℕ)) (no_echo : Bool) (info : ServerInfo) (rest : List ℕ) (r : ReadTold) (w : WriteTold)
+    pub plain_up : (name : Option (List ℕ)) (no_echo : Bool) (info : ServerInfo) (rest : List ℕ) (r : ReadTold)
+        (w : WriteTold)
         → IsUp Offers name no_echo info rest r w → IsUp OffersNothing name no_echo info rest r w
     plain_up name no_echo info rest r w up = record {
       text = up.text;
@@ -146,14 +157,17 @@ module _ {P : Type 0} (Takes : P → P → List (List ℕ) → Result (Unit {0})
 
       refuses_in : (by_scheme : Bool) (p q : P) (said : Greeting) (text : List ℕ) (e : Failure)
           → RefusesIn (Takes p q) (q ≡ p) Offers by_option name no_echo by_scheme said text e
-          → (e ≡ wanting) ⊎ RefusesIn (TakesTexts tt tt) (tt ≡ tt) OffersNothing by_option name no_echo by_scheme said text e
+          → (e ≡ wanting) ⊎ RefusesIn (TakesTexts tt tt) (tt ≡ tt) OffersNothing by_option name no_echo by_scheme said
+              text e
       refuses_in by_scheme p q greeting.Waits text e r = inr r
       refuses_in by_scheme p q (greeting.Refuses why) text e r = inr r
       refuses_in by_scheme p q (greeting.Greets info n) text e (inr stops) = inr (inr stops)
       refuses_in by_scheme p q (greeting.Greets info n) text e (inl d) = by (declines by_scheme info p q e.0 e.1 d)
         where
-          by : (e ≡ wanting) ⊎ Declines (TakesTexts tt tt) (tt ≡ tt) OffersNothing by_option name no_echo by_scheme info e.0 e.1
-              → (e ≡ wanting) ⊎ RefusesIn (TakesTexts tt tt) (tt ≡ tt) OffersNothing by_option name no_echo by_scheme (greeting.Greets info n) text e
+          by : (e ≡ wanting) ⊎ Declines (TakesTexts tt tt) (tt ≡ tt) OffersNothing by_option name no_echo by_scheme
+              info e.0 e.1
+              → (e ≡ wanting) ⊎ RefusesIn (TakesTexts tt tt) (tt ≡ tt) OffersNothing by_option name no_echo by_scheme
+                  (greeting.Greets info n) text e
           by (inl is) = inl is
           by (inr d) = inr (inl d)
 
@@ -168,7 +182,8 @@ module _ {P : Type 0} (Takes : P → P → List (List ℕ) → Result (Unit {0})
         link by_scheme a e b (inr (inr (inr (inr (text, gave, p, q, refused))))) =
             by (refuses_in by_scheme p q (greeting_at (front text)) text e refused)
           where
-            by : (e ≡ wanting) ⊎ RefusesText (TakesTexts tt tt) (tt ≡ tt) OffersNothing by_option name no_echo by_scheme text e
+            by : (e ≡ wanting) ⊎ RefusesText (TakesTexts tt tt)
+                (tt ≡ tt) OffersNothing by_option name no_echo by_scheme text e
                 → LinkCause TakesTexts OffersNothing by_option name no_echo timeout by_scheme a e b
             by (inl is) = inl is
             by (inr r) = inr (inr (inr (inr (text, gave, tt, tt, r))))
@@ -200,21 +215,26 @@ module _ {P : Type 0} (Takes : P → P → List (List ℕ) → Result (Unit {0})
 module _ {X Y : Type 0} {F : X → Type 0} {G : Y → Type 0} {g : Mut ((x : X) × F x) (ℕ × Unit {0}) ℕ}
     {h : Mut ((y : Y) × G y) (Vec Server × (ServerInfo × Unit {0})) (Option ReconnectToServer)} where
   -- no callback names a server
-  none_named : (Answers : ChoiceFn Y G h → Vec Server → ServerInfo → Option ReconnectToServer → Type 0) (servers : List Server)
+  none_named : (Answers : ChoiceFn Y G h → Vec Server → ServerInfo → Option ReconnectToServer → Type 0)
+      (servers : List Server)
       (last : ServerInfo) (named : Option ReconnectToServer) (choice : Option (ChoiceFn Y G h)) → choice ≡ None
       → NamedBy Answers choice servers last named → named ≡ None
   none_named Answers servers last named None is names = names
   none_named Answers servers last named (Some f) is names = cc
 
   -- the round that began on it has that server alone, and no limit
-  pub begun_round : (Answers : ChoiceFn Y G h → Vec Server → ServerInfo → Option ReconnectToServer → Type 0) (last : ServerInfo) (server : Parts)
-      (p n : Pool X Y F G g h) (chosen : Choice) (told : RoundTold) → IsPoolOf server p → Begins Answers last p n chosen
+  pub begun_round : (Answers : ChoiceFn Y G h → Vec Server → ServerInfo → Option ReconnectToServer → Type 0)
+      (last : ServerInfo) (server : Parts)
+      (p n : Pool X Y F G g h) (chosen : Choice) (told : RoundTold) → IsPoolOf server p
+          → Begins Answers last p n chosen
       → told.round ≡ (pool_told n).round → told.limit ≡ (pool_told n).limit → IsRoundWith server told
   begun_round Answers last server p n chosen told is begins round limit =
-      let named = none_named Answers (servers_of p) last begins.named ((options_of p).choice) is.unchosen begins.names in (
+      let named = none_named Answers (servers_of p) last begins.named
+          ((options_of p).choice) is.unchosen begins.names in (
         plan_of (new_server server),
         refl,
-        round ∙ one_planned server (servers_of p) ((options_of p).retain_servers_order) (numbers_left p) begins.named chosen (round_of n)
+        round ∙ one_planned server (servers_of p) ((options_of p).retain_servers_order)
+            (numbers_left p) begins.named chosen (round_of n)
             (numbers_left n) named is.servers begins.plan,
         limit ∙ (ap (λ (o : _). o.max_reconnects) begins.options ∙ is.unlimited),
       )
@@ -231,11 +251,14 @@ if_err P (Err e) f = f e refl
 
 -- ---- no link came of an address
 
-pub not_dialed : (addr : List ℕ) (server : Parts) (a b : Seen) (e : Failure) (before after : RoundTold) → addr_of addr ≡ Ok server
-    → (e ≡ wanting) ⊎ (IsRoundWith server after × RoundFailed before after a e b) → WhyNotDialed addr a (connect_refused e) b
+pub not_dialed : (addr : List ℕ) (server : Parts) (a b : Seen) (e : Failure) (before after : RoundTold)
+    → addr_of addr ≡ Ok server
+    → (e ≡ wanting) ⊎ (IsRoundWith server after × RoundFailed before after a e b)
+        → WhyNotDialed addr a (connect_refused e) b
 not_dialed addr server a b e before after spelled failed = by (is_wanting e.0) refl
   where
-    why : is_wanting e.0 ≡ false → (e ≡ wanting) ⊎ (IsRoundWith server after × RoundFailed before after a e b) → NotConnected addr a e b
+    why : is_wanting e.0 ≡ false → (e ≡ wanting) ⊎ (IsRoundWith server after × RoundFailed before after a e b)
+        → NotConnected addr a e b
     why fine (inl is) = absurd (true≢false (sym (ap (λ (f : Failure). is_wanting f.0) is) ∙ fine))
     why fine (inr (alone, round)) = (fine, inr (before, after, (server, spelled, alone), round))
 

@@ -30,7 +30,8 @@ use Rattle.nats_live.proofs.Rounds.{asked_more, over_more, printed_more, printed
 -- ---- the rounds of receiving
 
 -- before a round: some messages were taken, more are wanted
-pub record RoundsOn (subject joined : List ℕ) (first : List Operation) (head : List ℕ) (count wanted : ℕ) (text : List ℕ) (seen : Seen)
+pub record RoundsOn (subject joined : List ℕ) (first : List Operation) (head : List ℕ) (count wanted : ℕ)
+    (text : List ℕ) (seen : Seen)
     (r0 r : ReadTold) (w : WriteTold) : Type 0 where
   pub taken : ℕ
   pub far : IsReceiving subject joined first taken head seen r0 r w
@@ -38,7 +39,8 @@ pub record RoundsOn (subject joined : List ℕ) (first : List Operation) (head :
   pub some : 1 ≤ wanted
   pub printed : text ≡ flat_map message_line (take taken (messages 1 far.since))
 
-pub rounds_begin : (subject joined : List ℕ) (first : List Operation) (head : List ℕ) (count : ℕ) (seen : Seen) (r : ReadTold) (w : WriteTold)
+pub rounds_begin : (subject joined : List ℕ) (first : List Operation) (head : List ℕ) (count : ℕ) (seen : Seen)
+    (r : ReadTold) (w : WriteTold)
     → Receives subject joined first [] [] 0 seen → seen.parts.link.is_up ≡ true → Took head w → 1 ≤ count
     → RoundsOn subject joined first head count count [] seen r r w
 rounds_begin subject joined first head count seen r w receives up took some = record {
@@ -59,7 +61,8 @@ rounds_begin subject joined first head count seen r w receives up took some = re
 }
 
 -- within a round, once all was written and what came was taken
-pub record RoundTaken (subject joined : List ℕ) (first : List Operation) (head : List ℕ) (count left : ℕ) (text : List ℕ) (seen : Seen)
+pub record RoundTaken (subject joined : List ℕ) (first : List Operation) (head : List ℕ) (count left : ℕ)
+    (text : List ℕ) (seen : Seen)
     (r0 r : ReadTold) (w : WriteTold) : Type 0 where
   pub taken : ℕ
   pub far : IsReceiving subject joined first taken head seen r0 r w
@@ -68,11 +71,15 @@ pub record RoundTaken (subject joined : List ℕ) (first : List Operation) (head
   pub all : (left ≡ 0) ⊎ (taken ≡ length (messages 1 far.since))
   pub whole : seen.parts.link.is_up ≡ true → far.took ≡ subscribed_text subject first far.since
 
-pub round_taken : (subject joined : List ℕ) (first : List Operation) (head : List ℕ) (count wanted left : ℕ) (text after : List ℕ)
-    (old mid new : Seen) (r0 r : ReadTold) (before w : WriteTold) (on : RoundsOn subject joined first head count wanted text old r0 r before)
-    → IsWritten subject (joined ++ on.far.bytes) first on.far.since on.far.took on.taken head old.parts.link.is_up (Ok tt) mid before w
+pub round_taken : (subject joined : List ℕ) (first : List Operation) (head : List ℕ) (count wanted left : ℕ)
+    (text after : List ℕ)
+    (old mid new : Seen) (r0 r : ReadTold) (before w : WriteTold)
+        (on : RoundsOn subject joined first head count wanted text old r0 r before)
+    → IsWritten subject (joined ++ on.far.bytes) first on.far.since on.far.took on.taken head old.parts.link.is_up
+        (Ok tt) mid before w
     → ((took : List ℕ) → Receives subject (joined ++ on.far.bytes) first on.far.since took on.taken mid
-        → TakesAll subject (joined ++ on.far.bytes) first on.far.since took on.taken mid.parts.link.is_up wanted text (Ok left) new after)
+        → TakesAll subject (joined ++ on.far.bytes) first on.far.since took on.taken mid.parts.link.is_up wanted text
+            (Ok left) new after)
     → RoundTaken subject joined first head count left after new r0 r w
 round_taken subject joined first head count wanted left text after old mid new r0 r before w on wrote takes =
     let took = on.far.took ++ wrote.0 in
@@ -87,7 +94,8 @@ round_taken subject joined first head count wanted left text after old mid new r
         receives = t.2;
         wrote = wrote.2;
         asked = asked_more subject on.far.took wrote.0 first on.far.since on.far.asked;
-        over = λ down. over_more (joined ++ on.far.bytes) r before w old.parts.link.is_up wrote.3 on.far.over (wrote.5 (sym t.1 ∙ down));
+        over = λ down. over_more (joined ++ on.far.bytes) r before w old.parts.link.is_up wrote.3 on.far.over
+            (wrote.5 (sym t.1 ∙ down));
       };
       sum = omega (arith, on.sum, t.0);
       printed = printed_more on.taken (wanted - left) (messages 1 on.far.since) text after on.printed t.3;
@@ -96,7 +104,8 @@ round_taken subject joined first head count wanted left text after old mid new r
     }
 
 -- enough messages were taken
-pub round_ends : (subject joined : List ℕ) (first : List Operation) (head : List ℕ) (count : ℕ) (text : Vec ℕ) (seen : Seen) (r0 r : ReadTold)
+pub round_ends : (subject joined : List ℕ) (first : List Operation) (head : List ℕ) (count : ℕ) (text : Vec ℕ)
+    (seen : Seen) (r0 r : ReadTold)
     (w : WriteTold) → RoundTaken subject joined first head count 0 text.items seen r0 r w
     → ReceiveEnds subject joined first count head (Ok text) seen r0 r w
 round_ends subject joined first head count text seen r0 r w t =
@@ -106,8 +115,10 @@ round_ends subject joined first head count text seen r0 r w t =
     )
 
 -- the link is over first
-pub round_over : (subject joined : List ℕ) (first : List Operation) (head : List ℕ) (count left : ℕ) (text : List ℕ) (seen : Seen) (r0 r : ReadTold)
-    (w : WriteTold) → RoundTaken subject joined first head count left text seen r0 r w → 1 ≤ left → seen.parts.link.is_up ≡ false
+pub round_over : (subject joined : List ℕ) (first : List Operation) (head : List ℕ) (count left : ℕ) (text : List ℕ)
+    (seen : Seen) (r0 r : ReadTold)
+    (w : WriteTold) → RoundTaken subject joined first head count left text seen r0 r w → 1 ≤ left
+        → seen.parts.link.is_up ≡ false
     → ReceiveEnds subject joined first count head (Err refused.LinkEnded) seen r0 r w
 round_over subject joined first head count left text seen r0 r w t some down =
     (t.taken, t.far, all_of t.all, omega (arith, t.sum, some), down)
@@ -117,12 +128,15 @@ round_over subject joined first head count left text seen r0 r w t some down =
     all_of (inr all) = all
 
 -- a read goes on to the next round
-pub round_read : (subject joined : List ℕ) (first : List Operation) (head buf : List ℕ) (count left n : ℕ) (text : List ℕ) (old new : Logged)
-    (r0 r after : ReadTold) (w : WriteTold) → RoundTaken subject joined first head count left text old.session r0 r w → 1 ≤ left
+pub round_read : (subject joined : List ℕ) (first : List Operation) (head buf : List ℕ) (count left n : ℕ)
+    (text : List ℕ) (old new : Logged)
+    (r0 r after : ReadTold) (w : WriteTold) → RoundTaken subject joined first head count left text old.session r0 r w
+        → 1 ≤ left
     → old.session.parts.link.is_up ≡ true → length buf < 65536 → ReadsWhole old buf r after (Ok (reads.Played n)) new
     → RoundsOn subject joined first head count left text new.session r0 after w
 round_read subject joined first head buf count left n text old new r0 r after w t some up fits read =
-    let next = read_more subject joined first t.taken head buf n old new r0 r after w t.far (all_of t.all) (t.whole up) fits read in
+    let next = read_more subject joined first t.taken head buf n old new r0 r after w t.far (all_of t.all)
+        (t.whole up) fits read in
     record {
       taken = t.taken;
       far = next.0;
@@ -135,9 +149,12 @@ round_read subject joined first head buf count left n text old new r0 r after w 
     all_of (inl none) = absurd (omega (arith, none, some))
     all_of (inr all) = all
 
-pub round_lost : (subject joined : List ℕ) (first : List Operation) (head buf : List ℕ) (count left : ℕ) (text : List ℕ) (old new : Logged)
-    (r0 r after : ReadTold) (w : WriteTold) → RoundTaken subject joined first head count left text old.session r0 r w → 1 ≤ left
-    → ReadsWhole old buf r after (Ok reads.Lost) new → RoundsOn subject joined first head count left text new.session r0 after w
+pub round_lost : (subject joined : List ℕ) (first : List Operation) (head buf : List ℕ) (count left : ℕ)
+    (text : List ℕ) (old new : Logged)
+    (r0 r after : ReadTold) (w : WriteTold) → RoundTaken subject joined first head count left text old.session r0 r w
+        → 1 ≤ left
+    → ReadsWhole old buf r after (Ok reads.Lost) new → RoundsOn subject joined first head count left text new.session
+        r0 after w
 round_lost subject joined first head buf count left text old new r0 r after w t some read =
     let next = read_lost subject joined first t.taken head buf old new r0 r after w t.far read in
     record {
@@ -145,11 +162,14 @@ round_lost subject joined first head buf count left text old new r0 r after w t 
       far = next.0;
       sum = t.sum;
       some = some;
-      printed = t.printed ∙ ap (λ (ops : List Operation). flat_map message_line (take t.taken (messages 1 ops))) (sym next.1);
+      printed = t.printed ∙ ap (λ (ops : List Operation). flat_map message_line (take t.taken (messages 1 ops)))
+          (sym next.1);
     }
 
-pub round_on : (subject joined : List ℕ) (first : List Operation) (head buf : List ℕ) (count left : ℕ) (text : List ℕ) (old new : Logged)
-    (r0 r after : ReadTold) (w : WriteTold) (once : ReadOnce) → RoundTaken subject joined first head count left text old.session r0 r w
+pub round_on : (subject joined : List ℕ) (first : List Operation) (head buf : List ℕ) (count left : ℕ) (text : List ℕ)
+    (old new : Logged)
+    (r0 r after : ReadTold) (w : WriteTold) (once : ReadOnce)
+        → RoundTaken subject joined first head count left text old.session r0 r w
     → 1 ≤ left → old.session.parts.link.is_up ≡ true → length buf < 65536 → ReadsWhole old buf r after (Ok once) new
     → RoundsOn subject joined first head count left text new.session r0 after w
 round_on subject joined first head buf count left text old new r0 r after w (reads.Played n) t some up fits read =
@@ -162,8 +182,10 @@ round_on subject joined first head buf count left text old new r0 r after w read
 
 -- ---- a session, seen by its link alone
 
-came : (subject joined : List ℕ) (first : List Operation) (taken : ℕ) (head : List ℕ) (seen : Seen) (r0 r : ReadTold) (w : WriteTold)
-    → first ≡ operations joined → IsReceiving subject joined first taken head seen r0 r w → CameSoFar subject joined head r0 r w
+came : (subject joined : List ℕ) (first : List Operation) (taken : ℕ) (head : List ℕ) (seen : Seen) (r0 r : ReadTold)
+    (w : WriteTold)
+    → first ≡ operations joined → IsReceiving subject joined first taken head seen r0 r w
+        → CameSoFar subject joined head r0 r w
 came subject joined first taken head seen r0 r w is far = record {
   bytes = far.bytes;
   since = far.since;
@@ -193,11 +215,16 @@ received_over joined head subject n seen r0 r w (Ok text) some all =
       all.1,
       asked_when subject far.took (operations joined) far.since n some far.receives.fits far.asked,
     )
-received_over joined head subject n seen r0 r w (Err (refused.Subscribe (subscribing.InvalidSubject, source))) some all = all
-received_over joined head subject n seen r0 r w (Err (refused.Subscribe (subscribing.InvalidQueueName, source))) some all = absurd all
-received_over joined head subject n seen r0 r w (Err (refused.Subscribe (subscribing.Other, source))) some all = absurd all
-received_over joined head subject n seen r0 r w (Err (refused.Subscribe (subscribing.Full, source))) some all = absurd all
-received_over joined head subject n seen r0 r w (Err (refused.Subscribe (subscribing.NoMemory, source))) some all = absurd all
+received_over joined head subject n seen r0 r w (Err (refused.Subscribe (subscribing.InvalidSubject, source))) some
+    all = all
+received_over joined head subject n seen r0 r w (Err (refused.Subscribe (subscribing.InvalidQueueName, source))) some
+    all = absurd all
+received_over joined head subject n seen r0 r w (Err (refused.Subscribe (subscribing.Other, source))) some all =
+    absurd all
+received_over joined head subject n seen r0 r w (Err (refused.Subscribe (subscribing.Full, source))) some all =
+    absurd all
+received_over joined head subject n seen r0 r w (Err (refused.Subscribe (subscribing.NoMemory, source))) some all =
+    absurd all
 received_over joined head subject n seen r0 r w (Err (refused.Publish e)) some all = absurd all
 received_over joined head subject n seen r0 r w (Err (refused.Connect e)) some all = absurd all
 received_over joined head subject n seen r0 r w (Err refused.LinkEnded) some (inl none) = inl none
@@ -216,11 +243,14 @@ received_over joined head subject n seen r0 r w (Err refused.NoMemory) some all 
 pub publishes_err : (limit : ℕ) (joined head subject payload : List ℕ) (old new : Seen) (w : WriteTold) (e : LiveError)
     → Accepts limit joined subject payload (Err e) old new → Publishes limit joined head subject payload (Err e) old w
 publishes_err limit joined head subject payload old new w (refused.Publish (publishing.InvalidSubject, source)) is = is
-publishes_err limit joined head subject payload old new w (refused.Publish (publishing.MaxPayloadExceeded, Some (cause.Payload most size))) is = is
-publishes_err limit joined head subject payload old new w (refused.Publish (publishing.MaxPayloadExceeded, None)) is = absurd is
+publishes_err limit joined head subject payload old new w
+    (refused.Publish (publishing.MaxPayloadExceeded, Some (cause.Payload most size))) is = is
+publishes_err limit joined head subject payload old new w (refused.Publish (publishing.MaxPayloadExceeded, None)) is =
+    absurd is
 publishes_err limit joined head subject payload old new w (refused.Publish (publishing.Send, source)) is = absurd is
 publishes_err limit joined head subject payload old new w (refused.Publish (publishing.Full, source)) is = absurd is
-publishes_err limit joined head subject payload old new w (refused.Publish (publishing.NoMemory, source)) is = absurd is
+publishes_err limit joined head subject payload old new w (refused.Publish (publishing.NoMemory, source)) is =
+    absurd is
 publishes_err limit joined head subject payload old new w (refused.Subscribe e) is = absurd is
 publishes_err limit joined head subject payload old new w (refused.Connect e) is = absurd is
 publishes_err limit joined head subject payload old new w refused.LinkEnded is = absurd is
@@ -232,23 +262,31 @@ pub publishes_ok : (limit : ℕ) (joined head subject payload : List ℕ) (old m
     → FlushEnds mid.parts.link.is_up (head ++ published_text joined subject payload) result w
     → Publishes limit joined head subject payload result old w
 publishes_ok limit joined head subject payload old mid w ticket (Ok done) taken ends = ends
-publishes_ok limit joined head subject payload old mid w ticket (Err refused.LinkEnded) taken (inl down) = inl (sym taken.2 ∙ down)
+publishes_ok limit joined head subject payload old mid w ticket (Err refused.LinkEnded) taken (inl down) =
+    inl (sym taken.2 ∙ down)
 publishes_ok limit joined head subject payload old mid w ticket (Err refused.LinkEnded) taken (inr failed) = inr failed
 publishes_ok limit joined head subject payload old mid w ticket (Err refused.NoMemory) taken ends = tt
 publishes_ok limit joined head subject payload old mid w ticket (Err (refused.Connect e)) taken ends = absurd ends
 publishes_ok limit joined head subject payload old mid w ticket (Err (refused.Publish e)) taken ends = absurd ends
 publishes_ok limit joined head subject payload old mid w ticket (Err (refused.Subscribe e)) taken ends = absurd ends
 
-pub published_over : (limit : ℕ) (joined head subject payload : List ℕ) (old : Seen) (w : WriteTold) (result : Result (Unit {0}) LiveError)
+pub published_over : (limit : ℕ) (joined head subject payload : List ℕ) (old : Seen) (w : WriteTold)
+    (result : Result (Unit {0}) LiveError)
     → HasBegun limit joined old → Publishes limit joined head subject payload result old w
     → PublishedOver limit joined head subject payload result w
 published_over limit joined head subject payload old w (Ok done) b is = is
-published_over limit joined head subject payload old w (Err (refused.Publish (publishing.InvalidSubject, source))) b is = is
-published_over limit joined head subject payload old w (Err (refused.Publish (publishing.MaxPayloadExceeded, Some (cause.Payload most size)))) b is = is
-published_over limit joined head subject payload old w (Err (refused.Publish (publishing.MaxPayloadExceeded, None))) b is = absurd is
-published_over limit joined head subject payload old w (Err (refused.Publish (publishing.Send, source))) b is = absurd is
-published_over limit joined head subject payload old w (Err (refused.Publish (publishing.Full, source))) b is = absurd is
-published_over limit joined head subject payload old w (Err (refused.Publish (publishing.NoMemory, source))) b is = absurd is
+published_over limit joined head subject payload old w (Err (refused.Publish (publishing.InvalidSubject, source))) b
+    is = is
+published_over limit joined head subject payload old w
+    (Err (refused.Publish (publishing.MaxPayloadExceeded, Some (cause.Payload most size)))) b is = is
+published_over limit joined head subject payload old w (Err (refused.Publish (publishing.MaxPayloadExceeded, None))) b
+    is = absurd is
+published_over limit joined head subject payload old w (Err (refused.Publish (publishing.Send, source))) b is =
+    absurd is
+published_over limit joined head subject payload old w (Err (refused.Publish (publishing.Full, source))) b is =
+    absurd is
+published_over limit joined head subject payload old w (Err (refused.Publish (publishing.NoMemory, source))) b is =
+    absurd is
 published_over limit joined head subject payload old w (Err (refused.Subscribe e)) b is = absurd is
 published_over limit joined head subject payload old w (Err (refused.Connect e)) b is = absurd is
 published_over limit joined head subject payload old w (Err refused.LinkEnded) b (inl down) =
@@ -258,7 +296,8 @@ published_over limit joined head subject payload old w (Err refused.NoMemory) b 
 
 -- ---- a command, by its last ended link
 
-pub published_last : (info : ServerInfo) (rest subject payload : List ℕ) (r : ReadTold) (w0 w : WriteTold) (m b : World)
+pub published_last : (info : ServerInfo) (rest subject payload : List ℕ) (r : ReadTold) (w0 w : WriteTold)
+    (m b : World)
     → (up : IsUp OffersNothing None false info rest r w0) → IsBack r w m b
     → PublishedOver info.max_payload rest up.wrote subject payload (Ok tt) w
     → IfSome b.dialer.ended (LastLink (WasPublished subject payload))
@@ -266,16 +305,24 @@ published_last info rest subject payload r w0 w m b up back is =
     ends_last (WasPublished subject payload) r w m b back
     (λ pieces bytes gave took. was_published info rest subject payload r w0 w pieces bytes up is gave took)
 
-pub why_not_published : (addr : List ℕ) (info : ServerInfo) (rest subject payload : List ℕ) (r : ReadTold) (w0 w : WriteTold) (a m b : World)
+pub why_not_published : (addr : List ℕ) (info : ServerInfo) (rest subject payload : List ℕ) (r : ReadTold)
+    (w0 w : WriteTold) (a m b : World)
     (e : LiveError) → (up : IsUp OffersNothing None false info rest r w0) → Onward a m → IsBack r w m b
-    → PublishedOver info.max_payload rest up.wrote subject payload (Err e) w → WhyNotPublished addr subject payload a e b
-why_not_published addr info rest subject payload r w0 w a m b (refused.Publish (publishing.InvalidSubject, source)) up onward back is = is
-why_not_published addr info rest subject payload r w0 w a m b (refused.Publish (publishing.MaxPayloadExceeded, Some (cause.Payload most size))) up onward back is =
+    → PublishedOver info.max_payload rest up.wrote subject payload (Err e) w
+        → WhyNotPublished addr subject payload a e b
+why_not_published addr info rest subject payload r w0 w a m b
+    (refused.Publish (publishing.InvalidSubject, source)) up onward back is = is
+why_not_published addr info rest subject payload r w0 w a m b
+    (refused.Publish (publishing.MaxPayloadExceeded, Some (cause.Payload most size))) up onward back is =
     too_large info rest payload most size r w0 w m b up back is.0 is.1 (subst (λ (l : ℕ). l < size) (sym is.0) is.2)
-why_not_published addr info rest subject payload r w0 w a m b (refused.Publish (publishing.MaxPayloadExceeded, None)) up onward back is = absurd is
-why_not_published addr info rest subject payload r w0 w a m b (refused.Publish (publishing.Send, source)) up onward back is = absurd is
-why_not_published addr info rest subject payload r w0 w a m b (refused.Publish (publishing.Full, source)) up onward back is = absurd is
-why_not_published addr info rest subject payload r w0 w a m b (refused.Publish (publishing.NoMemory, source)) up onward back is = absurd is
+why_not_published addr info rest subject payload r w0 w a m b
+    (refused.Publish (publishing.MaxPayloadExceeded, None)) up onward back is = absurd is
+why_not_published addr info rest subject payload r w0 w a m b
+    (refused.Publish (publishing.Send, source)) up onward back is = absurd is
+why_not_published addr info rest subject payload r w0 w a m b
+    (refused.Publish (publishing.Full, source)) up onward back is = absurd is
+why_not_published addr info rest subject payload r w0 w a m b
+    (refused.Publish (publishing.NoMemory, source)) up onward back is = absurd is
 why_not_published addr info rest subject payload r w0 w a m b (refused.Subscribe e) up onward back is = absurd is
 why_not_published addr info rest subject payload r w0 w a m b (refused.Connect e) up onward back is = absurd is
 why_not_published addr info rest subject payload r w0 w a m b refused.LinkEnded up onward back (inl fault) =
@@ -284,7 +331,8 @@ why_not_published addr info rest subject payload r w0 w a m b refused.LinkEnded 
     inl (broke r w a m b onward back (omega (arith, failed)))
 why_not_published addr info rest subject payload r w0 w a m b refused.NoMemory up onward back is = tt
 
-pub received_last : (info : ServerInfo) (rest subject : List ℕ) (n : ℕ) (text : Vec ℕ) (r0 r : ReadTold) (w0 w : WriteTold) (m b : World)
+pub received_last : (info : ServerInfo) (rest subject : List ℕ) (n : ℕ) (text : Vec ℕ) (r0 r : ReadTold)
+    (w0 w : WriteTold) (m b : World)
     → (up : IsUp OffersNothing None false info rest r0 w0) → IsBack r w m b
     → ReceivedOver rest up.wrote subject n (Ok text) r0 r w
     → IfSome b.dialer.ended (LastLink (WasReceived subject n text.items))
@@ -294,21 +342,30 @@ received_last info rest subject n text r0 r w0 w m b up back is =
         was_received info rest subject text.items n r0 r w0 w pieces bytes up is.0 is.1 is.2 is.3.0 is.3.1 gave took)
 
 over_later : (info : ServerInfo) (rest bytes : List ℕ) (r0 r : ReadTold) (w0 w : WriteTold) (a m b : World)
-    → IsUp OffersNothing None false info rest r0 w0 → Onward a m → IsBack r w m b → GaveLater bytes r0 r → IsOver (rest ++ bytes) r w
+    → IsUp OffersNothing None false info rest r0 w0 → Onward a m → IsBack r w m b → GaveLater bytes r0 r
+        → IsOver (rest ++ bytes) r w
     → LinkBrokeOrEnded a b ⊎ FaultLater b
-over_later info rest bytes r0 r w0 w a m b up onward back gave (inl failed) = inl (broke_or_ended r w a m b onward back failed)
-over_later info rest bytes r0 r w0 w a m b up onward back gave (inr (inl ended)) = inl (link_ended r w a m b onward back ended)
+over_later info rest bytes r0 r w0 w a m b up onward back gave (inl failed) =
+    inl (broke_or_ended r w a m b onward back failed)
+over_later info rest bytes r0 r w0 w a m b up onward back gave (inr (inl ended)) =
+    inl (link_ended r w a m b onward back ended)
 over_later info rest bytes r0 r w0 w a m b up onward back gave (inr (inr fault)) =
     inr (fault_later info rest bytes r0 r w0 w m b up back gave fault)
 
-pub why_not_received : (addr : List ℕ) (info : ServerInfo) (rest subject : List ℕ) (n : ℕ) (r0 r : ReadTold) (w0 w : WriteTold) (a m b : World)
+pub why_not_received : (addr : List ℕ) (info : ServerInfo) (rest subject : List ℕ) (n : ℕ) (r0 r : ReadTold)
+    (w0 w : WriteTold) (a m b : World)
     (e : LiveError) → 1 ≤ n → (up : IsUp OffersNothing None false info rest r0 w0) → Onward a m → IsBack r w m b
     → ReceivedOver rest up.wrote subject n (Err e) r0 r w → WhyNotReceived addr subject n a e b
-why_not_received addr info rest subject n r0 r w0 w a m b (refused.Subscribe (subscribing.InvalidSubject, source)) some up onward back is = is
-why_not_received addr info rest subject n r0 r w0 w a m b (refused.Subscribe (subscribing.InvalidQueueName, source)) some up onward back is = absurd is
-why_not_received addr info rest subject n r0 r w0 w a m b (refused.Subscribe (subscribing.Other, source)) some up onward back is = absurd is
-why_not_received addr info rest subject n r0 r w0 w a m b (refused.Subscribe (subscribing.Full, source)) some up onward back is = absurd is
-why_not_received addr info rest subject n r0 r w0 w a m b (refused.Subscribe (subscribing.NoMemory, source)) some up onward back is = absurd is
+why_not_received addr info rest subject n r0 r w0 w a m b (refused.Subscribe (subscribing.InvalidSubject, source))
+    some up onward back is = is
+why_not_received addr info rest subject n r0 r w0 w a m b (refused.Subscribe (subscribing.InvalidQueueName, source))
+    some up onward back is = absurd is
+why_not_received addr info rest subject n r0 r w0 w a m b (refused.Subscribe (subscribing.Other, source)) some up
+    onward back is = absurd is
+why_not_received addr info rest subject n r0 r w0 w a m b (refused.Subscribe (subscribing.Full, source)) some up
+    onward back is = absurd is
+why_not_received addr info rest subject n r0 r w0 w a m b (refused.Subscribe (subscribing.NoMemory, source)) some up
+    onward back is = absurd is
 why_not_received addr info rest subject n r0 r w0 w a m b (refused.Publish e) some up onward back is = absurd is
 why_not_received addr info rest subject n r0 r w0 w a m b (refused.Connect e) some up onward back is = absurd is
 why_not_received addr info rest subject n r0 r w0 w a m b refused.LinkEnded some up onward back (inl early) =
@@ -326,7 +383,8 @@ why_not_received addr info rest subject n r0 r w0 w a m b refused.NoMemory some 
 
 -- ---- by clause
 
-pub published_clause : (info : ServerInfo) (rest subject payload : List ℕ) (r : ReadTold) (w0 w : WriteTold) (m b : World)
+pub published_clause : (info : ServerInfo) (rest subject payload : List ℕ) (r : ReadTold) (w0 w : WriteTold)
+    (m b : World)
     (result : Result (Unit {0}) LiveError) → (up : IsUp OffersNothing None false info rest r w0) → IsBack r w m b
     → PublishedOver info.max_payload rest up.wrote subject payload result w
     → OnOk result (IfSome b.dialer.ended (LastLink (WasPublished subject payload)))
@@ -334,23 +392,29 @@ published_clause info rest subject payload r w0 w m b (Ok done) up back is =
     published_last info rest subject payload r w0 w m b up back is
 published_clause info rest subject payload r w0 w m b (Err e) up back is = tt
 
-pub not_published_clause : (addr : List ℕ) (info : ServerInfo) (rest subject payload : List ℕ) (r : ReadTold) (w0 w : WriteTold) (a m b : World)
-    (result : Result (Unit {0}) LiveError) → (up : IsUp OffersNothing None false info rest r w0) → Onward a m → IsBack r w m b
+pub not_published_clause : (addr : List ℕ) (info : ServerInfo) (rest subject payload : List ℕ) (r : ReadTold)
+    (w0 w : WriteTold) (a m b : World)
+    (result : Result (Unit {0}) LiveError) → (up : IsUp OffersNothing None false info rest r w0) → Onward a m
+        → IsBack r w m b
     → PublishedOver info.max_payload rest up.wrote subject payload result w
     → IfErr result (λ e. WhyNotPublished addr subject payload a e b)
 not_published_clause addr info rest subject payload r w0 w a m b (Ok done) up onward back is = tt
 not_published_clause addr info rest subject payload r w0 w a m b (Err e) up onward back is =
     why_not_published addr info rest subject payload r w0 w a m b e up onward back is
 
-pub received_clause : (info : ServerInfo) (rest subject : List ℕ) (n : ℕ) (r0 r : ReadTold) (w0 w : WriteTold) (m b : World)
+pub received_clause : (info : ServerInfo) (rest subject : List ℕ) (n : ℕ) (r0 r : ReadTold) (w0 w : WriteTold)
+    (m b : World)
     (result : Result (Vec ℕ) LiveError) → (up : IsUp OffersNothing None false info rest r0 w0) → IsBack r w m b
     → ReceivedOver rest up.wrote subject n result r0 r w
     → IfOk result (λ text. IfSome b.dialer.ended (LastLink (WasReceived subject n text.items)))
-received_clause info rest subject n r0 r w0 w m b (Ok text) up back is = received_last info rest subject n text r0 r w0 w m b up back is
+received_clause info rest subject n r0 r w0 w m b (Ok text) up back is =
+    received_last info rest subject n text r0 r w0 w m b up back is
 received_clause info rest subject n r0 r w0 w m b (Err e) up back is = tt
 
-pub not_received_clause : (addr : List ℕ) (info : ServerInfo) (rest subject : List ℕ) (n : ℕ) (r0 r : ReadTold) (w0 w : WriteTold) (a m b : World)
-    (result : Result (Vec ℕ) LiveError) → 1 ≤ n → (up : IsUp OffersNothing None false info rest r0 w0) → Onward a m → IsBack r w m b
+pub not_received_clause : (addr : List ℕ) (info : ServerInfo) (rest subject : List ℕ) (n : ℕ) (r0 r : ReadTold)
+    (w0 w : WriteTold) (a m b : World)
+    (result : Result (Vec ℕ) LiveError) → 1 ≤ n → (up : IsUp OffersNothing None false info rest r0 w0) → Onward a m
+        → IsBack r w m b
     → ReceivedOver rest up.wrote subject n result r0 r w → IfErr result (λ e. WhyNotReceived addr subject n a e b)
 not_received_clause addr info rest subject n r0 r w0 w a m b (Ok text) some up onward back is = tt
 not_received_clause addr info rest subject n r0 r w0 w a m b (Err e) some up onward back is =
@@ -359,8 +423,10 @@ not_received_clause addr info rest subject n r0 r w0 w a m b (Err e) some up onw
 -- ---- receiving on a session that has begun
 
 -- the subscription was received on
-pub receives_all : (joined head subject : List ℕ) (n : ℕ) (seen : Seen) (r0 r : ReadTold) (w : WriteTold) (result : Result (Vec ℕ) LiveError)
-    → ReceiveEnds subject joined (operations joined) n head result seen r0 r w → ReceivesAll joined head subject n result seen r0 r w
+pub receives_all : (joined head subject : List ℕ) (n : ℕ) (seen : Seen) (r0 r : ReadTold) (w : WriteTold)
+    (result : Result (Vec ℕ) LiveError)
+    → ReceiveEnds subject joined (operations joined) n head result seen r0 r w
+        → ReceivesAll joined head subject n result seen r0 r w
 receives_all joined head subject n seen r0 r w (Ok text) ends = ends
 receives_all joined head subject n seen r0 r w (Err refused.LinkEnded) ends = inr ends
 receives_all joined head subject n seen r0 r w (Err refused.NoMemory) ends = tt
@@ -370,15 +436,18 @@ receives_all joined head subject n seen r0 r w (Err (refused.Subscribe e)) ends 
 
 -- the link was over before it could be
 pub receives_over : (most : ℕ) (joined head subject : List ℕ) (n : ℕ) (old new : Seen) (r : ReadTold) (w : WriteTold)
-    → HasBegun most joined old → old.parts.link.is_up ≡ false → ReceivesAll joined head subject n (Err refused.LinkEnded) new r r w
+    → HasBegun most joined old → old.parts.link.is_up ≡ false
+        → ReceivesAll joined head subject n (Err refused.LinkEnded) new r r w
 receives_over most joined head subject n old new r w b down =
     inl (refl, b.downs (sym (ap (λ (s : Seen). s.parts.link.is_up) b.is) ∙ down))
 
 -- the subscribe was refused
-pub receives_err : (joined head subject : List ℕ) (n : ℕ) (old new : Seen) (r : ReadTold) (w : WriteTold) (e : LiveError)
+pub receives_err : (joined head subject : List ℕ) (n : ℕ) (old new : Seen) (r : ReadTold) (w : WriteTold)
+    (e : LiveError)
     → Subscribes joined subject (Err e) old new → ReceivesAll joined head subject n (Err e) new r r w
 receives_err joined head subject n old new r w (refused.Subscribe (subscribing.InvalidSubject, source)) is = is
-receives_err joined head subject n old new r w (refused.Subscribe (subscribing.InvalidQueueName, source)) is = absurd is
+receives_err joined head subject n old new r w (refused.Subscribe (subscribing.InvalidQueueName, source)) is =
+    absurd is
 receives_err joined head subject n old new r w (refused.Subscribe (subscribing.Other, source)) is = absurd is
 receives_err joined head subject n old new r w (refused.Subscribe (subscribing.Full, source)) is = absurd is
 receives_err joined head subject n old new r w (refused.Subscribe (subscribing.NoMemory, source)) is = absurd is

@@ -34,10 +34,12 @@ pub took_more : (text more : List ℕ) (w after : WriteTold) → Took text w
 took_more text more w after took is = subst (Took (text ++ more)) (sym is) (took_known text more w.taken took)
 
 -- or it failed
-pub took_failed : (text : List ℕ) (w after : WriteTold) → Took text w → after ≡ record w { faults = risen 1 w.faults } → Took text after
+pub took_failed : (text : List ℕ) (w after : WriteTold) → Took text w → after ≡ record w { faults = risen 1 w.faults }
+    → Took text after
 took_failed text w after took is = subst (Took text) (sym is) took
 
-pub failed_once : (w after : WriteTold) → after ≡ record w { faults = risen 1 w.faults } → (1 ≤ after.faults) × (w.faults ≤ after.faults)
+pub failed_once : (w after : WriteTold) → after ≡ record w { faults = risen 1 w.faults }
+    → (1 ≤ after.faults) × (w.faults ≤ after.faults)
 failed_once w after is =
     subst (λ (x : WriteTold). (1 ≤ x.faults) × (w.faults ≤ x.faults)) (sym is) (omega arith, omega arith)
 
@@ -60,10 +62,12 @@ none_without t (x ∷ xs) none = by (t == x.0) none
     by false is = ap (λ (l : List (ℕ × CallReply)). x ∷ l) (none_without t xs is)
 
 -- a session whose flush is not settled, once nothing is due, is as it was
-unsettled : (old mid : Logged) → due old.session.parts ≡ None → IsSettled 1 old None mid → all_due mid.session ≡ old.session
+unsettled : (old mid : Logged) → due old.session.parts ≡ None → IsSettled 1 old None mid
+    → all_due mid.session ≡ old.session
 unsettled old mid none settled =
     ap (λ (c : Logged). all_due c.session) settled.2
-    ∙ (ap (λ (ready : List (ℕ × CallReply)). all_due (record old.session { ready = ready })) (none_without 1 old.session.ready settled.0)
+    ∙ (ap (λ (ready : List (ℕ × CallReply)). all_due (record old.session { ready = ready }))
+        (none_without 1 old.session.ready settled.0)
     ∙ none_played old.session none)
 
 -- one write
@@ -76,7 +80,8 @@ flush_step text head up old mid new w after (writes.Wrote n) settled on wrote =
     let g = going_flushes text on.took old.session on.flushes settled.1 in
     let next = seen_all old.session (own_steps old.session.parts (turns.Write n)) in
     let fits : n ≤ length bytes = subst (λ (s : Seen). n ≤ length s.parts.link.wire.waiting) same wrote.2 in
-    let far = going_all text (on.took ++ take n bytes) true true next (going_write text on.took n old.session g fits) in
+    let far = going_all text (on.took ++ take n bytes) true true next
+        (going_write text on.took n old.session g fits) in
     let is : new.session ≡ all_due next =
         ap (λ (c : Logged). c.session) wrote.4
         ∙ ap (λ (s : Seen). all_due (seen_all s (own_steps s.parts (turns.Write n)))) same in
@@ -86,7 +91,8 @@ flush_step text head up old mid new w after (writes.Wrote n) settled on wrote =
           (flushes_going text (on.took ++ take n bytes) true (all_due next) far (none_after_all next));
       wrote = subst (λ (t : List ℕ). Took t after) (append_assoc head on.took (take n bytes))
           (took_more (head ++ on.took) (take n bytes) w after on.wrote
-              (wrote.3 ∙ ap (λ (s : Seen). record w { taken = append_known w.taken (take n s.parts.link.wire.waiting) }) same));
+              (wrote.3 ∙ ap (λ (s : Seen). record w
+                  { taken = append_known w.taken (take n s.parts.link.wire.waiting) }) same));
       over = λ down. absurd (true≢false
           (sym (going_up text (on.took ++ take n bytes) true true (all_due next) far)
           ∙ (ap (λ (s : Seen). s.parts.link.is_up) (sym is) ∙ down)));
@@ -117,7 +123,8 @@ flush_step text head up old mid new w after writes.Gone settled on wrote =
 -- ---- its end
 
 -- the reply that is there, by the phase
-reply_at : (phase : Phase) → (reply_in 1 (ready_at phase) ≡ None) ⊎ (reply_in 1 (ready_at phase) ≡ Some replies.Flushed)
+reply_at : (phase : Phase) → (reply_in 1 (ready_at phase) ≡ None)
+    ⊎ (reply_in 1 (ready_at phase) ≡ Some replies.Flushed)
 reply_at (sending m) = inl refl
 reply_at sent = inl refl
 reply_at (both m) = inl refl
@@ -126,7 +133,8 @@ reply_at flush_awaits = inl refl
 reply_at flush_done = inr refl
 
 -- once it is flushed all was taken
-all_taken : (text took waiting : List ℕ) (phase : Phase) → reply_in 1 (ready_at phase) ≡ Some replies.Flushed → FitsPhase phase waiting
+all_taken : (text took waiting : List ℕ) (phase : Phase) → reply_in 1 (ready_at phase) ≡ Some replies.Flushed
+    → FitsPhase phase waiting
     → took ++ (waiting ++ unwritten_at phase) ≡ text → took ≡ text
 all_taken text took waiting (sending m) reply fits is = absurd (none-some replies.Flushed reply)
 all_taken text took waiting sent reply fits is = absurd (none-some replies.Flushed reply)
@@ -144,12 +152,14 @@ flushed_all text head up seen w on reply = by seen.parts.link.is_up refl
     by true yes =
         let g = going_flushes text on.took seen on.flushes yes in
         subst (λ (t : List ℕ). Took (head ++ t) w)
-        (all_taken text on.took g.waiting g.phase (ap (λ (s : Seen). reply_in 1 s.ready) (sym g.is) ∙ reply) g.fits (g.ups refl).1)
+        (all_taken text on.took g.waiting g.phase (ap (λ (s : Seen). reply_in 1 s.ready) (sym g.is) ∙ reply) g.fits
+            (g.ups refl).1)
         on.wrote
     by false no = absurd (on.flushes.2.downs no reply)
 
 over_by : (text head : List ℕ) (up : Bool) (seen : Seen) (w : WriteTold) → FlushesOn text head up seen w
-    → ((reply_in 1 seen.ready ≡ Some replies.Flushed) → ⊥) → ((reply_in 1 seen.ready ≡ None) → seen.parts.link.is_up ≡ false)
+    → ((reply_in 1 seen.ready ≡ Some replies.Flushed) → ⊥) →
+        ((reply_in 1 seen.ready ≡ None) → seen.parts.link.is_up ≡ false)
     → (up ≡ false) ⊎ (1 ≤ w.faults)
 over_by text head up seen w on unflushed gone = by seen.parts.link.is_up refl
   where
@@ -166,7 +176,8 @@ over_by text head up seen w on unflushed gone = by seen.parts.link.is_up refl
     by false no = on.over no
 
 -- it is settled
-pub flush_ends : (text head : List ℕ) (up : Bool) (old new : Logged) (w : WriteTold) (end : Result (Unit {0}) LiveError)
+pub flush_ends : (text head : List ℕ) (up : Bool) (old new : Logged) (w : WriteTold)
+    (end : Result (Unit {0}) LiveError)
     → IsSettled 1 old (Some end) new → FlushesOn text head up old.session w → FlushEnds up (head ++ text) end w
 flush_ends text head up old new w (Ok done) settled on = flushed_all text head up old.session w on settled
 flush_ends text head up old new w (Err e) settled on =
@@ -174,6 +185,8 @@ flush_ends text head up old new w (Err e) settled on =
     (over_by text head up old.session w on settled.1 settled.2)
 
 -- how it begins
-pub flush_begins : (text took head : List ℕ) (seen : Seen) (w : WriteTold) → Flushes text took seen → Took (head ++ took) w
+pub flush_begins : (text took head : List ℕ) (seen : Seen) (w : WriteTold) → Flushes text took seen
+    → Took (head ++ took) w
     → FlushesOn text head seen.parts.link.is_up seen w
-flush_begins text took head seen w flushes wrote = record { took = took; flushes = flushes; wrote = wrote; over = λ down. inl down }
+flush_begins text took head seen w flushes wrote =
+    record { took = took; flushes = flushes; wrote = wrote; over = λ down. inl down }

@@ -33,7 +33,8 @@ pub record OpenedAs (info : ServerInfo) (said rest bytes : List ℕ) (pieces : L
 no_some : {A B : Type 0} (x : A) → None ≡ Some x → B
 no_some x = cc
 
-opened_known : (info : ServerInfo) (rest said text bytes : List ℕ) (first : Option (List (List ℕ))) (later pieces : List (List ℕ))
+opened_known : (info : ServerInfo) (rest said text bytes : List ℕ) (first : Option (List (List ℕ)))
+    (later pieces : List (List ℕ))
     → IfSome first (λ (ps : List (List ℕ)). opened ps ≡ opened_in text [])
     → opened_in text [] ≡ Some (record { info = info; said = said; rest = rest; later = [] })
     → Some pieces ≡ option_map (λ (ps : List (List ℕ)). ps ++ later) first → concat later ≡ bytes
@@ -52,7 +53,8 @@ opened_known info rest said text bytes (Some ps) later pieces opens shown is joi
     }
 
 pub opened_as : (info : ServerInfo) (rest bytes : List ℕ) (r0 r : ReadTold) (w : WriteTold)
-    → (up : IsUp OffersNothing None false info rest r0 w) → GaveLater bytes r0 r → (pieces : List (List ℕ)) → r.pieces ≡ Some pieces
+    → (up : IsUp OffersNothing None false info rest r0 w) → GaveLater bytes r0 r → (pieces : List (List ℕ))
+        → r.pieces ≡ Some pieces
     → OpenedAs info up.said rest bytes pieces
 opened_as info rest bytes r0 r w up gave pieces is =
     opened_known info rest up.said up.text bytes r0.pieces gave.later pieces up.opens
@@ -65,7 +67,8 @@ pub head_is : (info : ServerInfo) (rest bytes : List ℕ) (r0 : ReadTold) (w : W
 head_is info rest bytes r0 w pieces up o =
     let auth : up.offers.0 ≡ nothing = ok_same up.offers.0 (Ok up.offers.0) up.offers.1 refl in
     up.offers.2
-    ∙ (ap (λ (a : AuthValue). opening None false a ++ up.said) auth ∙ ap (λ (s : List ℕ). opening None false nothing ++ s) (sym o.said_is))
+    ∙ (ap (λ (a : AuthValue). opening None false a ++ up.said) auth
+        ∙ ap (λ (s : List ℕ). opening None false nothing ++ s) (sym o.said_is))
   where
     ok_same : (x : AuthValue) (r : Result AuthValue (List ℕ)) → r ≡ Ok nothing → r ≡ Ok x → x ≡ nothing
     ok_same x r is here = cc
@@ -80,7 +83,8 @@ gave_nothing r = record { later = []; pieces = by r.pieces; joined = refl }
 
 -- ---- the last ended link
 
-ends_known : (Is : EndedLink → Type 0) (pieces : Option (List (List ℕ))) (took : Option (List ℕ)) (links : Option (List EndedLink))
+ends_known : (Is : EndedLink → Type 0) (pieces : Option (List (List ℕ))) (took : Option (List ℕ))
+    (links : Option (List EndedLink))
     → ((ps : List (List ℕ)) (bytes : List ℕ) → pieces ≡ Some ps → took ≡ Some bytes → Is (ps, bytes))
     → IfSome (ended_more pieces took links) (LastLink Is)
 ends_known Is None took links shows = tt
@@ -94,7 +98,8 @@ pub ends_last : (Is : EndedLink → Type 0) (r : ReadTold) (w : WriteTold) (a b 
     → IfSome b.dialer.ended (LastLink Is)
 ends_last Is r w a b back shows =
     subst (λ (s : Seen). IfSome s.dialer.ended (LastLink Is)) (sym back.back)
-    (ends_known Is r.pieces back.shut.taken a.dialer.ended (λ ps bytes gave took. shows ps bytes gave (sym back.taken ∙ took)))
+    (ends_known Is r.pieces back.shut.taken a.dialer.ended
+        (λ ps bytes gave took. shows ps bytes gave (sym back.taken ∙ took)))
 
 -- ---- counts and words
 
@@ -110,19 +115,22 @@ word_over zero (suc g) e some = inl refl
 word_over (suc f) g e some = inl refl
 
 -- a half failed
-pub broke : (r : ReadTold) (w : WriteTold) (a m b : Seen) → Onward a m → IsBack r w m b → 1 ≤ r.faults + w.faults → LinkBroke a b
+pub broke : (r : ReadTold) (w : WriteTold) (a m b : Seen) → Onward a m → IsBack r w m b → 1 ≤ r.faults + w.faults
+    → LinkBroke a b
 broke r w a m b onward back some =
     let more : 1 ≤ r.faults + back.shut.faults = omega (arith, some, back.faults) in
     subst (LinkBroke a) (sym back.back)
     (inl (omega (arith, onward.dial_faults, more)), word_failed r.faults back.shut.faults r.ends more)
 
-pub broke_or_ended : (r : ReadTold) (w : WriteTold) (a m b : Seen) → Onward a m → IsBack r w m b → 1 ≤ r.faults + w.faults
+pub broke_or_ended : (r : ReadTold) (w : WriteTold) (a m b : Seen) → Onward a m → IsBack r w m b
+    → 1 ≤ r.faults + w.faults
     → LinkBrokeOrEnded a b
 broke_or_ended r w a m b onward back some =
     let is = broke r w a m b onward back some in (is.0, inl is.1)
 
 -- the link ended
-pub link_ended : (r : ReadTold) (w : WriteTold) (a m b : Seen) → Onward a m → IsBack r w m b → 1 ≤ r.ends → LinkBrokeOrEnded a b
+pub link_ended : (r : ReadTold) (w : WriteTold) (a m b : Seen) → Onward a m → IsBack r w m b → 1 ≤ r.ends
+    → LinkBrokeOrEnded a b
 link_ended r w a m b onward back some =
     subst (LinkBrokeOrEnded a) (sym back.back)
     (inr (omega (arith, onward.ends, some)), word_over r.faults back.shut.faults r.ends some)
@@ -153,11 +161,13 @@ append_same xs ys zs is = sym (drop_all_of xs ys) ∙ (ap (drop (length xs)) is 
 
 -- ---- a message that was published
 
-took_is : (text bytes : List ℕ) (known : Option (List ℕ)) → IfSome known (λ (b : List ℕ). b ≡ text) → known ≡ Some bytes → bytes ≡ text
+took_is : (text bytes : List ℕ) (known : Option (List ℕ)) → IfSome known (λ (b : List ℕ). b ≡ text)
+    → known ≡ Some bytes → bytes ≡ text
 took_is text bytes None took is = no_some bytes is
 took_is text bytes (Some b) took is = let same : b ≡ bytes = cc in sym same ∙ took
 
-pub was_published : (info : ServerInfo) (rest subject payload : List ℕ) (r0 : ReadTold) (w0 w : WriteTold) (pieces : List (List ℕ)) (bytes : List ℕ)
+pub was_published : (info : ServerInfo) (rest subject payload : List ℕ) (r0 : ReadTold) (w0 w : WriteTold)
+    (pieces : List (List ℕ)) (bytes : List ℕ)
     → (up : IsUp OffersNothing None false info rest r0 w0) → Took (up.wrote ++ published_text rest subject payload) w
     → r0.pieces ≡ Some pieces → w.taken ≡ Some bytes → WasPublished subject payload (pieces, bytes)
 was_published info rest subject payload r0 w0 w pieces bytes up took gave wrote =
@@ -174,14 +184,17 @@ was_published info rest subject payload r0 w0 w pieces bytes up took gave wrote 
 pub fault_in_rest : (info : ServerInfo) (rest : List ℕ) (r0 : ReadTold) (w0 w : WriteTold) (a b : Seen)
     → IsUp OffersNothing None false info rest r0 w0 → IsBack r0 w a b → ends_in_fault rest ≡ true → FaultInRest b
 fault_in_rest info rest r0 w0 w a b up back fault =
-    ends_last (λ (link : EndedLink). (o : Opened) × (opened link.0 ≡ Some o) × (ends_in_fault o.rest ≡ true)) r0 w a b back
+    ends_last (λ (link : EndedLink). (o : Opened) × (opened link.0 ≡ Some o) × (ends_in_fault o.rest ≡ true)) r0 w a b
+        back
     (λ pieces bytes gave wrote.
         let o = opened_as info rest [] r0 r0 w0 up (gave_nothing r0) pieces gave in
         (o.shaken, o.opens, ap ends_in_fault o.rest_is ∙ fault))
 
 -- the payload is larger than the server takes
-pub too_large : (info : ServerInfo) (rest payload : List ℕ) (most size : ℕ) (r0 : ReadTold) (w0 w : WriteTold) (a b : Seen)
-    → IsUp OffersNothing None false info rest r0 w0 → IsBack r0 w a b → most ≡ info.max_payload → size ≡ length payload → most < size
+pub too_large : (info : ServerInfo) (rest payload : List ℕ) (most size : ℕ) (r0 : ReadTold) (w0 w : WriteTold)
+    (a b : Seen)
+    → IsUp OffersNothing None false info rest r0 w0 → IsBack r0 w a b → most ≡ info.max_payload
+        → size ≡ length payload → most < size
     → TooLarge most size payload b
 too_large info rest payload most size r0 w0 w a b up back most_is size_is less = (
   size_is,
@@ -202,7 +215,8 @@ after_is rest bytes since o rest_is bytes_are all =
     ∙ (ap (λ (b : List ℕ). drop (length (operations rest)) (operations (rest ++ b))) bytes_are
     ∙ (ap (drop (length (operations rest))) all ∙ drop_all_of (operations rest) since))
 
-pub was_received : (info : ServerInfo) (rest subject text : List ℕ) (n : ℕ) (r0 r : ReadTold) (w0 w : WriteTold) (pieces : List (List ℕ)) (bytes : List ℕ)
+pub was_received : (info : ServerInfo) (rest subject text : List ℕ) (n : ℕ) (r0 r : ReadTold) (w0 w : WriteTold)
+    (pieces : List (List ℕ)) (bytes : List ℕ)
     → (up : IsUp OffersNothing None false info rest r0 w0) → (far : CameSoFar subject rest up.wrote r0 r w)
     → n ≤ length (messages 1 far.since) → text ≡ flat_map message_line (take n (messages 1 far.since))
     → (answered : List ℕ) → far.took ≡ subscribed_text subject (operations rest) [] ++ answered
@@ -214,7 +228,8 @@ was_received info rest subject text n r0 r w0 w pieces bytes up far enough print
     let shape : subscribed_text subject ops [] ++ answered ≡ pongs ops ++ (sub_text subject ++ answered) =
         append_assoc (pongs ops) (sub_text subject ++ []) answered
         ∙ ap (λ (t : List ℕ). pongs ops ++ (t ++ answered)) (append-nil (sub_text subject)) in
-    let both : pongs ops ++ (sub_text subject ++ (answered ++ far.left)) ≡ pongs ops ++ (sub_text subject ++ pongs far.since) =
+    let both : pongs ops ++ (sub_text subject ++ (answered ++ far.left)) ≡ pongs ops ++
+        (sub_text subject ++ pongs far.since) =
         sym (append_assoc (pongs ops) (sub_text subject ++ answered) far.left
             ∙ ap (λ (t : List ℕ). pongs ops ++ t) (append_assoc (sub_text subject) answered far.left))
         ∙ (ap (λ (t : List ℕ). t ++ far.left) (sym (took ∙ shape)) ∙ far.text) in
@@ -222,24 +237,29 @@ was_received info rest subject text n r0 r w0 w pieces bytes up far enough print
       shaken = o.shaken;
       opens = o.opens;
       enough = subst (λ (ops : List Operation). n ≤ length (messages 1 ops)) (sym since_is) enough;
-      printed = printed ∙ ap (λ (ops : List Operation). flat_map message_line (take n (messages 1 ops))) (sym since_is);
+      printed = printed ∙ ap (λ (ops : List Operation). flat_map message_line (take n (messages 1 ops)))
+          (sym since_is);
       answered = answered;
       left = far.left;
       answers = append_same (sub_text subject) (answered ++ far.left) (pongs far.since)
-              (append_same (pongs ops) (sub_text subject ++ (answered ++ far.left)) (sub_text subject ++ pongs far.since) both)
+              (append_same (pongs ops) (sub_text subject ++ (answered ++ far.left))
+                  (sub_text subject ++ pongs far.since) both)
           ∙ ap pongs (sym since_is);
       took = took_is (up.wrote ++ far.took) bytes w.taken far.wrote wrote
           ∙ (ap (λ (h : List ℕ). h ++ far.took) (head_is info rest far.bytes r0 w0 pieces up o)
           ∙ (ap (λ (t : List ℕ). handshake_text o.shaken ++ t) (took ∙ shape)
-          ∙ ap (λ (r : List ℕ). handshake_text o.shaken ++ (pongs (operations r) ++ (sub_text subject ++ answered))) (sym o.rest_is)));
+          ∙ ap (λ (r : List ℕ). handshake_text o.shaken ++ (pongs (operations r) ++ (sub_text subject ++ answered)))
+              (sym o.rest_is)));
     }
 
 -- fewer came
-pub fewer_came : (info : ServerInfo) (rest bytes : List ℕ) (since : List Operation) (n : ℕ) (r0 r : ReadTold) (w0 w : WriteTold) (a b : Seen)
+pub fewer_came : (info : ServerInfo) (rest bytes : List ℕ) (since : List Operation) (n : ℕ) (r0 r : ReadTold)
+    (w0 w : WriteTold) (a b : Seen)
     → IsUp OffersNothing None false info rest r0 w0 → IsBack r w a b → GaveLater bytes r0 r
     → operations (rest ++ bytes) ≡ operations rest ++ since → length (messages 1 since) < n → FewerCame n b
 fewer_came info rest bytes since n r0 r w0 w a b up back gave all less =
-    ends_last (λ (link : EndedLink). (o : Opened) × (opened link.0 ≡ Some o) × (length (messages 1 (after o)) < n)) r w a b back
+    ends_last (λ (link : EndedLink). (o : Opened) × (opened link.0 ≡ Some o) × (length (messages 1 (after o)) < n)) r
+        w a b back
     (λ pieces took given wrote.
         let o = opened_as info rest bytes r0 r w0 up gave pieces given in
         (o.shaken, o.opens, subst (λ (ops : List Operation). length (messages 1 ops) < n)
@@ -247,10 +267,12 @@ fewer_came info rest bytes since n r0 r w0 w a b up back gave all less =
 
 -- all that came behind the handshake ends in no operation
 pub fault_later : (info : ServerInfo) (rest bytes : List ℕ) (r0 r : ReadTold) (w0 w : WriteTold) (a b : Seen)
-    → IsUp OffersNothing None false info rest r0 w0 → IsBack r w a b → GaveLater bytes r0 r → ends_in_fault (rest ++ bytes) ≡ true
+    → IsUp OffersNothing None false info rest r0 w0 → IsBack r w a b → GaveLater bytes r0 r
+        → ends_in_fault (rest ++ bytes) ≡ true
     → FaultLater b
 fault_later info rest bytes r0 r w0 w a b up back gave fault =
-    ends_last (λ (link : EndedLink). (o : Opened) × (opened link.0 ≡ Some o) × (ends_in_fault (behind_handshake o) ≡ true)) r w a b back
+    ends_last (λ (link : EndedLink). (o : Opened) × (opened link.0 ≡ Some o) ×
+        (ends_in_fault (behind_handshake o) ≡ true)) r w a b back
     (λ pieces took given wrote.
         let o = opened_as info rest bytes r0 r w0 up gave pieces given in
         (o.shaken, o.opens, ap (λ (r : List ℕ). ends_in_fault (r ++ concat o.shaken.later)) o.rest_is

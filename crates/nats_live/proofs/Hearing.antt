@@ -50,8 +50,10 @@ put_there : (mux subject : List ℕ) (puts : ℕ) (queue : List Message) (m : Me
 put_there mux subject puts queue m less = ap (heard_sub subject puts queue m) (lt-ltb (length queue) default_room less)
 
 -- the subscriptions, as one message more is there
-pub rows_heard : (mux subject : List ℕ) (puts : ℕ) (queue : List Message) (sid : ℕ) (m : Message) → length queue < default_room
-    → (later : ℕ) × (at_number sid (sub_after (default_config mux) (history.read (message sid m))) (one_sub true subject puts queue ∷ [])
+pub rows_heard : (mux subject : List ℕ) (puts : ℕ) (queue : List Message) (sid : ℕ) (m : Message)
+    → length queue < default_room
+    → (later : ℕ) × (at_number sid (sub_after (default_config mux) (history.read (message sid m)))
+        (one_sub true subject puts queue ∷ [])
     ≡ one_sub true subject later (queue ++ messages 1 (message sid m ∷ [])) ∷ [])
 rows_heard mux subject puts queue zero m less =
     (puts, ap (λ (q : List Message). one_sub true subject puts q ∷ []) (sym (append-nil queue)))
@@ -89,9 +91,11 @@ heard_with mux n rows asking ready unread waiting = state mux n (record {
 abbrev pub Hears : List ℕ → Noise → List ℕ → ℕ → List Message → List ℕ → List ℕ → Operation → ℕ → Type 0
 Hears mux n subject puts queue unread waiting op m = (noise : Noise) × (later : ℕ)
     × (round_by (got op m) (state mux n (receiving true true subject puts queue unread waiting))
-    ≡ state mux noise (receiving true true subject later (queue ++ messages 1 (op ∷ [])) (past (front unread) unread) (waiting ++ pong op)))
+    ≡ state mux noise (receiving true true subject later (queue ++ messages 1 (op ∷ [])) (past (front unread) unread)
+        (waiting ++ pong op)))
 
-hears_plain : (mux : List ℕ) (n noise : Noise) (subject : List ℕ) (puts : ℕ) (queue : List Message) (unread waiting written : List ℕ) (op : Operation)
+hears_plain : (mux : List ℕ) (n noise : Noise) (subject : List ℕ) (puts : ℕ) (queue : List Message)
+    (unread waiting written : List ℕ) (op : Operation)
     (m : ℕ) → messages 1 (op ∷ []) ≡ [] → written ≡ waiting ++ pong op
     → round_by (got op m) (state mux n (receiving true true subject puts queue unread waiting))
     ≡ state mux noise (receiving true true subject puts queue (past (front unread) unread) written)
@@ -100,43 +104,55 @@ hears_plain mux n noise subject puts queue unread waiting written op m none wrot
   noise,
   puts,
   is
-  ∙ (ap (λ (q : List Message). state mux noise (receiving true true subject puts q (past (front unread) unread) written))
+  ∙ (ap (λ (q : List Message). state mux noise
+      (receiving true true subject puts q (past (front unread) unread) written))
       (sym (ap (λ (more : List Message). queue ++ more) none ∙ append-nil queue))
-  ∙ ap (λ (w : List ℕ). state mux noise (receiving true true subject puts (queue ++ messages 1 (op ∷ [])) (past (front unread) unread) w)) wrote),
+  ∙ ap (λ (w : List ℕ). state mux noise
+      (receiving true true subject puts (queue ++ messages 1 (op ∷ [])) (past (front unread) unread) w)) wrote),
 )
 
-pub hears : (mux : List ℕ) (n : Noise) (subject : List ℕ) (puts : ℕ) (queue : List Message) (unread waiting : List ℕ) (op : Operation) (m : ℕ)
+pub hears : (mux : List ℕ) (n : Noise) (subject : List ℕ) (puts : ℕ) (queue : List Message) (unread waiting : List ℕ)
+    (op : Operation) (m : ℕ)
     → length queue < default_room → Hears mux n subject puts queue unread waiting op m
 hears mux n subject puts queue unread waiting (message sid text) m less =
     let op = message sid text in
     let sub = one_sub true subject puts queue in
     let rows = rows_heard mux subject puts queue sid text less in
     let noise = noise_read mux (sub ∷ []) op n in
-    let wrote : written true (unsubscribe_command (is_closing_at (item_of sid (sub ∷ []))) sid None) waiting ≡ waiting ++ pong op =
-        ap (λ (commands : List ClientOp). written true commands waiting) (none_closing subject puts queue sid) ∙ sym (append-nil waiting) in
+    let wrote : written true (unsubscribe_command (is_closing_at (item_of sid (sub ∷ []))) sid None) waiting ≡ waiting
+        ++ pong op =
+        ap (λ (commands : List ClientOp). written true commands waiting) (none_closing subject puts queue sid)
+            ∙ sym (append-nil waiting) in
     (
       noise,
       rows.0,
-      (λ i. heard_with mux noise (rows.1 i) (none_asked op i) (push_all (none_settled op i) []) (past (front unread) unread) (wrote i)),
+      (λ i. heard_with mux noise (rows.1 i) (none_asked op i) (push_all (none_settled op i) [])
+          (past (front unread) unread) (wrote i)),
     )
 hears mux n subject puts queue unread waiting (info_op info) m less =
-    hears_plain mux n (noise_read mux (one_sub true subject puts queue ∷ []) (info_op info) n) subject puts queue unread waiting waiting
+    hears_plain mux n (noise_read mux (one_sub true subject puts queue ∷ []) (info_op info) n) subject puts queue
+        unread waiting waiting
     (info_op info) m refl (sym (append-nil waiting)) refl
 hears mux n subject puts queue unread waiting (error_op e) m less =
-    hears_plain mux n (noise_read mux (one_sub true subject puts queue ∷ []) (error_op e) n) subject puts queue unread waiting waiting
+    hears_plain mux n (noise_read mux (one_sub true subject puts queue ∷ []) (error_op e) n) subject puts queue unread
+        waiting waiting
     (error_op e) m refl (sym (append-nil waiting)) refl
 hears mux n subject puts queue unread waiting ok_op m less =
-    hears_plain mux n (noise_read mux (one_sub true subject puts queue ∷ []) ok_op n) subject puts queue unread waiting waiting
+    hears_plain mux n (noise_read mux (one_sub true subject puts queue ∷ []) ok_op n) subject puts queue unread
+        waiting waiting
     ok_op m refl (sym (append-nil waiting)) refl
 hears mux n subject puts queue unread waiting ping_op m less =
-    hears_plain mux n (noise_read mux (one_sub true subject puts queue ∷ []) ping_op n) subject puts queue unread waiting (waiting ++ pong ping_op)
+    hears_plain mux n (noise_read mux (one_sub true subject puts queue ∷ []) ping_op n) subject puts queue unread
+        waiting (waiting ++ pong ping_op)
     ping_op m refl refl refl
 hears mux n subject puts queue unread waiting pong_op m less =
-    hears_plain mux n (noise_read mux (one_sub true subject puts queue ∷ []) pong_op n) subject puts queue unread waiting waiting
+    hears_plain mux n (noise_read mux (one_sub true subject puts queue ∷ []) pong_op n) subject puts queue unread
+        waiting waiting
     pong_op m refl (sym (append-nil waiting)) refl
 
 -- what is no operation ends the link
-pub hears_fault : (mux : List ℕ) (n : Noise) (subject : List ℕ) (puts : ℕ) (queue : List Message) (unread waiting : List ℕ) (m : ℕ)
+pub hears_fault : (mux : List ℕ) (n : Noise) (subject : List ℕ) (puts : ℕ) (queue : List Message)
+    (unread waiting : List ℕ) (m : ℕ)
     → round_by (fault m) (state mux n (receiving true true subject puts queue unread waiting))
     ≡ state mux (noise_end mux n) (receiving false true subject puts queue [] [])
 hears_fault mux n subject puts queue unread waiting m = refl
@@ -173,7 +189,8 @@ at_most_one ok_op = omega arith
 at_most_one ping_op = omega arith
 at_most_one pong_op = omega arith
 
-room_read : (unread : List ℕ) (queue : List Message) (op : Operation) (n : ℕ) → front unread ≡ got op n → Room unread queue
+room_read : (unread : List ℕ) (queue : List Message) (op : Operation) (n : ℕ) → front unread ≡ got op n
+    → Room unread queue
     → Room (drop n unread) (queue ++ messages 1 (op ∷ []))
 room_read unread queue op n e (below less) =
     below (omega (arith, less, length-append queue (messages 1 (op ∷ [])), at_most_one op, length-drop n unread,
@@ -184,7 +201,8 @@ room_read unread queue op n e (fresh old more is none less empty) =
         front_beyond old more op n none (sym (ap front is) ∙ e)))
 
 -- the subscription is open, and some operations were read since a moment; while the link is up it goes on with what is unread
-pub record Hearing (subject joined : List ℕ) (first was : List Operation) (took : List ℕ) (taken : ℕ) (seen : Seen) : Type 0 where
+pub record Hearing (subject joined : List ℕ) (first was : List Operation) (took : List ℕ) (taken : ℕ)
+    (seen : Seen) : Type 0 where
   pub since : List Operation
   pub more : List Operation
   pub grew : since ≡ was ++ more
@@ -211,7 +229,8 @@ subscribed_one subject first since op =
         (append_assoc (sub_text subject) (pongs since) (pong op)
         ∙ ap (λ (t : List ℕ). sub_text subject ++ t) (sym (pongs_one since op)))
 
-text_one : (subject had rest : List ℕ) (first since : List Operation) (op : Operation) → had ++ rest ≡ subscribed_text subject first since
+text_one : (subject had rest : List ℕ) (first since : List Operation) (op : Operation)
+    → had ++ rest ≡ subscribed_text subject first since
     → had ++ (rest ++ pong op) ≡ subscribed_text subject first (since ++ op ∷ [])
 text_one subject had rest first since op is =
     sym (append_assoc had rest (pong op))
@@ -225,9 +244,11 @@ queue_one taken since op fits =
     ∙ ap (drop taken) (sym (messages_more 1 since (op ∷ [])))
 
 hearing_got : (subject joined : List ℕ) (first was : List Operation) (took : List ℕ) (taken : ℕ) (seen : Seen)
-    → (h : Hearing subject joined first was took taken seen) → (op : Operation) (n : ℕ) → front h.unread ≡ got op n → h.up ≡ true
+    → (h : Hearing subject joined first was took taken seen) → (op : Operation) (n : ℕ) → front h.unread ≡ got op n
+        → h.up ≡ true
     → Hearing subject joined first was took taken
-    (round_by (got op n) (state h.mux h.noise (receiving true true subject h.puts (drop taken (messages 1 h.since)) h.unread h.waiting)))
+    (round_by (got op n) (state h.mux h.noise
+        (receiving true true subject h.puts (drop taken (messages 1 h.since)) h.unread h.waiting)))
 hearing_got subject joined first was took taken seen h op n e up =
     let facts = h.ups up in
     let queue = drop taken (messages 1 h.since) in
@@ -246,8 +267,10 @@ hearing_got subject joined first was took taken seen h op n e up =
       is = step.2
           ∙ (ap (λ (f : Front). state h.mux step.0 (receiving true true subject step.1 (queue ++ messages 1 (op ∷ []))
                 (past f h.unread) (h.waiting ++ pong op))) e
-          ∙ ap (λ (q : List Message). state h.mux step.0 (receiving true true subject step.1 q (drop n h.unread) (h.waiting ++ pong op))) grown);
-      fits = omega (arith, h.fits, ap length (messages_more 1 h.since (op ∷ [])), length-append (messages 1 h.since) (messages 1 (op ∷ [])));
+          ∙ ap (λ (q : List Message). state h.mux step.0
+              (receiving true true subject step.1 q (drop n h.unread) (h.waiting ++ pong op))) grown);
+      fits = omega (arith, h.fits, ap length (messages_more 1 h.since (op ∷ [])), length-append (messages 1 h.since)
+          (messages 1 (op ∷ [])));
       ups = λ yes. (
         subst (λ (ops : List Operation). GoesOn joined ops (drop n h.unread)) (append_assoc first h.since (op ∷ []))
             (goes_read joined (first ++ h.since) h.unread op n e facts.0),
@@ -262,13 +285,15 @@ hearing_got subject joined first was took taken seen h op n e up =
 hearing_front : (subject joined : List ℕ) (first was : List Operation) (took : List ℕ) (taken : ℕ) (seen : Seen)
     → (h : Hearing subject joined first was took taken seen) → (f : Front) → front h.unread ≡ f → h.up ≡ true
     → Hearing subject joined first was took taken
-    (round_by f (state h.mux h.noise (receiving true true subject h.puts (drop taken (messages 1 h.since)) h.unread h.waiting)))
+    (round_by f (state h.mux h.noise
+        (receiving true true subject h.puts (drop taken (messages 1 h.since)) h.unread h.waiting)))
 hearing_front subject joined first was took taken seen h unfinished e up =
     let queue = drop taken (messages 1 h.since) in
     subst (Hearing subject joined first was took taken)
     (h.is ∙ (ap (λ (b : Bool). state h.mux h.noise (receiving b true subject h.puts queue h.unread h.waiting)) up
         ∙ sym (hears_less h.mux h.noise subject h.puts queue h.unread h.waiting))) h
-hearing_front subject joined first was took taken seen h (got op n) e up = hearing_got subject joined first was took taken seen h op n e up
+hearing_front subject joined first was took taken seen h (got op n) e up =
+    hearing_got subject joined first was took taken seen h op n e up
 hearing_front subject joined first was took taken seen h (fault n) e up = record {
   since = h.since;
   more = h.more;
@@ -300,15 +325,18 @@ hearing_round subject joined first was took taken seen h = by h.up refl
         let k = receiving h.up true subject h.puts queue h.unread h.waiting in
         subst (Hearing subject joined first was took taken)
         (sym (ap due_round h.is ∙ (round_up h.mux h.noise k up
-            ∙ ap (λ (b : Bool). round_by (front h.unread) (state h.mux h.noise (receiving b true subject h.puts queue h.unread h.waiting))) up)))
+            ∙ ap (λ (b : Bool). round_by (front h.unread)
+                (state h.mux h.noise (receiving b true subject h.puts queue h.unread h.waiting))) up)))
         (hearing_front subject joined first was took taken seen h (front h.unread) refl up)
     by false down =
         let k = receiving h.up true subject h.puts (drop taken (messages 1 h.since)) h.unread h.waiting in
         subst (Hearing subject joined first was took taken)
         (sym (ap due_round h.is ∙ (round_down h.mux h.noise k down ∙ sym h.is))) h
 
-hearing_rounds : (subject joined : List ℕ) (first was : List Operation) (took : List ℕ) (taken : ℕ) (k : ℕ) (seen : Seen)
-    → Hearing subject joined first was took taken seen → Hearing subject joined first was took taken (due_rounds k seen)
+hearing_rounds : (subject joined : List ℕ) (first was : List Operation) (took : List ℕ) (taken : ℕ) (k : ℕ)
+    (seen : Seen)
+    → Hearing subject joined first was took taken seen → Hearing subject joined first was took taken
+        (due_rounds k seen)
 hearing_rounds subject joined first was took taken zero seen h = h
 hearing_rounds subject joined first was took taken (suc k) seen h =
     hearing_round subject joined first was took taken (due_rounds k seen)
@@ -318,12 +346,14 @@ pub hearing_all : (subject joined : List ℕ) (first was : List Operation) (took
     → Hearing subject joined first was took taken seen → Hearing subject joined first was took taken (all_due seen)
 hearing_all subject joined first was took taken seen h =
     let all = all_rounds seen in
-    subst (Hearing subject joined first was took taken) (sym all.1) (hearing_rounds subject joined first was took taken all.0 seen h)
+    subst (Hearing subject joined first was took taken) (sym all.1)
+        (hearing_rounds subject joined first was took taken all.0 seen h)
 
 -- ---- once nothing is due
 
 pub hearing_receives : (subject joined : List ℕ) (first was : List Operation) (took : List ℕ) (taken : ℕ) (seen : Seen)
-    → (h : Hearing subject joined first was took taken seen) → due seen.parts ≡ None → Receives subject joined first h.since took taken seen
+    → (h : Hearing subject joined first was took taken seen) → due seen.parts ≡ None
+        → Receives subject joined first h.since took taken seen
 hearing_receives subject joined first was took taken seen h none = record {
   mux = h.mux;
   noise = h.noise;
@@ -346,7 +376,8 @@ hearing_receives subject joined first was took taken seen h none = record {
     by true up =
         let k = receiving h.up true subject h.puts (drop taken (messages 1 h.since)) h.unread h.waiting in
         goes_over joined (first ++ h.since) h.unread (h.ups up).0 (not_got_unfinished (front h.unread)
-            (nothing_there (front h.unread) h.mux h.noise k up (ap (λ (s : Seen). due s.parts) (sym h.is) ∙ none) refl))
+            (nothing_there (front h.unread) h.mux h.noise k up
+                (ap (λ (s : Seen). due s.parts) (sym h.is) ∙ none) refl))
     by false down = (h.downs down).0
 
 -- where the link is over what came ends in no operation
@@ -367,16 +398,20 @@ noise_fed mux bytes n = record {
   events = n.events;
 }
 
-pub hearing_fed : (subject joined bytes : List ℕ) (first since : List Operation) (took : List ℕ) (taken : ℕ) (seen : Seen)
-    → (r : Receives subject joined first since took taken seen) → r.up ≡ true → r.opened ≡ true → taken ≡ length (messages 1 since)
+pub hearing_fed : (subject joined bytes : List ℕ) (first since : List Operation) (took : List ℕ) (taken : ℕ)
+    (seen : Seen)
+    → (r : Receives subject joined first since took taken seen) → r.up ≡ true → r.opened ≡ true
+        → taken ≡ length (messages 1 since)
     → length bytes < default_room
-    → Hearing subject (joined ++ bytes) first since took taken (seen_all seen (own_steps seen.parts (turns.Piece bytes)))
+    → Hearing subject (joined ++ bytes) first since took taken
+        (seen_all seen (own_steps seen.parts (turns.Piece bytes)))
 hearing_fed subject joined bytes first since took taken seen r up open all_taken less =
     let queue = drop taken (messages 1 since) in
     let k = receiving r.up r.opened subject r.puts queue r.unread r.waiting in
     let facts = r.ups up in
     let empty : queue ≡ [] = drop_of_length-le (messages 1 since) (omega (arith, all_taken)) in
-    let none = nothing_there (front r.unread) r.mux r.noise k up (ap (λ (s : Seen). due s.parts) (sym r.is) ∙ r.settled) refl in
+    let none = nothing_there (front r.unread) r.mux r.noise k up
+        (ap (λ (s : Seen). due s.parts) (sym r.is) ∙ r.settled) refl in
     record {
       since = since;
       more = [];

@@ -38,13 +38,15 @@ messages_more s (pong_op ∷ ops) more = messages_more s ops more
 
 -- ---- the end of a text
 
-fault_next : (bytes : List ℕ) (op : Operation) (n : ℕ) → front bytes ≡ got op n → ends_in_fault bytes ≡ ends_in_fault (drop n bytes)
+fault_next : (bytes : List ℕ) (op : Operation) (n : ℕ) → front bytes ≡ got op n
+    → ends_in_fault bytes ≡ ends_in_fault (drop n bytes)
 fault_next bytes op n e =
     ap (λ (ops : List Operation). is_fault (front (behind (length ops) bytes))) (operations_next bytes op n e)
     ∙ ap (λ (f : Front). is_fault (front (behind (length (operations (drop n bytes))) (past f bytes)))) e
 
 fault_none : (bytes : List ℕ) → ¬ (IsGot (front bytes)) → ends_in_fault bytes ≡ is_fault (front bytes)
-fault_none bytes none = ap (λ (ops : List Operation). is_fault (front (behind (length ops) bytes))) (operations_none bytes none)
+fault_none bytes none =
+    ap (λ (ops : List Operation). is_fault (front (behind (length ops) bytes))) (operations_none bytes none)
 
 -- ---- what goes on
 
@@ -65,12 +67,14 @@ goes_fed joined done unread bytes goes = record {
 }
 
 -- an operation is read
-pub goes_read : (joined : List ℕ) (done : List Operation) (unread : List ℕ) (op : Operation) (n : ℕ) → front unread ≡ got op n
+pub goes_read : (joined : List ℕ) (done : List Operation) (unread : List ℕ) (op : Operation) (n : ℕ)
+    → front unread ≡ got op n
     → GoesOn joined done unread → GoesOn joined (done ++ op ∷ []) (drop n unread)
 goes_read joined done unread op n e goes = record {
   ops = λ more.
       goes.ops more
-      ∙ (ap (λ (ops : List Operation). done ++ ops) (operations_next (unread ++ more) op n (front_more unread more op n e))
+      ∙ (ap (λ (ops : List Operation). done ++ ops)
+          (operations_next (unread ++ more) op n (front_more unread more op n e))
       ∙ (ap (λ (t : List ℕ). done ++ (op ∷ operations t)) (drop-append-le n unread more (front_fits unread op n e))
       ∙ sym (append_assoc done (op ∷ []) (operations (drop n unread ++ more)))));
   faults = λ more.
@@ -80,7 +84,8 @@ goes_read joined done unread op n e goes = record {
 }
 
 -- none is left
-pub goes_over : (joined : List ℕ) (done : List Operation) (unread : List ℕ) → GoesOn joined done unread → ¬ (IsGot (front unread))
+pub goes_over : (joined : List ℕ) (done : List Operation) (unread : List ℕ) → GoesOn joined done unread
+    → ¬ (IsGot (front unread))
     → operations joined ≡ done
 goes_over joined done unread goes none =
     ap operations (sym (append-nil joined))
@@ -89,7 +94,8 @@ goes_over joined done unread goes none =
     ∙ (ap (λ (ops : List Operation). done ++ ops) (operations_none unread none) ∙ append-nil done)))
 
 -- and what stands there is no beginning of one, or is
-pub goes_fault : (joined : List ℕ) (done : List Operation) (unread : List ℕ) → GoesOn joined done unread → ¬ (IsGot (front unread))
+pub goes_fault : (joined : List ℕ) (done : List Operation) (unread : List ℕ) → GoesOn joined done unread
+    → ¬ (IsGot (front unread))
     → ends_in_fault joined ≡ is_fault (front unread)
 goes_fault joined done unread goes none =
     ap ends_in_fault (sym (append-nil joined))

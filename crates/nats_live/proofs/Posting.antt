@@ -79,7 +79,8 @@ noise_accepted mux c n = record {
 
 -- it is accepted: it waits to be handled
 publish_accepted : (most : ℕ) (joined subject payload : List ℕ) (seen : Seen) (b : HasBegun most joined seen)
-    → Going (published_text joined subject payload) [] false b.up (seen_after seen (accepted (call.Publish (message_of subject payload))))
+    → Going (published_text joined subject payload) [] false b.up
+        (seen_after seen (accepted (call.Publish (message_of subject payload))))
 publish_accepted most joined subject payload seen b =
     let m = message_of subject payload in
     record {
@@ -114,35 +115,43 @@ posts_by : (most : ℕ) (joined subject payload : List ℕ) (seen : Seen) (b : H
     → Posts most joined subject payload (publish_answer (answers.Call (reply_by r replies.Accepted))) seen
     (posted r (message_of subject payload) seen)
 posts_by most joined subject payload seen b false big may_is big_is r is =
-    subst (λ (x : Option CallReply). Posts most joined subject payload (publish_answer (answers.Call (reply_by x replies.Accepted))) seen
+    subst (λ (x : Option CallReply). Posts most joined subject payload
+        (publish_answer (answers.Call (reply_by x replies.Accepted))) seen
         (posted x (message_of subject payload) seen))
     (sym (is ∙ ap (λ (m : Bool). refused_by m b.noise.most (length payload)) may_is)) (refl, may_is)
 posts_by most joined subject payload seen b true true may_is big_is r is =
-    subst (λ (x : Option CallReply). Posts most joined subject payload (publish_answer (answers.Call (reply_by x replies.Accepted))) seen
+    subst (λ (x : Option CallReply). Posts most joined subject payload
+        (publish_answer (answers.Call (reply_by x replies.Accepted))) seen
         (posted x (message_of subject payload) seen))
     (sym (is ∙ (ap (λ (m : Bool). refused_by m b.noise.most (length payload)) may_is
-        ∙ ap (λ (g : Bool). if g then Some (replies.MaxPayloadExceeded b.noise.most (length payload)) else None) big_is)))
+        ∙ ap (λ (g : Bool). if g then Some (replies.MaxPayloadExceeded b.noise.most (length payload)) else None)
+            big_is)))
     (b.limit, refl, subst (λ (l : ℕ). l < length payload) b.limit (ltb-true b.noise.most (length payload) big_is))
 posts_by most joined subject payload seen b true false may_is big_is r is =
     let m = message_of subject payload in
     let next = seen_after seen (accepted (call.Publish m)) in
-    subst (λ (x : Option CallReply). Posts most joined subject payload (publish_answer (answers.Call (reply_by x replies.Accepted))) seen
+    subst (λ (x : Option CallReply). Posts most joined subject payload
+        (publish_answer (answers.Call (reply_by x replies.Accepted))) seen
         (posted x m seen))
     (sym (is ∙ (ap (λ (p : Bool). refused_by p b.noise.most (length payload)) may_is
-        ∙ ap (λ (g : Bool). if g then Some (replies.MaxPayloadExceeded b.noise.most (length payload)) else None) big_is)))
+        ∙ ap (λ (g : Bool). if g then Some (replies.MaxPayloadExceeded b.noise.most (length payload)) else None)
+            big_is)))
     (
       b.up,
       ap (λ (s : Seen). s.parts.link.is_up) b.is,
-      going_all (published_text joined subject payload) [] false b.up next (publish_accepted most joined subject payload seen b),
+      going_all (published_text joined subject payload) [] false b.up next
+          (publish_accepted most joined subject payload seen b),
       none_after_all next,
     )
 
 pub posts : (most : ℕ) (joined subject payload : List ℕ) (seen : Seen) → HasBegun most joined seen
-    → Posts most joined subject payload (publish_answer (reply_to seen.parts (turns.Do (call.Publish (message_of subject payload))))) seen
+    → Posts most joined subject payload
+        (publish_answer (reply_to seen.parts (turns.Do (call.Publish (message_of subject payload))))) seen
     (all_due (seen_all seen (own_steps seen.parts (turns.Do (call.Publish (message_of subject payload))))))
 posts most joined subject payload seen b =
     let m = message_of subject payload in
-    posts_by most joined subject payload seen b (is_publishable subject) (nat_lt b.noise.most (length payload)) refl refl
+    posts_by most joined subject payload seen b (is_publishable subject)
+        (nat_lt b.noise.most (length payload)) refl refl
     (refusal seen.parts (call.Publish m))
     (ap (λ (s : Seen). refusal s.parts (call.Publish m)) b.is
         ∙ publish_refused b.mux b.noise b.up b.unread b.waiting subject payload)
@@ -162,7 +171,8 @@ unrefused mux n flush_awaits up unread waiting kind = absurd (true≢false kind)
 unrefused mux n flush_done up unread waiting kind = absurd (true≢false kind)
 
 -- its ticket is the first
-first_ticket : (mux : List ℕ) (n : Noise) (phase : Phase) (up : Bool) (unread waiting : List ℕ) → has_flush phase ≡ false
+first_ticket : (mux : List ℕ) (n : Noise) (phase : Phase) (up : Bool) (unread waiting : List ℕ)
+    → has_flush phase ≡ false
     → accepted_reply (state mux n (at_phase phase up unread waiting)).parts call.Flush ≡ replies.Numbered 1
 first_ticket mux n (sending m) up unread waiting kind = refl
 first_ticket mux n sent up unread waiting kind = refl
@@ -172,7 +182,8 @@ first_ticket mux n flush_awaits up unread waiting kind = absurd (true≢false ki
 first_ticket mux n flush_done up unread waiting kind = absurd (true≢false kind)
 
 -- it waits behind the publish, or alone
-flushed_at : (text mux : List ℕ) (n : Noise) (phase : Phase) (up : Bool) (unread waiting : List ℕ) → has_flush phase ≡ false
+flushed_at : (text mux : List ℕ) (n : Noise) (phase : Phase) (up : Bool) (unread waiting : List ℕ)
+    → has_flush phase ≡ false
     → (up ≡ true → (front unread ≡ unfinished) × (waiting ++ unwritten_at phase ≡ text))
     → Going text [] true up (seen_after (state mux n (at_phase phase up unread waiting)) (accepted call.Flush))
 flushed_at text mux n (sending m) up unread waiting kind ups = record {
@@ -245,7 +256,8 @@ accepts limit joined subject payload old mid new reply (up, was, g, none) answer
 -- ---- as the calls see it
 
 -- a publish that was played
-pub posted_by : (limit : ℕ) (joined subject payload : List ℕ) (old mid : Logged) (message : OutboundMessage) (reply : StepReply)
+pub posted_by : (limit : ℕ) (joined subject payload : List ℕ) (old mid : Logged) (message : OutboundMessage)
+    (reply : StepReply)
     → HasBegun limit joined old.session → message ≡ message_of subject payload
     → PlaysWhole old (turns.Do (call.Publish message)) (Ok reply) mid
     → Posts limit joined subject payload (publish_answer reply) old.session mid.session
@@ -260,7 +272,8 @@ posted_by limit joined subject payload old mid message reply b is plays =
         (posts limit joined subject payload old.session b))
 
 -- it was accepted
-pub posted_ok : (limit : ℕ) (joined subject payload : List ℕ) (old mid : Seen) (answer : Result (Unit {0}) LiveError) → answer ≡ Ok tt
+pub posted_ok : (limit : ℕ) (joined subject payload : List ℕ) (old mid : Seen) (answer : Result (Unit {0}) LiveError)
+    → answer ≡ Ok tt
     → Posts limit joined subject payload answer old mid → Posts limit joined subject payload (Ok tt) old mid
 posted_ok limit joined subject payload old mid answer is posts =
     subst (λ (r : Result (Unit {0}) LiveError). Posts limit joined subject payload r old mid) is posts

@@ -21,7 +21,8 @@ use Rattle.nats_live.proofs.Sending.{noise_handled, noise_taken, split_text}
 use Rattle.nats_live.proofs.States.{round_by, round_up, round_down}
 
 -- the session of `Receives`, whether or not its subscribe is due
-pub record Quiet (subject joined : List ℕ) (first since : List Operation) (took : List ℕ) (taken : ℕ) (up : Bool) (seen : Seen) : Type 0 where
+pub record Quiet (subject joined : List ℕ) (first since : List Operation) (took : List ℕ) (taken : ℕ) (up : Bool)
+    (seen : Seen) : Type 0 where
   pub mux : List ℕ
   pub noise : Noise
   pub opened : Bool
@@ -47,8 +48,10 @@ quiet_called : (subject joined : List ℕ) (first since : List Operation) (took 
     → Quiet subject joined first since took taken true (called room seen)
 quiet_called subject joined first since took taken seen q false opened is = q
 quiet_called subject joined first since took taken seen q true true is =
-    let same : seen ≡ state q.mux q.noise (receiving true true subject q.puts (drop taken (messages 1 since)) q.unread q.waiting) =
-        q.is ∙ ap (λ (b : Bool). state q.mux q.noise (receiving true b subject q.puts (drop taken (messages 1 since)) q.unread q.waiting)) is in
+    let same : seen ≡ state q.mux q.noise
+        (receiving true true subject q.puts (drop taken (messages 1 since)) q.unread q.waiting) =
+        q.is ∙ ap (λ (b : Bool). state q.mux q.noise
+            (receiving true b subject q.puts (drop taken (messages 1 since)) q.unread q.waiting)) is in
     subst (λ (s : Seen). Quiet subject joined first since took taken true (called true s)) (sym same)
     (subst (λ (s : Seen). Quiet subject joined first since took taken true s) same q)
 quiet_called subject joined first since took taken seen q true false is =
@@ -77,8 +80,10 @@ quiet_called subject joined first since took taken seen q true false is =
       text = q.text;
     }
 
-pub quiet_round : (subject joined : List ℕ) (first since : List Operation) (took : List ℕ) (taken : ℕ) (up : Bool) (seen : Seen)
-    → Quiet subject joined first since took taken up seen → Quiet subject joined first since took taken up (due_round seen)
+pub quiet_round : (subject joined : List ℕ) (first since : List Operation) (took : List ℕ) (taken : ℕ) (up : Bool)
+    (seen : Seen)
+    → Quiet subject joined first since took taken up seen → Quiet subject joined first since took taken up
+        (due_round seen)
 quiet_round subject joined first since took taken true seen q =
     let k = receiving true q.opened subject q.puts (drop taken (messages 1 since)) q.unread q.waiting in
     let room = nat_lt (length q.waiting) write_limit in
@@ -91,28 +96,35 @@ quiet_round subject joined first since took taken false seen q =
     subst (Quiet subject joined first since took taken false)
     (sym (ap due_round q.is ∙ (round_down q.mux q.noise k refl ∙ sym q.is))) q
 
-quiet_rounds : (subject joined : List ℕ) (first since : List Operation) (took : List ℕ) (taken : ℕ) (up : Bool) (k : ℕ) (seen : Seen)
-    → Quiet subject joined first since took taken up seen → Quiet subject joined first since took taken up (due_rounds k seen)
+quiet_rounds : (subject joined : List ℕ) (first since : List Operation) (took : List ℕ) (taken : ℕ) (up : Bool)
+    (k : ℕ) (seen : Seen)
+    → Quiet subject joined first since took taken up seen → Quiet subject joined first since took taken up
+        (due_rounds k seen)
 quiet_rounds subject joined first since took taken up zero seen q = q
 quiet_rounds subject joined first since took taken up (suc k) seen q =
     quiet_round subject joined first since took taken up (due_rounds k seen)
     (quiet_rounds subject joined first since took taken up k seen q)
 
-pub quiet_all : (subject joined : List ℕ) (first since : List Operation) (took : List ℕ) (taken : ℕ) (up : Bool) (seen : Seen)
-    → Quiet subject joined first since took taken up seen → Quiet subject joined first since took taken up (all_due seen)
+pub quiet_all : (subject joined : List ℕ) (first since : List Operation) (took : List ℕ) (taken : ℕ) (up : Bool)
+    (seen : Seen)
+    → Quiet subject joined first since took taken up seen → Quiet subject joined first since took taken up
+        (all_due seen)
 quiet_all subject joined first since took taken up seen q =
     let all = all_rounds seen in
     subst (Quiet subject joined first since took taken up) (sym all.1)
     (quiet_rounds subject joined first since took taken up all.0 seen q)
 
-pub quiet_up : (subject joined : List ℕ) (first since : List Operation) (took : List ℕ) (taken : ℕ) (up : Bool) (seen : Seen)
+pub quiet_up : (subject joined : List ℕ) (first since : List Operation) (took : List ℕ) (taken : ℕ) (up : Bool)
+    (seen : Seen)
     → Quiet subject joined first since took taken up seen → seen.parts.link.is_up ≡ up
 quiet_up subject joined first since took taken up seen q = ap (λ (s : Seen). s.parts.link.is_up) q.is
 
 -- ---- once nothing is due
 
-pub quiet_receives : (subject joined : List ℕ) (first since : List Operation) (took : List ℕ) (taken : ℕ) (up : Bool) (seen : Seen)
-    → Quiet subject joined first since took taken up seen → due seen.parts ≡ None → Receives subject joined first since took taken seen
+pub quiet_receives : (subject joined : List ℕ) (first since : List Operation) (took : List ℕ) (taken : ℕ) (up : Bool)
+    (seen : Seen)
+    → Quiet subject joined first since took taken up seen → due seen.parts ≡ None
+        → Receives subject joined first since took taken seen
 quiet_receives subject joined first since took taken up seen q none = record {
   mux = q.mux;
   noise = q.noise;
@@ -147,7 +159,8 @@ receives_quiet subject joined first since took taken seen r =
       fits = r.fits;
       fresh = r.fresh;
       ups = λ yes. (
-        nothing_there (front r.unread) r.mux r.noise k yes (ap (λ (s : Seen). due s.parts) (sym r.is) ∙ r.settled) refl,
+        nothing_there (front r.unread) r.mux r.noise k yes (ap (λ (s : Seen). due s.parts) (sym r.is) ∙ r.settled)
+            refl,
         (r.ups yes).0,
         (r.ups yes).1,
       );
@@ -157,7 +170,8 @@ receives_quiet subject joined first since took taken seen r =
 
 -- ---- bytes are taken
 
-pub quiet_write : (subject joined : List ℕ) (first since : List Operation) (took_so : List ℕ) (taken_so n : ℕ) (seen : Seen)
+pub quiet_write : (subject joined : List ℕ) (first since : List Operation) (took_so : List ℕ) (taken_so n : ℕ)
+    (seen : Seen)
     → Quiet subject joined first since took_so taken_so true seen → n ≤ length seen.parts.link.wire.waiting
     → Quiet subject joined first since (took_so ++ take n seen.parts.link.wire.waiting) taken_so true
     (seen_all seen (own_steps seen.parts (turns.Write n)))
@@ -202,14 +216,16 @@ noise_lost mux n = record {
   events = push_all (history.end_events word.Lost) n.events;
 }
 
-lost_state : (mux subject : List ℕ) (n : Noise) (opened : Bool) (puts : ℕ) (queue : List Message) (unread waiting : List ℕ)
+lost_state : (mux subject : List ℕ) (n : Noise) (opened : Bool) (puts : ℕ) (queue : List Message)
+    (unread waiting : List ℕ)
     → seen_all (state mux n (receiving true opened subject puts queue unread waiting))
         (own_steps (state mux n (receiving true opened subject puts queue unread waiting)).parts turns.Lost)
     ≡ state mux (noise_lost mux n) (receiving false opened subject puts queue [] [])
 lost_state mux subject n true puts queue unread waiting = refl
 lost_state mux subject n false puts queue unread waiting = refl
 
-pub quiet_lost : (subject joined : List ℕ) (first since : List Operation) (took_so : List ℕ) (taken_so : ℕ) (seen : Seen)
+pub quiet_lost : (subject joined : List ℕ) (first since : List Operation) (took_so : List ℕ) (taken_so : ℕ)
+    (seen : Seen)
     → Quiet subject joined first since took_so taken_so true seen
     → Quiet subject joined first since took_so taken_so false (seen_all seen (own_steps seen.parts turns.Lost))
 quiet_lost subject joined first since took_so taken_so seen q = record {
@@ -238,7 +254,8 @@ take_none mux subject n up true puts unread waiting = refl
 take_none mux subject n up false puts unread waiting = refl
 
 -- the oldest is taken
-took_state : (mux subject : List ℕ) (n : Noise) (up opened : Bool) (puts : ℕ) (m : Message) (more : List Message) (unread waiting : List ℕ)
+took_state : (mux subject : List ℕ) (n : Noise) (up opened : Bool) (puts : ℕ) (m : Message) (more : List Message)
+    (unread waiting : List ℕ)
     → seen_all (state mux n (receiving up opened subject puts (m ∷ more) unread waiting))
         (own_steps (state mux n (receiving up opened subject puts (m ∷ more) unread waiting)).parts (turns.Take 1))
     ≡ state mux (record n { statistics = statistics_after (default_config mux) (history.took 1) n.statistics })
@@ -255,34 +272,42 @@ Took1 subject joined first since took_so taken_so up takes.Empty new =
     Quiet subject joined first since took_so taken_so up new × (taken_so ≡ length (messages 1 since))
 Took1 subject joined first since took_so taken_so up takes.Ended new = ⊥
 
-take_by : (subject joined : List ℕ) (first since : List Operation) (took_so : List ℕ) (taken_so : ℕ) (up : Bool) (seen : Seen)
-    → (q : Quiet subject joined first since took_so taken_so up seen) → (queue : List Message) → drop taken_so (messages 1 since) ≡ queue
+take_by : (subject joined : List ℕ) (first since : List Operation) (took_so : List ℕ) (taken_so : ℕ) (up : Bool)
+    (seen : Seen)
+    → (q : Quiet subject joined first since took_so taken_so up seen) → (queue : List Message)
+        → drop taken_so (messages 1 since) ≡ queue
     → Took1 subject joined first since took_so taken_so up
     (take_reply (state q.mux q.noise (receiving up q.opened subject q.puts queue q.unread q.waiting)).parts 1)
     (seen_all (state q.mux q.noise (receiving up q.opened subject q.puts queue q.unread q.waiting))
-        (own_steps (state q.mux q.noise (receiving up q.opened subject q.puts queue q.unread q.waiting)).parts (turns.Take 1)))
+        (own_steps (state q.mux q.noise (receiving up q.opened subject q.puts queue q.unread q.waiting)).parts
+            (turns.Take 1)))
 take_by subject joined first since took_so taken_so up seen q [] is =
     let s = state q.mux q.noise (receiving up q.opened subject q.puts [] q.unread q.waiting) in
     let none = take_none q.mux subject q.noise up q.opened q.puts q.unread q.waiting in
     let same : seen ≡ s = q.is
-        ∙ ap (λ (queue : List Message). state q.mux q.noise (receiving up q.opened subject q.puts queue q.unread q.waiting)) is in
-    subst (λ (r : TakeReply). Took1 subject joined first since took_so taken_so up r (seen_all s (took_step 1 r))) (sym none) (
+        ∙ ap (λ (queue : List Message). state q.mux q.noise
+            (receiving up q.opened subject q.puts queue q.unread q.waiting)) is in
+    subst (λ (r : TakeReply). Took1 subject joined first since took_so taken_so up r (seen_all s (took_step 1 r)))
+        (sym none) (
       subst (Quiet subject joined first since took_so taken_so up) same q,
       omega (arith, q.fits, sym (length-drop taken_so (messages 1 since)) ∙ ap length is),
     )
 take_by subject joined first since took_so taken_so up seen q (m ∷ more) is =
-    let later : drop (taken_so + 1) (messages 1 since) ≡ more = sym (drop-drop 1 taken_so (messages 1 since)) ∙ ap (drop 1) is in
+    let later : drop (taken_so + 1) (messages 1 since) ≡ more =
+        sym (drop-drop 1 taken_so (messages 1 since)) ∙ ap (drop 1) is in
     (
       record {
         mux = q.mux;
-        noise = record q.noise { statistics = statistics_after (default_config q.mux) (history.took 1) q.noise.statistics };
+        noise = record q.noise
+            { statistics = statistics_after (default_config q.mux) (history.took 1) q.noise.statistics };
         opened = q.opened;
         puts = q.puts;
         unread = q.unread;
         waiting = q.waiting;
         is = took_state q.mux subject q.noise up q.opened q.puts m more q.unread q.waiting
             ∙ ap (λ (queue : List Message). state q.mux
-                (record q.noise { statistics = statistics_after (default_config q.mux) (history.took 1) q.noise.statistics })
+                (record q.noise { statistics = statistics_after (default_config q.mux) (history.took 1)
+                    q.noise.statistics })
                 (receiving up q.opened subject q.puts queue q.unread q.waiting)) (sym later);
         all = q.all;
         fits = omega (arith, q.fits, sym (length-drop taken_so (messages 1 since)) ∙ ap length is);
@@ -294,10 +319,13 @@ take_by subject joined first since took_so taken_so up seen q (m ∷ more) is =
       ap (take 1) is,
     )
 
-pub quiet_take : (subject joined : List ℕ) (first since : List Operation) (took_so : List ℕ) (taken_so : ℕ) (up : Bool) (seen : Seen)
+pub quiet_take : (subject joined : List ℕ) (first since : List Operation) (took_so : List ℕ) (taken_so : ℕ)
+    (up : Bool) (seen : Seen)
     → Quiet subject joined first since took_so taken_so up seen
-    → Took1 subject joined first since took_so taken_so up (take_reply seen.parts 1) (seen_all seen (own_steps seen.parts (turns.Take 1)))
+    → Took1 subject joined first since took_so taken_so up (take_reply seen.parts 1)
+        (seen_all seen (own_steps seen.parts (turns.Take 1)))
 quiet_take subject joined first since took_so taken_so up seen q =
-    subst (λ (s : Seen). Took1 subject joined first since took_so taken_so up (take_reply s.parts 1) (seen_all s (own_steps s.parts (turns.Take 1))))
+    subst (λ (s : Seen). Took1 subject joined first since took_so taken_so up (take_reply s.parts 1)
+        (seen_all s (own_steps s.parts (turns.Take 1))))
     (sym q.is)
     (take_by subject joined first since took_so taken_so up seen q (drop taken_so (messages 1 since)) refl)

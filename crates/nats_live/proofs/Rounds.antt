@@ -48,7 +48,8 @@ use Rattle.nats_live.proofs.Quiet.{Quiet, quiet_all, quiet_lost, quiet_receives,
 abbrev refused_by : Bool → Option CallReply
 refused_by may = if may then None else Some replies.InvalidSubject
 
-sub_refused : (mux : List ℕ) (n : Noise) (up : Bool) (unread waiting subject : List ℕ) (may : Bool) → is_valid subject ≡ may
+sub_refused : (mux : List ℕ) (n : Noise) (up : Bool) (unread waiting subject : List ℕ) (may : Bool)
+    → is_valid subject ≡ may
     → refusal (state mux n (begun up unread waiting)).parts (call.Subscribe subject None) ≡ refused_by may
 sub_refused mux n up unread waiting subject true is =
     ap (λ (b : Bool). if not b then Some replies.InvalidSubject else
@@ -65,7 +66,8 @@ sub_text_is subject waiting first is =
     ∙ ap (λ (t : List ℕ). pongs first ++ t) (sym (append-nil (sub_text subject)))
 
 sub_accepted : (most : ℕ) (joined subject : List ℕ) (seen : Seen) (b : HasBegun most joined seen)
-    → Quiet subject joined (operations joined) [] [] 0 b.up (seen_after seen (history.accepted (call.Subscribe subject None)))
+    → Quiet subject joined (operations joined) [] [] 0 b.up
+        (seen_after seen (history.accepted (call.Subscribe subject None)))
 sub_accepted most joined subject seen b = record {
   mux = b.mux;
   noise = noise_accepted b.mux (call.Subscribe subject None) b.noise;
@@ -90,22 +92,29 @@ sub_accepted most joined subject seen b = record {
 abbrev subbed : Option CallReply → List ℕ → Seen → Seen
 subbed r subject seen = all_due (seen_all seen (accepted_step r (call.Subscribe subject None) ++ []))
 
-subscribes_by : (most : ℕ) (joined subject : List ℕ) (seen : Seen) → HasBegun most joined seen → (may : Bool) → is_valid subject ≡ may
+subscribes_by : (most : ℕ) (joined subject : List ℕ) (seen : Seen) → HasBegun most joined seen → (may : Bool)
+    → is_valid subject ≡ may
     → (r : Option CallReply) → r ≡ refused_by may
-    → Subscribes joined subject (subscribe_answer (answers.Call (reply_by r (accepted_reply seen.parts (call.Subscribe subject None))))) seen
+    → Subscribes joined subject
+        (subscribe_answer (answers.Call (reply_by r (accepted_reply seen.parts (call.Subscribe subject None))))) seen
     (subbed r subject seen)
 subscribes_by most joined subject seen b true may_is r is =
     let next = seen_after seen (history.accepted (call.Subscribe subject None)) in
-    let quiet = quiet_all subject joined (operations joined) [] [] 0 b.up next (sub_accepted most joined subject seen b) in
+    let quiet = quiet_all subject joined (operations joined) [] [] 0 b.up next
+        (sub_accepted most joined subject seen b) in
     subst (λ (x : Option CallReply). Subscribes joined subject
-        (subscribe_answer (answers.Call (reply_by x (accepted_reply seen.parts (call.Subscribe subject None))))) seen (subbed x subject seen))
+        (subscribe_answer (answers.Call (reply_by x (accepted_reply seen.parts (call.Subscribe subject None))))) seen
+            (subbed x subject seen))
     (sym is) (
-      quiet_up subject joined (operations joined) [] [] 0 b.up (all_due next) quiet ∙ sym (ap (λ (s : Seen). s.parts.link.is_up) b.is),
-      (λ up. quiet_receives subject joined (operations joined) [] [] 0 b.up (all_due next) quiet (none_after_all next)),
+      quiet_up subject joined (operations joined) [] [] 0 b.up (all_due next) quiet
+          ∙ sym (ap (λ (s : Seen). s.parts.link.is_up) b.is),
+      (λ up. quiet_receives subject joined (operations joined) [] [] 0 b.up (all_due next) quiet
+          (none_after_all next)),
     )
 subscribes_by most joined subject seen b false may_is r is =
     subst (λ (x : Option CallReply). Subscribes joined subject
-        (subscribe_answer (answers.Call (reply_by x (accepted_reply seen.parts (call.Subscribe subject None))))) seen (subbed x subject seen))
+        (subscribe_answer (answers.Call (reply_by x (accepted_reply seen.parts (call.Subscribe subject None))))) seen
+            (subbed x subject seen))
     (sym is) (refl, may_is)
 
 pub subscribes : (most : ℕ) (joined subject : List ℕ) (seen : Seen) → HasBegun most joined seen
@@ -119,7 +128,8 @@ subscribes most joined subject seen b =
 -- ---- writing all that waits
 
 -- the session on the way: it took more
-pub record WritesOn (subject joined : List ℕ) (first since : List Operation) (had : List ℕ) (taken : ℕ) (head : List ℕ) (was : Bool)
+pub record WritesOn (subject joined : List ℕ) (first since : List Operation) (had : List ℕ) (taken : ℕ)
+    (head : List ℕ) (was : Bool)
     (seen : Seen) (before w : WriteTold) : Type 0 where
   pub more : List ℕ
   pub receives : Receives subject joined first since (had ++ more) taken seen
@@ -127,7 +137,8 @@ pub record WritesOn (subject joined : List ℕ) (first since : List Operation) (
   pub faults : before.faults ≤ w.faults
   pub over : seen.parts.link.is_up ≡ false → (was ≡ false) ⊎ (1 ≤ w.faults)
 
-pub writes_begin : (subject joined : List ℕ) (first since : List Operation) (had : List ℕ) (taken : ℕ) (head : List ℕ) (seen : Seen) (w : WriteTold)
+pub writes_begin : (subject joined : List ℕ) (first since : List Operation) (had : List ℕ) (taken : ℕ) (head : List ℕ)
+    (seen : Seen) (w : WriteTold)
     → Receives subject joined first since had taken seen → Took (head ++ had) w
     → WritesOn subject joined first since had taken head seen.parts.link.is_up seen w w
 writes_begin subject joined first since had taken head seen w receives wrote = record {
@@ -147,9 +158,11 @@ up_quiet subject joined first since took taken seen r up =
     (sym (ap (λ (s : Seen). s.parts.link.is_up) r.is) ∙ up)
     (receives_quiet subject joined first since took taken seen r)
 
-pub writes_more : (subject joined : List ℕ) (first since : List Operation) (had : List ℕ) (taken : ℕ) (head : List ℕ) (was : Bool)
+pub writes_more : (subject joined : List ℕ) (first since : List Operation) (had : List ℕ) (taken : ℕ) (head : List ℕ)
+    (was : Bool)
     (old new : Logged) (before w after : WriteTold) (n : ℕ)
-    → WritesOn subject joined first since had taken head was old.session before w → WritesWhole old w after (Ok (writes.Wrote n)) new
+    → WritesOn subject joined first since had taken head was old.session before w
+        → WritesWhole old w after (Ok (writes.Wrote n)) new
     → WritesOn subject joined first since had taken head was new.session before after
 writes_more subject joined first since had taken head was old new before w after n on wrote =
     let same = none_played old.session on.receives.settled in
@@ -166,13 +179,16 @@ writes_more subject joined first since had taken head was old new before w after
     let joins = append_assoc had on.more (take n bytes) in
     record {
       more = on.more ++ take n bytes;
-      receives = subst (λ (s : Seen). Receives subject joined first since (had ++ (on.more ++ take n bytes)) taken s) (sym is)
+      receives = subst (λ (s : Seen). Receives subject joined first since (had ++ (on.more ++ take n bytes)) taken s)
+          (sym is)
           (subst (λ (t : List ℕ). Receives subject joined first since t taken (all_due next)) joins
-              (quiet_receives subject joined first since ((had ++ on.more) ++ take n bytes) taken true (all_due next) far (none_after_all next)));
+              (quiet_receives subject joined first since ((had ++ on.more) ++ take n bytes) taken true
+                  (all_due next) far (none_after_all next)));
       wrote = subst (λ (t : List ℕ). Took t after)
           (append_assoc head (had ++ on.more) (take n bytes) ∙ ap (λ (t : List ℕ). head ++ t) joins)
           (took_more (head ++ (had ++ on.more)) (take n bytes) w after on.wrote
-              (wrote.3 ∙ ap (λ (s : Seen). record w { taken = append_known w.taken (take n s.parts.link.wire.waiting) }) same));
+              (wrote.3 ∙ ap (λ (s : Seen). record w
+                  { taken = append_known w.taken (take n s.parts.link.wire.waiting) }) same));
       faults = omega (arith, on.faults, ap (λ (x : WriteTold). x.faults) wrote.3);
       over = λ down. absurd (true≢false
           (sym (quiet_up subject joined first since ((had ++ on.more) ++ take n bytes) taken true (all_due next) far)
@@ -180,7 +196,8 @@ writes_more subject joined first since had taken head was old new before w after
     }
 
 -- nothing waits: the subscribe was handled too
-opened_by : (mux subject : List ℕ) (n : Noise) (b : Bool) (puts : ℕ) (queue : List Message) (unread : List ℕ) → front unread ≡ unfinished
+opened_by : (mux subject : List ℕ) (n : Noise) (b : Bool) (puts : ℕ) (queue : List Message) (unread : List ℕ)
+    → front unread ≡ unfinished
     → due (state mux n (receiving true b subject puts queue unread [])).parts ≡ None → b ≡ true
 opened_by mux subject n true puts queue unread none idle = refl
 opened_by mux subject n false puts queue unread none idle =
@@ -188,24 +205,30 @@ opened_by mux subject n false puts queue unread none idle =
     absurd (none-some (history.handled (call.Subscribe subject None)) (sym idle ∙ ap (λ (f : Front). due_by f p) none))
 
 idle_opened : (subject joined : List ℕ) (first since : List Operation) (took : List ℕ) (taken : ℕ) (seen : Seen)
-    → (q : Quiet subject joined first since took taken true seen) → due seen.parts ≡ None → seen.parts.link.wire.waiting ≡ []
+    → (q : Quiet subject joined first since took taken true seen) → due seen.parts ≡ None
+        → seen.parts.link.wire.waiting ≡ []
     → (q.opened ≡ true) × (took ≡ subscribed_text subject first since)
 idle_opened subject joined first since took taken seen q idle empty =
     let queue = drop taken (messages 1 since) in
     let facts = q.ups refl in
     let none : q.waiting ≡ [] = sym (ap (λ (s : Seen). s.parts.link.wire.waiting) q.is) ∙ empty in
     let open = opened_by q.mux subject q.noise q.opened q.puts queue q.unread facts.0
-        (ap (λ (w : List ℕ). due (state q.mux q.noise (receiving true q.opened subject q.puts queue q.unread w)).parts) (sym none)
+        (ap (λ (w : List ℕ). due
+            (state q.mux q.noise (receiving true q.opened subject q.puts queue q.unread w)).parts) (sym none)
         ∙ (ap (λ (s : Seen). due s.parts) (sym q.is) ∙ idle)) in (
       open,
       sym (append-nil took)
-      ∙ (ap (λ (w : List ℕ). took ++ w) (ap (λ (b : Bool). [] ++ unasked b subject) (sym open) ∙ ap (λ (w : List ℕ). w ++ unasked q.opened subject) (sym none))
+      ∙ (ap (λ (w : List ℕ). took ++ w)
+          (ap (λ (b : Bool). [] ++ unasked b subject) (sym open)
+          ∙ ap (λ (w : List ℕ). w ++ unasked q.opened subject) (sym none))
       ∙ facts.2),
     )
 
-pub writes_idle : (subject joined : List ℕ) (first since : List Operation) (had : List ℕ) (taken : ℕ) (head : List ℕ) (was : Bool)
+pub writes_idle : (subject joined : List ℕ) (first since : List Operation) (had : List ℕ) (taken : ℕ) (head : List ℕ)
+    (was : Bool)
     (old new : Logged) (before w after : WriteTold)
-    → WritesOn subject joined first since had taken head was old.session before w → WritesWhole old w after (Ok writes.Idle) new
+    → WritesOn subject joined first since had taken head was old.session before w
+        → WritesWhole old w after (Ok writes.Idle) new
     → IsWritten subject joined first since had taken head was (Ok tt) new.session before after
 writes_idle subject joined first since had taken head was old new before w after on wrote =
     let same = none_played old.session on.receives.settled in
@@ -214,13 +237,16 @@ writes_idle subject joined first since had taken head was old new before w after
     let empty = ap (λ (s : Seen). s.parts.link.wire.waiting) (sym same) ∙ wrote.1 in
     let all = idle_opened subject joined first since (had ++ on.more) taken old.session q on.receives.settled empty in
     let is : new.session ≡ old.session = ap (λ (c : Logged). c.session) wrote.3 ∙ same in
-    subst (λ (x : WriteTold). IsWritten subject joined first since had taken head was (Ok tt) new.session before x) (sym wrote.2)
+    subst (λ (x : WriteTold). IsWritten subject joined first since had taken head was (Ok tt) new.session before x)
+        (sym wrote.2)
     (subst (λ (s : Seen). IsWritten subject joined first since had taken head was (Ok tt) s before w) (sym is)
         (on.more, on.receives, on.wrote, on.faults, (λ yes. all.1), on.over))
 
-pub writes_lost : (subject joined : List ℕ) (first since : List Operation) (had : List ℕ) (taken : ℕ) (head : List ℕ) (was : Bool)
+pub writes_lost : (subject joined : List ℕ) (first since : List Operation) (had : List ℕ) (taken : ℕ) (head : List ℕ)
+    (was : Bool)
     (old new : Logged) (before w after : WriteTold)
-    → WritesOn subject joined first since had taken head was old.session before w → WritesWhole old w after (Ok writes.Lost) new
+    → WritesOn subject joined first since had taken head was old.session before w
+        → WritesWhole old w after (Ok writes.Lost) new
     → IsWritten subject joined first since had taken head was (Ok tt) new.session before after
 writes_lost subject joined first since had taken head was old new before w after on wrote =
     let same = none_played old.session on.receives.settled in
@@ -243,23 +269,28 @@ writes_lost subject joined first since had taken head was old new before w after
       (λ no. inr failed.0),
     )
 
-pub writes_gone : (subject joined : List ℕ) (first since : List Operation) (had : List ℕ) (taken : ℕ) (head : List ℕ) (was : Bool)
+pub writes_gone : (subject joined : List ℕ) (first since : List Operation) (had : List ℕ) (taken : ℕ) (head : List ℕ)
+    (was : Bool)
     (old new : Logged) (before w after : WriteTold)
-    → WritesOn subject joined first since had taken head was old.session before w → WritesWhole old w after (Ok writes.Gone) new
+    → WritesOn subject joined first since had taken head was old.session before w
+        → WritesWhole old w after (Ok writes.Gone) new
     → IsWritten subject joined first since had taken head was (Ok tt) new.session before after
 writes_gone subject joined first since had taken head was old new before w after on wrote =
     let same = none_played old.session on.receives.settled in
     let down : old.session.parts.link.is_up ≡ false = ap (λ (s : Seen). s.parts.link.is_up) (sym same) ∙ wrote.0 in
     let is : new.session ≡ old.session = ap (λ (c : Logged). c.session) wrote.2 ∙ same in
-    subst (λ (x : WriteTold). IsWritten subject joined first since had taken head was (Ok tt) new.session before x) (sym wrote.1)
+    subst (λ (x : WriteTold). IsWritten subject joined first since had taken head was (Ok tt) new.session before x)
+        (sym wrote.1)
     (subst (λ (s : Seen). IsWritten subject joined first since had taken head was (Ok tt) s before w) (sym is)
         (on.more, on.receives, on.wrote, on.faults, (λ yes. absurd (false≢true (sym down ∙ yes))), on.over))
 
 -- a write that is the last of them
-pub writes_done : (subject joined : List ℕ) (first since : List Operation) (had : List ℕ) (taken : ℕ) (head : List ℕ) (was : Bool)
+pub writes_done : (subject joined : List ℕ) (first since : List Operation) (had : List ℕ) (taken : ℕ) (head : List ℕ)
+    (was : Bool)
     (old new : Logged) (before w after : WriteTold) (once : WriteOnce)
     → (once ≡ writes.Idle) ⊎ ((once ≡ writes.Lost) ⊎ (once ≡ writes.Gone))
-    → WritesOn subject joined first since had taken head was old.session before w → WritesWhole old w after (Ok once) new
+    → WritesOn subject joined first since had taken head was old.session before w
+        → WritesWhole old w after (Ok once) new
     → IsWritten subject joined first since had taken head was (Ok tt) new.session before after
 writes_done subject joined first since had taken head was old new before w after once (inl is) on wrote =
     writes_idle subject joined first since had taken head was old new before w after on
@@ -292,8 +323,10 @@ lines_more taken wanted left ms m before text fits is text_is =
     ∙ ap (λ (t : List ℕ). before ++ t) (sym line ∙ ap (λ (i : ℕ). flat_map message_line (take i rest)) count))
 
 -- what was printed goes on
-pub printed_more : (taken more : ℕ) (ms : List Message) (before after : List ℕ) → before ≡ flat_map message_line (take taken ms)
-    → after ≡ before ++ flat_map message_line (take more (drop taken ms)) → after ≡ flat_map message_line (take (taken + more) ms)
+pub printed_more : (taken more : ℕ) (ms : List Message) (before after : List ℕ)
+    → before ≡ flat_map message_line (take taken ms)
+    → after ≡ before ++ flat_map message_line (take more (drop taken ms))
+        → after ≡ flat_map message_line (take (taken + more) ms)
 printed_more taken more ms before after was is =
     is
     ∙ (ap (λ (t : List ℕ). t ++ flat_map message_line (take more (drop taken ms))) was
@@ -304,8 +337,10 @@ printed_more taken more ms before after was is =
 abbrev pub takes_of : TakeReply → Result (Option Message) LiveError
 takes_of r = Ok (message_in (answers.Take r))
 
-takes_by : (subject joined : List ℕ) (first since : List Operation) (had : List ℕ) (count : ℕ) (up : Bool) (r : TakeReply) (next : Seen)
-    → Took1 subject joined first since had count up r next → TakesOne subject joined first since had count up (takes_of r) (all_due next)
+takes_by : (subject joined : List ℕ) (first since : List Operation) (had : List ℕ) (count : ℕ) (up : Bool)
+    (r : TakeReply) (next : Seen)
+    → Took1 subject joined first since had count up r next → TakesOne subject joined first since had count up
+        (takes_of r) (all_due next)
 takes_by subject joined first since had count up (takes.Message m) next took =
     let far = quiet_all subject joined first since had (count + 1) up next took.0 in (
       quiet_up subject joined first since had (count + 1) up (all_due next) far,
@@ -321,7 +356,8 @@ takes_by subject joined first since had count up takes.Empty next took =
 takes_by subject joined first since had count up takes.Ended next took = absurd took
 
 -- a take of the one subscription
-takes_reply : (subject joined : List ℕ) (first since : List Operation) (had : List ℕ) (count : ℕ) (old new : Logged) (reply : StepReply)
+takes_reply : (subject joined : List ℕ) (first since : List Operation) (had : List ℕ) (count : ℕ) (old new : Logged)
+    (reply : StepReply)
     → Receives subject joined first since had count old.session → PlaysWhole old (turns.Take 1) (Ok reply) new
     → (r : TakeReply) × (reply ≡ answers.Take r)
     × TakesOne subject joined first since had count old.session.parts.link.is_up (takes_of r) new.session
@@ -342,27 +378,33 @@ takes_reply subject joined first since had count old new reply receives plays =
     )
 
 -- what it comes to by its reply
-pub took_one : (subject joined : List ℕ) (first since : List Operation) (had : List ℕ) (count : ℕ) (old new : Logged) (reply : StepReply)
+pub took_one : (subject joined : List ℕ) (first since : List Operation) (had : List ℕ) (count : ℕ) (old new : Logged)
+    (reply : StepReply)
     → Receives subject joined first since had count old.session → PlaysWhole old (turns.Take 1) (Ok reply) new
     → TakesOne subject joined first since had count old.session.parts.link.is_up (Ok (message_in reply)) new.session
 took_one subject joined first since had count old new reply receives plays =
     let r = takes_reply subject joined first since had count old new reply receives plays in
-    subst (λ (x : StepReply). TakesOne subject joined first since had count old.session.parts.link.is_up (Ok (message_in x)) new.session)
+    subst (λ (x : StepReply). TakesOne subject joined first since had count old.session.parts.link.is_up
+        (Ok (message_in x)) new.session)
     (sym r.1) r.2
 
 -- such a take may always come
 pub take_comes : (subject joined : List ℕ) (first since : List Operation) (had : List ℕ) (count : ℕ) (old : Logged)
-    → Receives subject joined first since had count old.session → is_valid_turn (all_due old.session).parts (turns.Take 1) ≡ true
+    → Receives subject joined first since had count old.session
+        → is_valid_turn (all_due old.session).parts (turns.Take 1) ≡ true
 take_comes subject joined first since had count old r =
     ap (λ (s : Seen). is_valid_turn s.parts (turns.Take 1)) (none_played old.session r.settled ∙ r.is)
 
 -- the loop of takes: so many are left of those wanted
-abbrev pub TakesSoFar : List ℕ → List ℕ → List Operation → List Operation → List ℕ → ℕ → Bool → ℕ → List ℕ → ℕ → Seen → List ℕ → Type 0
-TakesSoFar subject joined first since had taken up wanted before left seen text = (left ≤ wanted) × (seen.parts.link.is_up ≡ up)
+abbrev pub TakesSoFar : List ℕ → List ℕ → List Operation → List Operation → List ℕ → ℕ → Bool → ℕ → List ℕ → ℕ → Seen
+    → List ℕ → Type 0
+TakesSoFar subject joined first since had taken up wanted before left seen text =
+    (left ≤ wanted) × (seen.parts.link.is_up ≡ up)
     × Receives subject joined first since had (taken + (wanted - left)) seen
     × (text ≡ before ++ flat_map message_line (take (wanted - left) (drop taken (messages 1 since))))
 
-pub takes_begin : (subject joined : List ℕ) (first since : List Operation) (had : List ℕ) (taken wanted : ℕ) (before : List ℕ) (seen : Seen)
+pub takes_begin : (subject joined : List ℕ) (first since : List Operation) (had : List ℕ) (taken wanted : ℕ)
+    (before : List ℕ) (seen : Seen)
     → Receives subject joined first since had taken seen
     → TakesSoFar subject joined first since had taken seen.parts.link.is_up wanted before wanted seen before
 takes_begin subject joined first since had taken wanted before seen receives =
@@ -375,7 +417,8 @@ takes_begin subject joined first since had taken wanted before seen receives =
           ∙ ap (λ (k : ℕ). before ++ flat_map message_line (take k (drop taken (messages 1 since)))) none,
     )
 
-pub takes_step : (subject joined : List ℕ) (first since : List Operation) (had : List ℕ) (taken : ℕ) (up : Bool) (wanted left less : ℕ)
+pub takes_step : (subject joined : List ℕ) (first since : List Operation) (had : List ℕ) (taken : ℕ) (up : Bool)
+    (wanted left less : ℕ)
     (before text after : List ℕ) (old new : Seen) (m : Message) → suc less ≡ left
     → TakesSoFar subject joined first since had taken up wanted before left old text
     → TakesOne subject joined first since had (taken + (wanted - left)) old.parts.link.is_up (Ok (Some m)) new
@@ -384,8 +427,10 @@ pub takes_step : (subject joined : List ℕ) (first since : List Operation) (had
 takes_step subject joined first since had taken up wanted left less before text after old new m fewer far one line =
     let fits : suc less ≤ wanted = omega (arith, fewer, far.0) in
     let next : (taken + (wanted - left)) + 1 ≡ taken + (wanted - less) = omega (arith, fewer, far.0) in
-    let queue = subst (λ (k : ℕ). take 1 (drop (taken + (wanted - k)) (messages 1 since)) ≡ m ∷ []) (sym fewer) one.2 in
-    let so_far = subst (λ (k : ℕ). text ≡ before ++ flat_map message_line (take (wanted - k) (drop taken (messages 1 since)))) (sym fewer) far.3 in
+    let queue = subst (λ (k : ℕ). take 1 (drop (taken + (wanted - k)) (messages 1 since)) ≡ m ∷ [])
+        (sym fewer) one.2 in
+    let so_far = subst (λ (k : ℕ). text ≡ before ++ flat_map message_line
+        (take (wanted - k) (drop taken (messages 1 since)))) (sym fewer) far.3 in
     (
       omega (arith, fits),
       one.0 ∙ far.1,
@@ -393,18 +438,23 @@ takes_step subject joined first since had taken up wanted left less before text 
       line ∙ lines_more taken wanted less (messages 1 since) m before text fits queue so_far,
     )
 
-pub takes_end : (subject joined : List ℕ) (first since : List Operation) (had : List ℕ) (taken : ℕ) (up : Bool) (wanted left : ℕ)
-    (before text : List ℕ) (old new : Seen) → TakesSoFar subject joined first since had taken up wanted before left old text
+pub takes_end : (subject joined : List ℕ) (first since : List Operation) (had : List ℕ) (taken : ℕ) (up : Bool)
+    (wanted left : ℕ)
+    (before text : List ℕ) (old new : Seen) → TakesSoFar subject joined first since had taken up wanted before left
+        old text
     → TakesOne subject joined first since had (taken + (wanted - left)) old.parts.link.is_up (Ok None) new
     → TakesAll subject joined first since had taken up wanted before (Ok left) new text
 takes_end subject joined first since had taken up wanted left before text old new far none =
     (far.0, none.0 ∙ far.1, none.1, far.3, inr none.2)
 
-pub takes_done : (subject joined : List ℕ) (first since : List Operation) (had : List ℕ) (taken : ℕ) (up : Bool) (wanted left : ℕ)
-    (before text : List ℕ) (seen : Seen) → left ≡ 0 → TakesSoFar subject joined first since had taken up wanted before left seen text
+pub takes_done : (subject joined : List ℕ) (first since : List Operation) (had : List ℕ) (taken : ℕ) (up : Bool)
+    (wanted left : ℕ)
+    (before text : List ℕ) (seen : Seen) → left ≡ 0 → TakesSoFar subject joined first since had taken up wanted before
+        left seen text
     → TakesAll subject joined first since had taken up wanted before (Ok 0) seen text
 takes_done subject joined first since had taken up wanted left before text seen none far =
-    let all = subst (λ (k : ℕ). TakesSoFar subject joined first since had taken up wanted before k seen text) none far in
+    let all = subst (λ (k : ℕ). TakesSoFar subject joined first since had taken up wanted before k seen text) none far
+        in
     (all.0, all.1, all.2, all.3, inl refl)
 
 -- ---- reading a piece
@@ -431,7 +481,8 @@ gave_more bytes buf n r0 r after some gave is = record {
   joined = concat_one gave.later (take n buf) ∙ ap (λ (t : List ℕ). t ++ take n buf) gave.joined;
 }
 
-pub gave_none : (bytes : List ℕ) (r0 r after : ReadTold) → GaveLater bytes r0 r → after.pieces ≡ r.pieces → GaveLater bytes r0 after
+pub gave_none : (bytes : List ℕ) (r0 r after : ReadTold) → GaveLater bytes r0 r → after.pieces ≡ r.pieces
+    → GaveLater bytes r0 after
 gave_none bytes r0 r after gave is = record { later = gave.later; pieces = is ∙ gave.pieces; joined = gave.joined }
 
 same_pieces : (r after : ReadTold) → GivesNone r after → after.pieces ≡ r.pieces
@@ -458,23 +509,29 @@ nil_of (x ∷ xs) none = absurd (omega (arith, none))
 
 waits_none : (took waiting rest text : List ℕ) → took ++ (waiting ++ rest) ≡ text → took ≡ text → waiting ≡ []
 waits_none took waiting rest text is whole =
-    nil_of waiting (omega (arith, ap length is, ap length whole, length-append took (waiting ++ rest), length-append waiting rest))
+    nil_of waiting (omega
+        (arith, ap length is, ap length whole, length-append took (waiting ++ rest), length-append waiting rest))
 
 -- and the subscription is open
 whole_opened : (subject joined : List ℕ) (first since : List Operation) (took : List ℕ) (taken : ℕ) (seen : Seen)
-    → (r : Receives subject joined first since took taken seen) → r.up ≡ true → took ≡ subscribed_text subject first since → r.opened ≡ true
+    → (r : Receives subject joined first since took taken seen) → r.up ≡ true
+        → took ≡ subscribed_text subject first since → r.opened ≡ true
 whole_opened subject joined first since took taken seen r up whole =
     let queue = drop taken (messages 1 since) in
     let k = receiving r.up r.opened subject r.puts queue r.unread r.waiting in
-    let none = waits_none took r.waiting (unasked r.opened subject) (subscribed_text subject first since) (r.ups up).1 whole in
+    let none = waits_none took r.waiting (unasked r.opened subject) (subscribed_text subject first since)
+        (r.ups up).1 whole in
     let idle = ap (λ (s : Seen). due s.parts) (sym r.is) ∙ r.settled in
     let there = nothing_there (front r.unread) r.mux r.noise k up idle refl in
     opened_by r.mux subject r.noise r.opened r.puts queue r.unread there
-    (ap (λ (b : Bool). due (state r.mux r.noise (receiving b r.opened subject r.puts queue r.unread [])).parts) (sym up)
-    ∙ (ap (λ (w : List ℕ). due (state r.mux r.noise (receiving r.up r.opened subject r.puts queue r.unread w)).parts) (sym none) ∙ idle))
+    (ap (λ (b : Bool). due (state r.mux r.noise (receiving b r.opened subject r.puts queue r.unread [])).parts)
+        (sym up)
+    ∙ (ap (λ (w : List ℕ). due (state r.mux r.noise (receiving r.up r.opened subject r.puts queue r.unread w)).parts)
+        (sym none) ∙ idle))
 
 -- a piece is read once all that waited was written and taken
-pub read_more : (subject joined : List ℕ) (first : List Operation) (taken : ℕ) (head buf : List ℕ) (n : ℕ) (old new : Logged)
+pub read_more : (subject joined : List ℕ) (first : List Operation) (taken : ℕ) (head buf : List ℕ) (n : ℕ)
+    (old new : Logged)
     (r0 r after : ReadTold) (w : WriteTold) (far : IsReceiving subject joined first taken head old.session r0 r w)
     → taken ≡ length (messages 1 far.since) → far.took ≡ subscribed_text subject first far.since → length buf < 65536
     → ReadsWhole old buf r after (Ok (reads.Played n)) new
@@ -497,14 +554,16 @@ read_more subject joined first taken head buf n old new r0 r after w far all who
         ∙ ap (λ (s : Seen). all_due (seen_all s (own_steps s.parts (turns.Piece piece)))) same in
     let joins = append_assoc joined far.bytes piece in
     let then = subst (λ (b : List ℕ). Receives subject b first heard.since far.took taken (all_due next)) joins
-        (hearing_receives subject (bytes ++ piece) first far.since far.took taken (all_due next) heard (none_after_all next)) in
+        (hearing_receives subject (bytes ++ piece) first far.since far.took taken (all_due next) heard
+            (none_after_all next)) in
     (
       record {
         bytes = far.bytes ++ piece;
         since = heard.since;
         took = far.took;
         gave = gave_more far.bytes buf n r0 r after read.1 far.gave (ap (λ (x : ReadTold). x.pieces) read.3);
-        receives = subst (λ (s : Seen). Receives subject (joined ++ (far.bytes ++ piece)) first heard.since far.took taken s) (sym is) then;
+        receives = subst (λ (s : Seen). Receives subject (joined ++ (far.bytes ++ piece)) first heard.since far.took
+            taken s) (sym is) then;
         wrote = far.wrote;
         asked = inr (asked_by subject far.took first far.since whole);
         over = λ down. inr (inr (subst (λ (b : List ℕ). ends_in_fault b ≡ true) joins
@@ -539,7 +598,8 @@ read_lost subject joined first taken head buf old new r0 r after w far read =
         took = far.took;
         gave = gave_none far.bytes r0 r after far.gave (same_pieces r after read.1);
         receives = subst (λ (s : Seen). Receives subject bytes first far.since far.took taken s) (sym is)
-            (quiet_receives subject bytes first far.since far.took taken false (all_due next) quiet (none_after_all next));
+            (quiet_receives subject bytes first far.since far.took taken false (all_due next) quiet
+                (none_after_all next));
         wrote = far.wrote;
         asked = far.asked;
         over = λ down. gives_over bytes r after w read.1;
@@ -555,7 +615,8 @@ printed_same taken since more later text fits is text_is =
     text_is
     ∙ ap (flat_map message_line)
         (sym (ap (λ (ops : List Operation). take taken (messages 1 ops)) is
-        ∙ (ap (take taken) (messages_more 1 since more) ∙ take-append-le taken (messages 1 since) (messages 1 more) fits)))
+        ∙ (ap (take taken) (messages_more 1 since more) ∙ take-append-le taken (messages 1 since)
+            (messages 1 more) fits)))
 
 -- ---- what was written, while receiving
 
@@ -570,7 +631,8 @@ asked_more subject took more first since (inr some) = inr (
 )
 
 -- a link that is over stays so, and one whose half failed is
-more_faults : (joined : List ℕ) (r : ReadTold) (before after : WriteTold) → before.faults ≤ after.faults → IsOver joined r before
+more_faults : (joined : List ℕ) (r : ReadTold) (before after : WriteTold) → before.faults ≤ after.faults
+    → IsOver joined r before
     → IsOver joined r after
 more_faults joined r before after le (inl faults) = inl (omega (arith, faults, le))
 more_faults joined r before after le (inr other) = inr other
@@ -584,7 +646,8 @@ over_more joined r before after was le over (inr failed) = inl (omega (arith, fa
 
 -- a subscribe that was played
 pub subscribed_by : (most : ℕ) (joined subject : List ℕ) (old new : Logged) (text : List ℕ) (reply : StepReply)
-    → HasBegun most joined old.session → text ≡ subject → PlaysWhole old (turns.Do (call.Subscribe text None)) (Ok reply) new
+    → HasBegun most joined old.session → text ≡ subject → PlaysWhole old (turns.Do (call.Subscribe text None))
+        (Ok reply) new
     → Subscribes joined subject (subscribe_answer reply) old.session new.session
 subscribed_by most joined subject old new text reply b is plays =
     let turn = turns.Do (call.Subscribe subject None) in

@@ -60,7 +60,8 @@ noise_handled mux c n = record {
   events = n.events;
 }
 
-stays : (text took mux : List ℕ) (n : Noise) (phase : Phase) (unread waiting : List ℕ) (flushed : Bool) → front unread ≡ unfinished
+stays : (text took mux : List ℕ) (n : Noise) (phase : Phase) (unread waiting : List ℕ) (flushed : Bool)
+    → front unread ≡ unfinished
     → has_flush phase ≡ flushed → FitsPhase phase waiting → took ++ (waiting ++ unwritten_at phase) ≡ text
     → Going text took flushed true (state mux n (at_phase phase true unread waiting))
 stays text took mux n phase unread waiting flushed e kind fits is = record {
@@ -77,7 +78,8 @@ stays text took mux n phase unread waiting flushed e kind fits is = record {
 }
 
 -- the publish is handled: its text waits
-publish_handled : (text took mux : List ℕ) (n : Noise) (phase : Phase) (m : OutboundMessage) (unread waiting : List ℕ) (flushed : Bool) (seen : Seen)
+publish_handled : (text took mux : List ℕ) (n : Noise) (phase : Phase) (m : OutboundMessage) (unread waiting : List ℕ)
+    (flushed : Bool) (seen : Seen)
     → seen ≡ state mux n (at_phase phase true unread (waiting ++ publish_text m)) → front unread ≡ unfinished
     → has_flush phase ≡ flushed → FitsPhase phase (waiting ++ publish_text m) → unwritten_at phase ≡ []
     → took ++ (waiting ++ publish_text m) ≡ text → Going text took flushed true seen
@@ -99,7 +101,8 @@ publish_handled text took mux n phase m unread waiting flushed seen same e kind 
 }
 
 -- a due call, while the link is up and nothing is to be read
-going_called : (text took mux : List ℕ) (n : Noise) (room : Bool) (phase : Phase) (unread waiting : List ℕ) (flushed : Bool)
+going_called : (text took mux : List ℕ) (n : Noise) (room : Bool) (phase : Phase) (unread waiting : List ℕ)
+    (flushed : Bool)
     → front unread ≡ unfinished → has_flush phase ≡ flushed → FitsPhase phase waiting
     → took ++ (waiting ++ unwritten_at phase) ≡ text
     → Going text took flushed true (called room (state mux n (at_phase phase true unread waiting)))
@@ -198,11 +201,13 @@ reached mux n unread waiting k ahead b = state mux n (record {
 
 taken_awaiting : (text took mux : List ℕ) (n : Noise) (unread waiting : List ℕ) (k : ℕ) → front unread ≡ unfinished
     → took ++ (waiting ++ []) ≡ text
-    → Going text (took ++ take k waiting) true true (seen_after (state mux n (at_phase flush_awaits true unread waiting)) (taken k))
+    → Going text (took ++ take k waiting) true true
+        (seen_after (state mux n (at_phase flush_awaits true unread waiting)) (taken k))
 taken_awaiting text took mux n unread waiting k e is = by (nat_le (length waiting) k) refl
   where
     by : (b : Bool) → nat_le (length waiting) k ≡ b
-        → Going text (took ++ take k waiting) true true (seen_after (state mux n (at_phase flush_awaits true unread waiting)) (taken k))
+        → Going text (took ++ take k waiting) true true
+            (seen_after (state mux n (at_phase flush_awaits true unread waiting)) (taken k))
     by true le =
         taken_plain text took mux n flush_done unread waiting k
         (seen_after (state mux n (at_phase flush_awaits true unread waiting)) (taken k))
@@ -215,9 +220,11 @@ taken_awaiting text took mux n unread waiting k e is = by (nat_le (length waitin
         ∙ ap (λ (a : ℕ). reached mux (noise_taken mux k n) unread waiting k a false) (sym (length-drop k waiting)))
         e refl (omega (arith, length-drop k waiting, leb-false (length waiting) k more)) is
 
-going_taken : (text took mux : List ℕ) (n : Noise) (phase : Phase) (unread waiting : List ℕ) (k : ℕ) → front unread ≡ unfinished
+going_taken : (text took mux : List ℕ) (n : Noise) (phase : Phase) (unread waiting : List ℕ) (k : ℕ)
+    → front unread ≡ unfinished
     → has_flush phase ≡ true → FitsPhase phase waiting → took ++ (waiting ++ unwritten_at phase) ≡ text
-    → Going text (took ++ take k waiting) true true (seen_after (state mux n (at_phase phase true unread waiting)) (taken k))
+    → Going text (took ++ take k waiting) true true
+        (seen_after (state mux n (at_phase phase true unread waiting)) (taken k))
 going_taken text took mux n (sending m) unread waiting k e kind fits is = absurd (false≢true kind)
 going_taken text took mux n sent unread waiting k e kind fits is = absurd (false≢true kind)
 going_taken text took mux n (both m) unread waiting k e kind fits is =
@@ -236,7 +243,8 @@ going_taken text took mux n flush_done unread waiting k e kind fits is =
 -- so many of the bytes that wait are taken
 pub going_write : (text took : List ℕ) (n : ℕ) (seen : Seen) → Going text took true true seen
     → n ≤ length seen.parts.link.wire.waiting
-    → Going text (took ++ take n seen.parts.link.wire.waiting) true true (seen_all seen (own_steps seen.parts (turns.Write n)))
+    → Going text (took ++ take n seen.parts.link.wire.waiting) true true
+        (seen_all seen (own_steps seen.parts (turns.Write n)))
 going_write text took n seen g le =
     let facts = g.ups refl in
     let k = at_phase g.phase true g.unread g.waiting in
@@ -301,10 +309,12 @@ had flush_awaits is = refl
 had flush_done is = refl
 
 -- whether the link is up
-pub going_up : (text took : List ℕ) (flushed up : Bool) (seen : Seen) → Going text took flushed up seen → seen.parts.link.is_up ≡ up
+pub going_up : (text took : List ℕ) (flushed up : Bool) (seen : Seen) → Going text took flushed up seen
+    → seen.parts.link.is_up ≡ up
 going_up text took flushed up seen g = ap (λ (s : Seen). s.parts.link.is_up) g.is
 
-pub flushes_going : (text took : List ℕ) (up : Bool) (seen : Seen) → Going text took true up seen → due seen.parts ≡ None
+pub flushes_going : (text took : List ℕ) (up : Bool) (seen : Seen) → Going text took true up seen
+    → due seen.parts ≡ None
     → Flushes text took seen
 flushes_going text took up seen g none =
     let here = going_up text took true up seen g in

@@ -19,11 +19,16 @@ use Rattle.nats_live.specs.State.{Noise, Kept, default_config, state, begun}
 abbrev pub round_by : Front → Seen → Seen
 round_by f seen = seen_all seen (due_chain seen.parts (due_by f seen.parts))
 
-pub round_up : (mux : List ℕ) (n : Noise) (k : Kept) → k.up ≡ true → due_round (state mux n k) ≡ round_by (front k.unread) (state mux n k)
-round_up mux n k up = ap (λ (b : Bool). seen_all (state mux n k) (due_chain (state mux n k).parts (if b then due_by (front k.unread) (state mux n k).parts else None))) up
+pub round_up : (mux : List ℕ) (n : Noise) (k : Kept) → k.up ≡ true
+    → due_round (state mux n k) ≡ round_by (front k.unread) (state mux n k)
+round_up mux n k up =
+    ap (λ (b : Bool). seen_all (state mux n k)
+    (due_chain (state mux n k).parts (if b then due_by (front k.unread) (state mux n k).parts else None))) up
 
 pub round_down : (mux : List ℕ) (n : Noise) (k : Kept) → k.up ≡ false → due_round (state mux n k) ≡ state mux n k
-round_down mux n k down = ap (λ (b : Bool). seen_all (state mux n k) (due_chain (state mux n k).parts (if b then due_by (front k.unread) (state mux n k).parts else None))) down
+round_down mux n k down =
+    ap (λ (b : Bool). seen_all (state mux n k)
+    (due_chain (state mux n k).parts (if b then due_by (front k.unread) (state mux n k).parts else None))) down
 
 -- ---- an operation is read
 
@@ -74,9 +79,11 @@ no_item zero = refl
 no_item (suc k) = refl
 
 -- nothing asks for a message that has no subscription
-unasked : (sid : ℕ) (waiting : List ℕ) → written true (unsubscribe_command (is_closing_at (item_of sid [])) sid None) waiting ≡ waiting ++ []
+unasked : (sid : ℕ) (waiting : List ℕ) → written true (unsubscribe_command (is_closing_at (item_of sid [])) sid None)
+    waiting ≡ waiting ++ []
 unasked sid waiting =
-    ap (λ (o : Option Sub). written true (unsubscribe_command (is_closing_at o) sid None) waiting) (no_item sid) ∙ sym (append-nil waiting)
+    ap (λ (o : Option Sub). written true (unsubscribe_command (is_closing_at o) sid None) waiting) (no_item sid)
+        ∙ sym (append-nil waiting)
 
 -- such a session by what an operation may change of it
 abbrev begun_with : List ℕ → Noise → List Sub → List (ℕ × List ℕ) → List (ℕ × CallReply) → List ℕ → List ℕ → Seen
@@ -98,14 +105,18 @@ begun_read mux n unread waiting (message sid m) k = λ i. begun_with mux (noise_
     (no_rows sid (sub_after (default_config mux) (read (message sid m))) i) (none_asked (message sid m) i)
     (push_all (none_settled (message sid m) i) []) (past (front unread) unread) (unasked sid waiting i)
 begun_read mux n unread waiting (info_op info) k =
-    ap (λ (w : List ℕ). state mux (noise_read mux [] (info_op info) n) (begun true (past (front unread) unread) w)) (sym (append-nil waiting))
+    ap (λ (w : List ℕ). state mux (noise_read mux [] (info_op info) n) (begun true (past (front unread) unread) w))
+        (sym (append-nil waiting))
 begun_read mux n unread waiting (error_op e) k =
-    ap (λ (w : List ℕ). state mux (noise_read mux [] (error_op e) n) (begun true (past (front unread) unread) w)) (sym (append-nil waiting))
+    ap (λ (w : List ℕ). state mux (noise_read mux [] (error_op e) n) (begun true (past (front unread) unread) w))
+        (sym (append-nil waiting))
 begun_read mux n unread waiting ok_op k =
-    ap (λ (w : List ℕ). state mux (noise_read mux [] ok_op n) (begun true (past (front unread) unread) w)) (sym (append-nil waiting))
+    ap (λ (w : List ℕ). state mux (noise_read mux [] ok_op n) (begun true (past (front unread) unread) w))
+        (sym (append-nil waiting))
 begun_read mux n unread waiting ping_op k = refl
 begun_read mux n unread waiting pong_op k =
-    ap (λ (w : List ℕ). state mux (noise_read mux [] pong_op n) (begun true (past (front unread) unread) w)) (sym (append-nil waiting))
+    ap (λ (w : List ℕ). state mux (noise_read mux [] pong_op n) (begun true (past (front unread) unread) w))
+        (sym (append-nil waiting))
 
 abbrev pub noise_end : List ℕ → Noise → Noise
 noise_end mux n = record {

@@ -94,7 +94,8 @@ WhyNotDialed addr a refused.NoMemory b = Unit {0}
 
 -- a dial or a link failed, and that is the dialer's last word
 abbrev pub LinkBroke : Seen → Seen → Type 0
-LinkBroke a b = (Rose a.dialer.faults b.dialer.faults ⊎ Rose a.dialer.ends b.dialer.ends) × (b.dialer.word ≡ word.Failed)
+LinkBroke a b = (Rose a.dialer.faults b.dialer.faults ⊎ Rose a.dialer.ends b.dialer.ends)
+    × (b.dialer.word ≡ word.Failed)
 
 -- the same, or the link's end is the last word
 abbrev pub LinkBrokeOrEnded : Seen → Seen → Type 0
@@ -103,7 +104,8 @@ LinkBrokeOrEnded a b = (Rose a.dialer.faults b.dialer.faults ⊎ Rose a.dialer.e
 
 -- the last ended link is one of whose bytes that is so
 abbrev pub LastOpened : (Opened → Type 0) → Seen → Type 0
-LastOpened Is b = IfSome b.dialer.ended (LastLink (λ (link : EndedLink). (o : Opened) × (opened link.0 ≡ Some o) × Is o))
+LastOpened Is b = IfSome b.dialer.ended
+    (LastLink (λ (link : EndedLink). (o : Opened) × (opened link.0 ≡ Some o) × Is o))
 
 -- what came with the handshake's pieces is no operation; of the later pieces too
 abbrev pub FaultInRest : Seen → Type 0
@@ -118,14 +120,16 @@ FewerCame n b = LastOpened (λ o. length (messages 1 (after o)) < n) b
 
 -- the payload is larger than the server takes by its INFO
 abbrev pub TooLarge : ℕ → ℕ → List ℕ → Seen → Type 0
-TooLarge limit size payload b = (size ≡ length payload) × (limit < size) × LastOpened (λ o. o.info.max_payload ≡ limit) b
+TooLarge limit size payload b =
+    (size ≡ length payload) × (limit < size) × LastOpened (λ o. o.info.max_payload ≡ limit) b
 
 -- why a message was not published
 abbrev pub WhyNotPublished : List ℕ → List ℕ → List ℕ → Seen → LiveError → Seen → Type 0
 WhyNotPublished addr subject payload a (refused.Connect e) b = NotConnected addr a e b
 WhyNotPublished addr subject payload a (refused.Publish (publishing.InvalidSubject, source)) b =
     (source ≡ Some cause.Format) × (is_publishable subject ≡ false)
-WhyNotPublished addr subject payload a (refused.Publish (publishing.MaxPayloadExceeded, Some (cause.Payload limit size))) b =
+WhyNotPublished addr subject payload a
+    (refused.Publish (publishing.MaxPayloadExceeded, Some (cause.Payload limit size))) b =
     TooLarge limit size payload b
 WhyNotPublished addr subject payload a (refused.Publish e) b = ⊥
 WhyNotPublished addr subject payload a (refused.Subscribe e) b = ⊥

@@ -197,7 +197,8 @@ unasked false subject = sub_text subject
 -- the link gave these bytes, whose operations are the first ones, read before the subscribe, and those since;
 -- of the messages of subscription 1 since then so many were taken, and the others wait; it took these bytes of
 -- the session's text
-pub record Receives (subject joined : List ℕ) (first since : List Operation) (took : List ℕ) (taken : ℕ) (seen : Seen) : Type 0 where
+pub record Receives (subject joined : List ℕ) (first since : List Operation) (took : List ℕ) (taken : ℕ)
+    (seen : Seen) : Type 0 where
   pub mux : List ℕ
   pub noise : Noise
   pub up : Bool
@@ -228,7 +229,8 @@ Accepts limit joined subject payload (Ok ticket) old new = (ticket ≡ 1)
     × Flushes (published_text joined subject payload) [] new × (new.parts.link.is_up ≡ old.parts.link.is_up)
 Accepts limit joined subject payload (Err (refused.Publish (publishing.InvalidSubject, source))) old new =
     (source ≡ Some cause.Format) × (is_publishable subject ≡ false)
-Accepts limit joined subject payload (Err (refused.Publish (publishing.MaxPayloadExceeded, Some (cause.Payload most size)))) old new =
+Accepts limit joined subject payload
+    (Err (refused.Publish (publishing.MaxPayloadExceeded, Some (cause.Payload most size)))) old new =
     (most ≡ limit) × (size ≡ length payload) × (limit < size)
 Accepts limit joined subject payload (Err (refused.Publish e)) old new = ⊥
 Accepts limit joined subject payload (Err (refused.Subscribe e)) old new = ⊥
@@ -263,12 +265,14 @@ abbrev pub Publishes : ℕ → List ℕ → List ℕ → List ℕ → List ℕ �
 Publishes limit joined head subject payload (Ok done) old w = Took (head ++ published_text joined subject payload) w
 Publishes limit joined head subject payload (Err (refused.Publish (publishing.InvalidSubject, source))) old w =
     (source ≡ Some cause.Format) × (is_publishable subject ≡ false)
-Publishes limit joined head subject payload (Err (refused.Publish (publishing.MaxPayloadExceeded, Some (cause.Payload most size)))) old w =
+Publishes limit joined head subject payload
+    (Err (refused.Publish (publishing.MaxPayloadExceeded, Some (cause.Payload most size)))) old w =
     (most ≡ limit) × (size ≡ length payload) × (limit < size)
 Publishes limit joined head subject payload (Err (refused.Publish e)) old w = ⊥
 Publishes limit joined head subject payload (Err (refused.Subscribe e)) old w = ⊥
 Publishes limit joined head subject payload (Err (refused.Connect e)) old w = ⊥
-Publishes limit joined head subject payload (Err refused.LinkEnded) old w = (old.parts.link.is_up ≡ false) ⊎ (1 ≤ w.faults)
+Publishes limit joined head subject payload (Err refused.LinkEnded) old w =
+    (old.parts.link.is_up ≡ false) ⊎ (1 ≤ w.faults)
 Publishes limit joined head subject payload (Err refused.NoMemory) old w = Unit {0}
 
 -- what comes of subscribing on one: its subscription is open, unless the link is over; or the subject is refused
@@ -310,7 +314,8 @@ pub record IsReceiving (subject joined : List ℕ) (first : List Operation) (tak
   pub over : seen.parts.link.is_up ≡ false → IsOver (joined ++ bytes) r w
 
 -- n messages were printed, the first of subscription 1 since it subscribed; or fewer came, and the link is over
-abbrev pub ReceiveEnds : List ℕ → List ℕ → List Operation → ℕ → List ℕ → Result (Vec ℕ) LiveError → Seen → ReadTold → ReadTold
+abbrev pub ReceiveEnds : List ℕ → List ℕ → List Operation → ℕ → List ℕ → Result (Vec ℕ) LiveError → Seen → ReadTold
+    → ReadTold
     → WriteTold → Type 0
 ReceiveEnds subject joined first n head (Ok text) seen r0 r w =
     (far : IsReceiving subject joined first n head seen r0 r w)
@@ -338,7 +343,8 @@ message_in (answers.Take (takes.Message m)) = Some m
 message_in reply = None
 
 -- the oldest message that waits was taken; none where none does; whether the link is up stays
-abbrev pub TakesOne : List ℕ → List ℕ → List Operation → List Operation → List ℕ → ℕ → Bool → Result (Option Message) LiveError → Seen
+abbrev pub TakesOne : List ℕ → List ℕ → List Operation → List Operation → List ℕ → ℕ → Bool
+    → Result (Option Message) LiveError → Seen
     → Type 0
 TakesOne subject joined first since took taken up (Ok (Some m)) new = (new.parts.link.is_up ≡ up)
     × Receives subject joined first since took (taken + 1) new
@@ -348,7 +354,8 @@ TakesOne subject joined first since took taken up (Ok None) new = (new.parts.lin
 TakesOne subject joined first since took taken up (Err e) new = e ≡ refused.NoMemory
 
 -- messages that waited were taken and printed, until no more are wanted or none waits
-abbrev pub TakesAll : List ℕ → List ℕ → List Operation → List Operation → List ℕ → ℕ → Bool → ℕ → List ℕ → Result ℕ LiveError → Seen
+abbrev pub TakesAll : List ℕ → List ℕ → List Operation → List Operation → List ℕ → ℕ → Bool → ℕ → List ℕ
+    → Result ℕ LiveError → Seen
     → List ℕ → Type 0
 TakesAll subject joined first since took taken up wanted before (Ok left) new after = (left ≤ wanted)
     × (new.parts.link.is_up ≡ up)
@@ -358,7 +365,8 @@ TakesAll subject joined first since took taken up wanted before (Ok left) new af
 TakesAll subject joined first since took taken up wanted before (Err e) new after = e ≡ refused.NoMemory
 
 -- all that waited was written, or the link is over, and was before, or failed
-abbrev pub IsWritten : List ℕ → List ℕ → List Operation → List Operation → List ℕ → ℕ → List ℕ → Bool → Result (Unit {0}) NoMemory
+abbrev pub IsWritten : List ℕ → List ℕ → List Operation → List Operation → List ℕ → ℕ → List ℕ → Bool
+    → Result (Unit {0}) NoMemory
     → Seen → WriteTold → WriteTold → Type 0
 IsWritten subject joined first since had taken head was (Ok done) new before after = (more : List ℕ)
     × Receives subject joined first since (had ++ more) taken new × Took (head ++ (had ++ more)) after
@@ -368,7 +376,8 @@ IsWritten subject joined first since had taken head was (Ok done) new before aft
 IsWritten subject joined first since had taken head was (Err e) new before after = Unit {0}
 
 -- what comes of receiving on a session that has begun, on a link that took some text before
-abbrev pub ReceivesAll : List ℕ → List ℕ → List ℕ → ℕ → Result (Vec ℕ) LiveError → Seen → ReadTold → ReadTold → WriteTold → Type 0
+abbrev pub ReceivesAll : List ℕ → List ℕ → List ℕ → ℕ → Result (Vec ℕ) LiveError → Seen → ReadTold → ReadTold
+    → WriteTold → Type 0
 ReceivesAll joined head subject n (Ok text) seen r0 r w =
     ReceiveEnds subject joined (operations joined) n head (Ok text) seen r0 r w
 ReceivesAll joined head subject n (Err (refused.Subscribe (subscribing.InvalidSubject, source))) seen r0 r w =
@@ -386,12 +395,14 @@ abbrev pub PublishedOver : ℕ → List ℕ → List ℕ → List ℕ → List �
 PublishedOver limit joined head subject payload (Ok done) w = Took (head ++ published_text joined subject payload) w
 PublishedOver limit joined head subject payload (Err (refused.Publish (publishing.InvalidSubject, source))) w =
     (source ≡ Some cause.Format) × (is_publishable subject ≡ false)
-PublishedOver limit joined head subject payload (Err (refused.Publish (publishing.MaxPayloadExceeded, Some (cause.Payload most size)))) w =
+PublishedOver limit joined head subject payload
+    (Err (refused.Publish (publishing.MaxPayloadExceeded, Some (cause.Payload most size)))) w =
     (most ≡ limit) × (size ≡ length payload) × (limit < size)
 PublishedOver limit joined head subject payload (Err (refused.Publish e)) w = ⊥
 PublishedOver limit joined head subject payload (Err (refused.Subscribe e)) w = ⊥
 PublishedOver limit joined head subject payload (Err (refused.Connect e)) w = ⊥
-PublishedOver limit joined head subject payload (Err refused.LinkEnded) w = (ends_in_fault joined ≡ true) ⊎ (1 ≤ w.faults)
+PublishedOver limit joined head subject payload (Err refused.LinkEnded) w =
+    (ends_in_fault joined ≡ true) ⊎ (1 ≤ w.faults)
 PublishedOver limit joined head subject payload (Err refused.NoMemory) w = Unit {0}
 
 -- the link gave more bytes and took more text: so far receiving came
@@ -405,7 +416,8 @@ pub record CameSoFar (subject joined head : List ℕ) (r0 r : ReadTold) (w : Wri
   pub text : took ++ left ≡ subscribed_text subject (operations joined) since
   pub wrote : Took (head ++ took) w
 
-abbrev pub ReceivedOver : List ℕ → List ℕ → List ℕ → ℕ → Result (Vec ℕ) LiveError → ReadTold → ReadTold → WriteTold → Type 0
+abbrev pub ReceivedOver : List ℕ → List ℕ → List ℕ → ℕ → Result (Vec ℕ) LiveError → ReadTold → ReadTold → WriteTold
+    → Type 0
 ReceivedOver joined head subject n (Ok text) r0 r w = (far : CameSoFar subject joined head r0 r w)
     × (n ≤ length (messages 1 far.since)) × (text.items ≡ flat_map message_line (take n (messages 1 far.since)))
     × ((answered : List ℕ) × (far.took ≡ subscribed_text subject (operations joined) [] ++ answered))
@@ -415,5 +427,6 @@ ReceivedOver joined head subject n (Err (refused.Subscribe e)) r0 r w = ⊥
 ReceivedOver joined head subject n (Err (refused.Publish e)) r0 r w = ⊥
 ReceivedOver joined head subject n (Err (refused.Connect e)) r0 r w = ⊥
 ReceivedOver joined head subject n (Err refused.LinkEnded) r0 r w = ((r ≡ r0) × (ends_in_fault joined ≡ true))
-    ⊎ ((far : CameSoFar subject joined head r0 r w) × (length (messages 1 far.since) < n) × IsOver (joined ++ far.bytes) r w)
+    ⊎ ((far : CameSoFar subject joined head r0 r w) × (length (messages 1 far.since) < n)
+        × IsOver (joined ++ far.bytes) r w)
 ReceivedOver joined head subject n (Err refused.NoMemory) r0 r w = Unit {0}

@@ -28,7 +28,8 @@ wholly_played turn core = caught_up (played turn (caught_up core))
 abbrev pub PlaysWhole : Logged → Turn → Result StepReply StepError → Logged → Type 0
 PlaysWhole old turn (Ok reply) new = (is_valid_turn (parts_in (caught_up old)) turn ≡ true)
     × (reply ≡ reply_to (parts_in (caught_up old)) turn) × (new ≡ wholly_played turn old)
-PlaysWhole old turn (Err OutOfTurn) new = (is_valid_turn (parts_in (caught_up old)) turn ≡ false) × (new ≡ caught_up old)
+PlaysWhole old turn (Err OutOfTurn) new =
+    (is_valid_turn (parts_in (caught_up old)) turn ≡ false) × (new ≡ caught_up old)
 PlaysWhole old turn (Err (LinkGone current)) new = ⊥
 PlaysWhole old turn (Err Wanting) new = Unit {0}
 

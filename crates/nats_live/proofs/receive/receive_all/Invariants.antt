@@ -14,8 +14,10 @@ invariant-rounds g l = record {
   finite : (goal.iterator-rounds g).is_finite l.iterator';
   len : length l.buf ≡ length l.fn.buf;
   some : 1 ≤ l.wanted;
-  far : (subject joined head : List ℕ) (first : List Operation) → Receives subject joined first [] [] 0 l.fn.core.session
+  far : (subject joined head : List ℕ) (first : List Operation)
+      → Receives subject joined first [] [] 0 l.fn.core.session
       → IsTrue (parts_in l.fn.core).link.is_up → Took head (g.T.LinkWrite.write_told l.fn.write)
-      → RoundsOn subject joined first head l.count l.wanted l.text.items l.core.session (g.L.LinkRead.read_told l.fn.read)
+      → RoundsOn subject joined first head l.count l.wanted l.text.items l.core.session
+          (g.L.LinkRead.read_told l.fn.read)
       (g.L.LinkRead.read_told l.read) (g.T.LinkWrite.write_told l.write);
 }

@@ -22,7 +22,8 @@ returns-in_err-reply c = λ most joined b.
     err_by F (step_refused c.in_err-reply.field-0) c.from_residual-in_err-reply.result
     c.from_residual-in_err-reply.ensures.0 c.from_residual-in_err-reply.ensures.1
     (subst (λ (e : LiveError). F (Err e))
-        (sym (refused_play c.args.core.now c.play-reply.new.core (turns.Do (call.Subscribe c.in_ok-from_text.field-0 None))
+        (sym (refused_play c.args.core.now c.play-reply.new.core
+            (turns.Do (call.Subscribe c.in_ok-from_text.field-0 None))
             c.in_err-reply.field-0 refl c.in_err-reply.ensures)) tt)
 
 pub returns : goal.returns

@@ -7,15 +7,18 @@ use Rattle.nats_live.proofs.receive.take_all.Goals as goal
 pub takes-init : goal.takes-init
 takes-init c = record {
   far = λ subject joined took first since taken receives.
-      takes_begin subject joined first since took taken c.args.wanted c.args.text.now.items c.args.core.now.session receives;
+      takes_begin subject joined first since took taken c.args.wanted c.args.text.now.items c.args.core.now.session
+          receives;
 }
 
 pub takes-preserved : goal.takes-preserved
 takes-preserved c = record {
   far = λ subject joined took first since taken receives.
       let far = c.takes.invariant.far subject joined took first since taken receives in
-      takes_step subject joined first since took taken (parts_in c.args.core.now).link.is_up c.args.wanted c.takes.left _
-      c.args.text.now.items c.takes.text.items _ c.takes.core.session c.take_one.new.core.session c.in-Some.message (omega arith) far
+      takes_step subject joined first since took taken (parts_in c.args.core.now).link.is_up c.args.wanted
+          c.takes.left _
+      c.args.text.now.items c.takes.text.items _ c.takes.core.session c.take_one.new.core.session c.in-Some.message
+          (omega arith) far
       (c.in-Some.ensures subject joined took first since _ far.2) c.in_ok-push_message_line-in-Some.ensures;
 }
 

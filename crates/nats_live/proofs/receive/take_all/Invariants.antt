@@ -10,7 +10,8 @@ abbrev pub invariant-takes : goal.invariant-takes
 invariant-takes l = record {
   far : (subject joined took : List ℕ) (first since : List Operation) (taken : ℕ)
       → Receives subject joined first since took taken l.fn.core.session
-      → TakesSoFar subject joined first since took taken (parts_in l.fn.core).link.is_up l.wanted l.fn.text.items l.left
+      → TakesSoFar subject joined first since took taken (parts_in l.fn.core).link.is_up l.wanted l.fn.text.items
+          l.left
       l.core.session l.text.items;
 }
 

@@ -9,7 +9,8 @@ writes-init g c = record {
   next = search rules;
   finite = search rules;
   far = λ subject joined took head first since taken receives wrote.
-      writes_begin subject joined first since took taken head c.args.core.now.session (g.T.LinkWrite.write_told c.args.write.now)
+      writes_begin subject joined first since took taken head c.args.core.now.session
+          (g.T.LinkWrite.write_told c.args.write.now)
       receives wrote;
 }
 
@@ -18,7 +19,8 @@ writes-preserved g c = record {
   next = search rules;
   finite = search rules;
   far = λ subject joined took head first since taken receives wrote.
-      writes_more subject joined first since took taken head (parts_in c.args.core.now).link.is_up c.writes.core c.write_some.new.core
+      writes_more subject joined first since took taken head (parts_in c.args.core.now).link.is_up c.writes.core
+          c.write_some.new.core
       (g.T.LinkWrite.write_told c.args.write.now) (g.T.LinkWrite.write_told c.writes.write)
       (g.T.LinkWrite.write_told c.write_some.new.write) c.in-Wrote.field-0
       (c.writes.invariant.far subject joined took head first since taken receives wrote) c.in-Wrote.ensures;
@@ -26,7 +28,8 @@ writes-preserved g c = record {
 
 pub returns-in_default : goal.returns-in_default
 returns-in_default g c = λ subject joined took head first since taken receives wrote.
-    writes_done subject joined first since took taken head (parts_in c.args.core.now).link.is_up c.writes.core c.write_some.new.core
+    writes_done subject joined first since took taken head (parts_in c.args.core.now).link.is_up c.writes.core
+        c.write_some.new.core
     (g.T.LinkWrite.write_told c.args.write.now) (g.T.LinkWrite.write_told c.writes.write)
     (g.T.LinkWrite.write_told c.write_some.new.write) c.in_ok-write_some.field-0 c.in_default.is
     (c.writes.invariant.far subject joined took head first since taken receives wrote) c.in_ok-write_some.ensures

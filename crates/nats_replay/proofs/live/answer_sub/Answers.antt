@@ -14,6 +14,8 @@ returns-in-Ok-clause-answers g c = inr (inl (
 
 pub returns-in-Err-clause-answers : goal.returns-in-Err-clause-answers
 returns-in-Err-clause-answers g c =
-    sub_refused c.args.addr.now c.args.subject.now c.args.count (g.W.Reach.seen c.args.world.now) (g.W.Reach.seen c.receive.new.world)
+    sub_refused c.args.addr.now c.args.subject.now c.args.count (g.W.Reach.seen c.args.world.now)
+        (g.W.Reach.seen c.receive.new.world)
     c.in-Err.error c.refuse.result (g.K.Sink.faults c.args.sink.now) (g.K.Sink.faults c.refuse.new.sink)
-    (g.K.Sink.written c.args.sink.now) (g.K.Sink.written c.refuse.new.sink) c.in-Err.not-NoMemory c.in-Err.ensures.refused c.refuse.ensures.answers
+    (g.K.Sink.written c.args.sink.now) (g.K.Sink.written c.refuse.new.sink) c.in-Err.not-NoMemory
+        c.in-Err.ensures.refused c.refuse.ensures.answers

@@ -14,7 +14,8 @@ returns-then-are_run-clause-published g c = λ addr subject payload is status.
     published_by addr subject payload (g.W.Reach.seen c.args.world.now) (g.W.Reach.seen c.answer_others.new.world)
     c.answer_others.result (g.K.Sink.faults c.args.sink.now) (g.K.Sink.faults c.answer_others.new.sink)
     (g.K.Sink.written c.args.sink.now) (g.K.Sink.written c.answer_others.new.sink) status
-    (pub_answers (map string_bytes c.args.words.now) addr subject payload (g.W.Reach.seen c.args.world.now) (g.W.Reach.seen c.answer_others.new.world)
+    (pub_answers (map string_bytes c.args.words.now) addr subject payload (g.W.Reach.seen c.args.world.now)
+        (g.W.Reach.seen c.answer_others.new.world)
     c.answer_others.result (g.K.Sink.faults c.args.sink.now) (g.K.Sink.faults c.answer_others.new.sink)
     (g.K.Sink.written c.args.sink.now) (g.K.Sink.written c.answer_others.new.sink) is
         (c.answer_others.ensures.live (pub_live (map string_bytes c.args.words.now) addr subject payload is)))
@@ -24,7 +25,8 @@ returns-then-are_run-clause-received g c = λ addr subject n is status.
     received_by addr subject n (g.W.Reach.seen c.args.world.now) (g.W.Reach.seen c.answer_others.new.world)
     c.answer_others.result (g.K.Sink.faults c.args.sink.now) (g.K.Sink.faults c.answer_others.new.sink)
     (g.K.Sink.written c.args.sink.now) (g.K.Sink.written c.answer_others.new.sink) status
-    (sub_answers (map string_bytes c.args.words.now) addr subject n (g.W.Reach.seen c.args.world.now) (g.W.Reach.seen c.answer_others.new.world)
+    (sub_answers (map string_bytes c.args.words.now) addr subject n (g.W.Reach.seen c.args.world.now)
+        (g.W.Reach.seen c.answer_others.new.world)
     c.answer_others.result (g.K.Sink.faults c.args.sink.now) (g.K.Sink.faults c.answer_others.new.sink)
     (g.K.Sink.written c.args.sink.now) (g.K.Sink.written c.answer_others.new.sink) is
         (c.answer_others.ensures.live (sub_live (map string_bytes c.args.words.now) addr subject n is)))
@@ -34,7 +36,8 @@ returns-then-are_run-clause-not_published g c = λ addr subject payload is statu
     not_published_by addr subject payload (g.W.Reach.seen c.args.world.now) (g.W.Reach.seen c.answer_others.new.world)
     c.answer_others.result (g.K.Sink.faults c.args.sink.now) (g.K.Sink.faults c.answer_others.new.sink)
     (g.K.Sink.written c.args.sink.now) (g.K.Sink.written c.answer_others.new.sink) status
-    (pub_answers (map string_bytes c.args.words.now) addr subject payload (g.W.Reach.seen c.args.world.now) (g.W.Reach.seen c.answer_others.new.world)
+    (pub_answers (map string_bytes c.args.words.now) addr subject payload (g.W.Reach.seen c.args.world.now)
+        (g.W.Reach.seen c.answer_others.new.world)
     c.answer_others.result (g.K.Sink.faults c.args.sink.now) (g.K.Sink.faults c.answer_others.new.sink)
     (g.K.Sink.written c.args.sink.now) (g.K.Sink.written c.answer_others.new.sink) is
         (c.answer_others.ensures.live (pub_live (map string_bytes c.args.words.now) addr subject payload is)))
@@ -44,7 +47,8 @@ returns-then-are_run-clause-not_received g c = λ addr subject n is status.
     not_received_by addr subject n (g.W.Reach.seen c.args.world.now) (g.W.Reach.seen c.answer_others.new.world)
     c.answer_others.result (g.K.Sink.faults c.args.sink.now) (g.K.Sink.faults c.answer_others.new.sink)
     (g.K.Sink.written c.args.sink.now) (g.K.Sink.written c.answer_others.new.sink) status
-    (sub_answers (map string_bytes c.args.words.now) addr subject n (g.W.Reach.seen c.args.world.now) (g.W.Reach.seen c.answer_others.new.world)
+    (sub_answers (map string_bytes c.args.words.now) addr subject n (g.W.Reach.seen c.args.world.now)
+        (g.W.Reach.seen c.answer_others.new.world)
     c.answer_others.result (g.K.Sink.faults c.args.sink.now) (g.K.Sink.faults c.answer_others.new.sink)
     (g.K.Sink.written c.args.sink.now) (g.K.Sink.written c.answer_others.new.sink) is
         (c.answer_others.ensures.live (sub_live (map string_bytes c.args.words.now) addr subject n is)))
@@ -54,7 +58,8 @@ returns-then-are_run-clause-pub_cut_short g c = λ addr subject payload is statu
     pub_cut_by addr subject payload (g.W.Reach.seen c.args.world.now) (g.W.Reach.seen c.answer_others.new.world)
     c.answer_others.result (g.K.Sink.faults c.args.sink.now) (g.K.Sink.faults c.answer_others.new.sink)
     (g.K.Sink.written c.args.sink.now) (g.K.Sink.written c.answer_others.new.sink) status
-    (pub_answers (map string_bytes c.args.words.now) addr subject payload (g.W.Reach.seen c.args.world.now) (g.W.Reach.seen c.answer_others.new.world)
+    (pub_answers (map string_bytes c.args.words.now) addr subject payload (g.W.Reach.seen c.args.world.now)
+        (g.W.Reach.seen c.answer_others.new.world)
     c.answer_others.result (g.K.Sink.faults c.args.sink.now) (g.K.Sink.faults c.answer_others.new.sink)
     (g.K.Sink.written c.args.sink.now) (g.K.Sink.written c.answer_others.new.sink) is
         (c.answer_others.ensures.live (pub_live (map string_bytes c.args.words.now) addr subject payload is)))
@@ -64,14 +69,16 @@ returns-then-are_run-clause-sub_cut_short g c = λ addr subject n is status.
     sub_cut_by addr subject n (g.W.Reach.seen c.args.world.now) (g.W.Reach.seen c.answer_others.new.world)
     c.answer_others.result (g.K.Sink.faults c.args.sink.now) (g.K.Sink.faults c.answer_others.new.sink)
     (g.K.Sink.written c.args.sink.now) (g.K.Sink.written c.answer_others.new.sink) status
-    (sub_answers (map string_bytes c.args.words.now) addr subject n (g.W.Reach.seen c.args.world.now) (g.W.Reach.seen c.answer_others.new.world)
+    (sub_answers (map string_bytes c.args.words.now) addr subject n (g.W.Reach.seen c.args.world.now)
+        (g.W.Reach.seen c.answer_others.new.world)
     c.answer_others.result (g.K.Sink.faults c.args.sink.now) (g.K.Sink.faults c.answer_others.new.sink)
     (g.K.Sink.written c.args.sink.now) (g.K.Sink.written c.answer_others.new.sink) is
         (c.answer_others.ensures.live (sub_live (map string_bytes c.args.words.now) addr subject n is)))
 
 pub returns-then-are_run-clause-live : goal.returns-then-are_run-clause-live
 returns-then-are_run-clause-live g c = λ live.
-    live_status (map string_bytes c.args.words.now) (g.W.Reach.seen c.args.world.now) (g.W.Reach.seen c.answer_others.new.world)
+    live_status (map string_bytes c.args.words.now) (g.W.Reach.seen c.args.world.now)
+        (g.W.Reach.seen c.answer_others.new.world)
     c.answer_others.result (g.K.Sink.faults c.args.sink.now) (g.K.Sink.faults c.answer_others.new.sink)
     (g.K.Sink.written c.args.sink.now) (g.K.Sink.written c.answer_others.new.sink)
     (c.answer_others.ensures.live live)
