@@ -93,7 +93,8 @@ impl<S> NetWrite<S> {
     }
 
     fn fail(&mut self)
-        ensures told { net_write_told self.new ≡ record (net_write_told self.old) { faults = risen 1 self.old.faults } }
+        ensures told { net_write_told self.new
+            ≡ record (net_write_told self.old) { faults = risen 1 self.old.faults } }
     {
         self.faults = self.faults.saturating_add(1);
     }

@@ -30,7 +30,8 @@ fn publish_over<R: Wait, T: LinkWrite>(
     payload: &[u8],
     write: &mut T,
 ) -> Result<(), LiveError>
-    ensures { (head : _) → Took head (T.write_told write.old) → PublishedOver info.max_payload rest.items head subject.now
+    ensures { (head : _) → Took head (T.write_told write.old)
+        → PublishedOver info.max_payload rest.items head subject.now
         payload.now result (T.write_told write.new) }
 {
     let mut core = begin(alloc, info, rest, seed)?;

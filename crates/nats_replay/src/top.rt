@@ -239,7 +239,8 @@ fn status_of(refusal: Refusal) -> u8
     }
 }
 
-// What words come to that ask for no script and no list: a command on a live link, or the text that calls them unknown.
+// What words come to that ask for no script and no list: a command on a live link, or the text that calls them
+// unknown.
 fn answer_unlisted<R: Wait, K: Sink, W: World>(
     rt: &R,
     alloc: Global,
@@ -269,8 +270,8 @@ fn answer_unlisted<R: Wait, K: Sink, W: World>(
     }
 }
 
-// What words but `run` come to: `bulk N` to its eight lines, `pub` and `sub` to what comes of them, others to the text that calls
-// them unknown.
+// What words but `run` come to: `bulk N` to its eight lines, `pub` and `sub` to what comes of them, others to
+// the text that calls them unknown.
 fn answer_others<R: Wait, K: Sink, W: World>(
     rt: &R,
     alloc: Global,
@@ -314,16 +315,17 @@ fn answer_others<R: Wait, K: Sink, W: World>(
     }
 }
 
-/// What the program does: where the words are the one word `run`, it reads the source whole as a script, plays its turns
-/// and prints their transcript into the sink; where they are `bulk N`, N from 1 to 1,000,000 in decimal, it plays a list of N
-/// turns that is made by a rule, behind the opening of that list, and prints what its transcript comes to in eight lines; where
-/// they are `pub ADDR SUBJECT PAYLOAD` it connects to the server of that address, publishes that, and prints `published` once the
-/// link took all of it; where they are `sub ADDR SUBJECT N`, N in the same range, it connects, subscribes, takes N messages and
-/// prints each. These two use the world, others leave it alone, and may wait. It
-/// answers the status to exit with: 0, what was asked for is printed; 2, other words, which are called unknown; 3,
-/// the source failed; 4, the sink failed; 5, a line of the script cannot be read, and `script line k` says which is the first;
-/// 6, a turn of the script may not come where it stands, and `turn k out of turn` says which is the first; 7, want of memory;
-/// 8, more than 16,777,216 bytes; 9, connecting or a call was refused, whose text is printed, or the link ended first, and
+/// What the program does: where the words are the one word `run`, it reads the source whole as a script, plays
+/// its turns and prints their transcript into the sink; where they are `bulk N`, N from 1 to 1,000,000 in
+/// decimal, it plays a list of N turns that is made by a rule, behind the opening of that list, and prints what
+/// its transcript comes to in eight lines; where they are `pub ADDR SUBJECT PAYLOAD` it connects to the server
+/// of that address, publishes that, and prints `published` once the link took all of it; where they are `sub
+/// ADDR SUBJECT N`, N in the same range, it connects, subscribes, takes N messages and prints each. These two
+/// use the world, others leave it alone, and may wait. It answers the status to exit with: 0, what was asked
+/// for is printed; 2, other words, which are called unknown; 3, the source failed; 4, the sink failed; 5, a
+/// line of the script cannot be read, and `script line k` says which is the first; 6, a turn of the script may
+/// not come where it stands, and `turn k out of turn` says which is the first; 7, want of memory; 8, more than
+/// 16,777,216 bytes; 9, connecting or a call was refused, whose text is printed, or the link ended first, and
 /// `link ended` is. With 3, 7 and 8 nothing is printed. The words, the statuses and their order are our own
 /// choice.
 pub fn replay<R: Wait, S: Source, K: Sink, W: World>(
@@ -334,10 +336,11 @@ pub fn replay<R: Wait, S: Source, K: Sink, W: World>(
     sink: &mut K,
     world: &mut W,
 ) -> u8
-    // 0 to `run`: what was written is the printed transcript of the turns that the bytes held at entry spell, and they may
-    // come where they stand.
+    // 0 to `run`: what was written is the printed transcript of the turns that the bytes held at entry spell,
+    // and they may come where they stand.
     ensures transcript { result ≡ 0 → map string_bytes words.now ≡ run_words → IfSome (S.left source.old) (λ bytes.
-        (config : Config) × (turns : List Turn) × (script bytes ≡ Good config turns) × (out_of_turn config turns ≡ None)
+        (config : Config) × (turns : List Turn) × (script bytes ≡ Good config turns)
+        × (out_of_turn config turns ≡ None)
         × Appends (K.written sink.old) (K.written sink.new) (printed (transcript config turns))) }
     // Every answer is one of these.
     ensures status { IsTrue (is_status result) }
@@ -349,29 +352,36 @@ pub fn replay<R: Wait, S: Source, K: Sink, W: World>(
         (text : List _) × IsSummary n text × AppendsFront (K.written sink.old) (K.written sink.new) text }
     ensures bulk_complete { (n : _) → bulk_count (map string_bytes words.now) ≡ Some n →
         Still (K.faults sink.old) (K.faults sink.new) → (result ≡ 0) ⊎ (result ≡ 7) }
-    // 0 to `pub`: where the world tells its ended links, the last one took the handshake's text, a PONG for each PING that came
-    // with it, the text of the publish, and nothing else.
-    ensures published { (addr subject payload : List _) → live_of (map string_bytes words.now) ≡ publishes addr subject payload
+    // 0 to `pub`: where the world tells its ended links, the last one took the handshake's text, a PONG for
+    // each PING that came with it, the text of the publish, and nothing else.
+    ensures published { (addr subject payload : List _)
+        → live_of (map string_bytes words.now) ≡ publishes addr subject payload
         → result ≡ 0 → LastShows (WasPublished subject payload) (W.seen world.new)
         × Appends (K.written sink.old) (K.written sink.new) published_line }
-    // 0 to `sub`: where the world tells its ended links, what was written are the texts of the first N messages that the last one
-    // gave for the subscription, which it was asked for.
+    // 0 to `sub`: where the world tells its ended links, what was written are the texts of the first N messages
+    // that the last one gave for the subscription, which it was asked for.
     ensures received { (addr subject : List _) (n : _) → live_of (map string_bytes words.now) ≡ receives addr subject n
         → result ≡ 0 → (text : List _) × LastShows (WasReceived subject n text) (W.seen world.new)
         × Appends (K.written sink.old) (K.written sink.new) text }
     // 9: connecting or the call was refused, or the link ended first, and the text says so.
-    ensures not_published { (addr subject payload : List _) → live_of (map string_bytes words.now) ≡ publishes addr subject payload
-        → result ≡ 9 → (e : LiveError) × IsToldOf e × WhyNotPublished addr subject payload (W.seen world.old) e (W.seen world.new)
+    ensures not_published { (addr subject payload : List _)
+        → live_of (map string_bytes words.now) ≡ publishes addr subject payload
+        → result ≡ 9
+        → (e : LiveError) × IsToldOf e × WhyNotPublished addr subject payload (W.seen world.old) e (W.seen world.new)
         × Appends (K.written sink.old) (K.written sink.new) (error_line e) }
-    ensures not_received { (addr subject : List _) (n : _) → live_of (map string_bytes words.now) ≡ receives addr subject n
-        → result ≡ 9 → (e : LiveError) × IsToldOf e × WhyNotReceived addr subject n (W.seen world.old) e (W.seen world.new)
+    ensures not_received { (addr subject : List _) (n : _)
+        → live_of (map string_bytes words.now) ≡ receives addr subject n
+        → result ≡ 9
+        → (e : LiveError) × IsToldOf e × WhyNotReceived addr subject n (W.seen world.old) e (W.seen world.new)
         × Appends (K.written sink.old) (K.written sink.new) (error_line e) }
     ensures live { IsLive (map string_bytes words.now) → IsTrue (is_status_of_live result) }
     ensures refused_only { result ≡ 9 → IsLive (map string_bytes words.now) }
-    ensures pub_cut_short { (addr subject payload : List _) → live_of (map string_bytes words.now) ≡ publishes addr subject payload
+    ensures pub_cut_short { (addr subject payload : List _)
+        → live_of (map string_bytes words.now) ≡ publishes addr subject payload
         → result ≡ 4 → (text : List _) × PubPrints addr subject payload (W.seen world.old) text (W.seen world.new)
         × AppendsFront (K.written sink.old) (K.written sink.new) text }
-    ensures sub_cut_short { (addr subject : List _) (n : _) → live_of (map string_bytes words.now) ≡ receives addr subject n
+    ensures sub_cut_short { (addr subject : List _) (n : _)
+        → live_of (map string_bytes words.now) ≡ receives addr subject n
         → result ≡ 4 → (text : List _) × SubPrints addr subject n (W.seen world.old) text (W.seen world.new)
         × AppendsFront (K.written sink.old) (K.written sink.new) text }
     // Other words leave the world alone.
@@ -411,7 +421,8 @@ pub fn replay<R: Wait, S: Source, K: Sink, W: World>(
         Still (S.faults source.old) (S.faults source.new) → Still (K.faults sink.old) (K.faults sink.new) →
         (result ≡ 0) ⊎ (result ≡ 7)) }
     // Nothing else is printed.
-    ensures silent { result ≢ 0 → result ≢ 2 → result ≢ 4 → result ≢ 5 → result ≢ 6 → result ≢ 9 → sink.new ≡ sink.old }
+    ensures silent { result ≢ 0 → result ≢ 2 → result ≢ 4 → result ≢ 5 → result ≢ 6 → result ≢ 9
+        → sink.new ≡ sink.old }
 {
     if !are_run(words) {
         return answer_others(rt, alloc, words, sink, world);
