@@ -1,10 +1,6 @@
--- A round on default options is one without a pool: of texts, and of a client that offers nothing.
-use Rattle.std.proofs.Common.{refl, ◌∙◌, sym, ap, subst, inl, inr, ◌⊎◌, Ok, Err, None, false}
-use Rattle.url.specs.Parts.{Parts}
-use Rattle.nats_pool.specs.Auths.{auth_value}
+-- No count falls in a round.
 use Rattle.nats_pool.specs.PoolRounds.{pool_begins, pool_counts, pool_hands, pool_takes}
-use Rattle.nats_dial.proofs.Causing.{connects_on, connects_round, connects_up}
-use Rattle.nats_live.proofs.Dialing.{begun_round, if_err, if_ok, offers_default, plain_round, plain_up, refuses_texts}
+use Rattle.nats_dial.proofs.Causing.{connects_on}
 use Rattle.nats_live.proofs.dial.round.Goals as goal
 
 pub returns-clause-onward : goal.returns-clause-onward
