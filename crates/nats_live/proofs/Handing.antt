@@ -31,7 +31,7 @@ pub record OpenedAs (info : ServerInfo) (said rest bytes : List ℕ) (pieces : L
   pub bytes_are : concat shaken.later ≡ bytes
 
 no_some : {A B : Type 0} (x : A) → None ≡ Some x → B
-no_some x = cc
+no_some x is = cc
 
 opened_known : (info : ServerInfo) (rest said text bytes : List ℕ) (first : Option (List (List ℕ)))
     (later pieces : List (List ℕ))
