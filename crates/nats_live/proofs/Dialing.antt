@@ -21,8 +21,10 @@ use Rattle.nats_pool.specs.declared.server.Server.{Server}
 use Rattle.nats_pool.specs.declared.server.ReconnectToServer.{ReconnectToServer}
 use Rattle.nats_pool.specs.Discovery.{Discovers, DiscoversWhere}
 use Rattle.nats_pool.specs.declared.callbacks.ChoiceFn.{ChoiceFn}
-use Rattle.nats_pool.specs.Handing.{RoundTold, pool_told}
-use Rattle.nats_pool.specs.Pools.{Begins, NamedBy, numbers_left, options_of, round_of, servers_of}
+use Rattle.nats_pool.specs.declared.pool_parts.Next.{Next}
+use Rattle.nats_pool.specs.declared.pool_parts.Outcome.{Outcome}
+use Rattle.nats_pool.specs.Handing.{RoundTold, HandsNext, IsBegun, pool_told, told_of}
+use Rattle.nats_pool.specs.Pools.{Begins as Began, NamedBy, numbers_left, options_of, round_of, servers_of}
 use Rattle.nats_pool.specs.Rounds.{IsDefaultOrder, IsRoundBy, plan_of}
 use Rattle.nats_pool.specs.Servers.{new_server}
 use Rattle.nats_outside.specs.Told.{Seen, ReadTold, WriteTold}
@@ -36,9 +38,11 @@ use Rattle.nats_handshake.specs.Errors.{Failure}
 use Rattle.nats_handshake.specs.Heard.{RefusesIn, RefusesText}
 use Rattle.nats_handshake.specs.Shaking.{Declines, is_wanting, wanting}
 use Rattle.nats_dial.specs.Causes.{last_tls, LinkCause, ServerCause, Why, RoundCause}
-use Rattle.nats_dial.specs.Tries.{IsUp}
+use Rattle.nats_dial.specs.declared.linked.Linked.{Linked}
+use Rattle.nats_dial.specs.Tries.{Connects, IsUp}
+use Rattle.nats_dial.proofs.Causing.{connects_cause, connects_round, connects_up}
 use Rattle.nats_live.specs.declared.error.LiveError.TheVariants as refused
-use Rattle.nats_live.specs.Causes.{IsRoundWith, NotConnected, OffersNothing, RoundFailed, TakesTexts, WhyNotDialed, connect_refused}
+use Rattle.nats_live.specs.Causes.{IsRoundWith, default_timeout, NotConnected, OffersNothing, RoundFailed, TakesTexts, WhyNotDialed, connect_refused}
 use Rattle.nats_live.specs.Ended.{nothing}
 use Rattle.nats_live.specs.Pooled.{IsPoolOf}
 
@@ -226,7 +230,7 @@ module _ {X Y : Type 0} {F : X → Type 0} {G : Y → Type 0} {g : Mut ((x : X) 
   pub begun_round : (Answers : ChoiceFn Y G h → Vec Server → ServerInfo → Option ReconnectToServer → Type 0)
       (last : ServerInfo) (server : Parts)
       (p n : Pool X Y F G g h) (chosen : Choice) (told : RoundTold) → IsPoolOf server p
-          → Begins Answers last p n chosen
+          → Began Answers last p n chosen
       → told.round ≡ (pool_told n).round → told.limit ≡ (pool_told n).limit → IsRoundWith server told
   begun_round Answers last server p n chosen told is begins round limit =
       let named = none_named Answers (servers_of p) last begins.named
@@ -265,3 +269,78 @@ not_dialed addr server a b e before after spelled failed = by (is_wanting e.0) r
     by : (w : Bool) → is_wanting e.0 ≡ w → WhyNotDialed addr a (if w then refused.NoMemory else refused.Connect e) b
     by true is = tt
     by false is = why is failed
+
+-- ---- a round of connecting, by the names of what a pool says
+
+module _ {P R T : Type 0} (Takes : P → P → List (List ℕ) → Result (Unit {0}) AddrError → Type 0)
+    (Counts : Parts → Outcome → P → P → Type 0) (Hands : P → P → Next → Type 0)
+        (Begins : ServerInfo → P → P → Choice → Type 0)
+    (told : P → RoundTold) (Offers : List ℕ → Result AuthValue (List ℕ) → Type 0) (by_option : Bool)
+        (name : Option (List ℕ))
+    (no_echo : Bool) (timeout : ℕ) (read_of : R → ReadTold) (write_of : T → WriteTold)
+    (takes_round : (a b : P) (urls : List (List ℕ)) (r : Result (Unit {0}) AddrError) → Takes a b urls r
+        → told b ≡ told a)
+    (counts_round : (addr : Parts) (outcome : Outcome) (a b : P) → Counts addr outcome a b
+        → told b ≡ told_of outcome (told a))
+    (hands_round : (a b : P) (n : Next) → Hands a b n → HandsNext (told a) n (told b))
+    (begins_round : (last : ServerInfo) (a b : P) (chosen : Choice) → Begins last a b chosen
+        → IsBegun (told a) (told b))
+    (refuses : (p q : P) (urls : List (List ℕ)) (e : AddrError) → Takes p q urls (Err e)
+        → TakesTexts tt tt urls (Err e))
+    (offers : (nonce : List ℕ) (r : Result AuthValue (List ℕ)) → Offers nonce r → OffersNothing nonce r)
+  where
+    -- a link that came is one of a client that offers nothing
+    pub default_up : name ≡ None → no_echo ≡ false → (last : ServerInfo) (a : Seen) (p : P)
+        (result : Result (Linked R T) Failure)
+        (b : Seen) (q : P)
+        → Connects Takes Counts Hands Begins told Offers by_option name no_echo timeout read_of write_of last a p
+            result b q
+        → IfOk result (λ l. IsUp OffersNothing None false l.info l.rest.items (read_of l.read) (write_of l.write))
+    default_up unnamed echoes last a p (Ok l) b q connects =
+        let up = (connects_up Takes Counts Hands Begins told Offers by_option name no_echo timeout read_of write_of
+            takes_round
+            counts_round hands_round begins_round last a p l b q connects).1 in
+        subst (λ (n : Option (List ℕ)). IsUp OffersNothing n false l.info l.rest.items (read_of l.read)
+            (write_of l.write)) unnamed
+        (subst (λ (e : Bool). IsUp OffersNothing name e l.info l.rest.items (read_of l.read) (write_of l.write)) echoes
+            (plain_up Takes refuses Offers offers name no_echo l.info l.rest.items (read_of l.read)
+                (write_of l.write) up))
+    default_up unnamed echoes last a p (Err e) b q connects = tt
+
+    -- why none came, of a pool of one server
+    pub default_failed : by_option ≡ false → name ≡ None → no_echo ≡ false → timeout ≡ default_timeout
+        → (server : Parts) (p : P)
+        → ((last : ServerInfo) (n : P) (chosen : Choice) (t : RoundTold) → Begins last p n chosen
+            → t.round ≡ (told n).round
+            → t.limit ≡ (told n).limit → IsRoundWith server t)
+        → (last : ServerInfo) (a : Seen) (result : Result (Linked R T) Failure) (b : Seen) (q : P)
+        → Connects Takes Counts Hands Begins told Offers by_option name no_echo timeout read_of write_of last a p
+            result b q
+        → IfErr result (λ e. (e ≡ wanting) ⊎ (IsRoundWith server (told q) × RoundFailed (told p) (told q) a e b))
+    default_failed plain unnamed echoes time server p alone last a (Ok l) b q connects = tt
+    default_failed plain unnamed echoes time server p alone last a (Err e) b q connects =
+        by (connects_round Takes Counts Hands Begins told Offers by_option name no_echo timeout read_of write_of
+            takes_round
+            counts_round hands_round begins_round last a p e b q connects)
+      where
+        cause_here : RoundCause TakesTexts OffersNothing by_option name no_echo timeout (told p) (told q) a e b
+        cause_here = plain_round Takes refuses Offers offers by_option name no_echo timeout (told p) (told q) a e b
+            (connects_cause Takes Counts Hands Begins told Offers by_option name no_echo timeout read_of write_of
+                takes_round
+                counts_round hands_round begins_round last a p e b q connects)
+
+        failed : RoundFailed (told p) (told q) a e b
+        failed =
+            subst (λ (t : ℕ). RoundCause TakesTexts OffersNothing false None false t (told p) (told q) a e b) time
+            (subst (λ (o : Bool). RoundCause TakesTexts OffersNothing o None false timeout (told p) (told q) a e b)
+                plain
+            (subst (λ (n : Option (List ℕ)). RoundCause TakesTexts OffersNothing by_option n false timeout (told p)
+                (told q) a e b) unnamed
+            (subst (λ (x : Bool). RoundCause TakesTexts OffersNothing by_option name x timeout (told p) (told q) a e
+                b) echoes cause_here)))
+
+        by : (e ≡ wanting) ⊎ ((chosen : Choice) × (n : P) × Begins last p n chosen × ((told q).round ≡ (told n).round)
+            × ((told q).limit ≡ (told n).limit))
+            → (e ≡ wanting) ⊎ (IsRoundWith server (told q) × RoundFailed (told p) (told q) a e b)
+        by (inl is) = inl is
+        by (inr (chosen, n, begins, round, limit)) = inr (alone last n chosen (told q) begins round limit, failed)
