@@ -110,9 +110,10 @@ fn a_message_of_a_server_is_read_back(rt: HostRuntime) -> Result<(), Fail> {
     let alloc = rt.alloc();
     let mut connection = Connection::new(alloc);
     connection.feed(alloc, b"MSG FOO.BAR 1 11\r\nHello World\r\n")?;
-    match connection.try_read_op(alloc)? {
-        Some(ServerOp::Message { sid: _, message }) => assert!(rt; is_read_back(alloc, &message)?),
-        _ => assert!(rt; false),
+    let op = connection.try_read_op(alloc)?;
+    match &op {
+        Some(ServerOp::Message { message, .. }) => assert!(rt; is_read_back(alloc, message)?),
+        Some(_) | None => assert!(rt; false),
     }
     Ok(())
 }

@@ -35,8 +35,7 @@ fn tell_next(out: &mut String, next: &Next) -> Result<(), NoMemory> {
 }
 
 /// What four attempts of a round are answered, each behind a space.
-fn round(alloc: Global, options: ConnectOptions) -> Result<String, AddrError> {
-    let mut pool = failed_pool(alloc, options)?;
+fn round(alloc: Global, pool: &mut Pool) -> Result<String, NoMemory> {
     pool.begin_round(alloc, &ServerInfo::default(alloc))?;
     let mut out = String::new(alloc);
     for _ in 0..4 {
@@ -48,12 +47,12 @@ fn round(alloc: Global, options: ConnectOptions) -> Result<String, AddrError> {
 #[test]
 fn a_round_goes_by_the_failures_of_its_servers(rt: HostRuntime) -> Result<(), Fail> {
     let alloc = rt.alloc();
-    let in_order = round(alloc, ConnectOptions::new().retain_servers_order())?;
-    assert_eq!(rt; in_order.as_str(), "a b c over ");
-    let sorted = round(alloc, ConnectOptions::new())?;
-    assert!(rt; sorted.as_str().ends_with(" a over "));
-    let limited = round(alloc, ConnectOptions::new().max_reconnects(Some(2)))?;
-    assert!(rt; limited.as_str().ends_with(" most most "));
+    let mut in_order = failed_pool(alloc, ConnectOptions::new().retain_servers_order())?;
+    assert_eq!(rt; round(alloc, &mut in_order)?.as_str(), "a b c over ");
+    let mut sorted = failed_pool(alloc, ConnectOptions::new())?;
+    assert!(rt; round(alloc, &mut sorted)?.as_str().ends_with(" a over "));
+    let mut limited = failed_pool(alloc, ConnectOptions::new().max_reconnects(Some(2)))?;
+    assert!(rt; round(alloc, &mut limited)?.as_str().ends_with(" most most "));
     Ok(())
 }
 
