@@ -52,7 +52,11 @@ fn a_round_goes_by_the_failures_of_its_servers(rt: HostRuntime) -> Result<(), Fa
     let mut sorted = failed_pool(alloc, ConnectOptions::new())?;
     assert!(rt; round(alloc, &mut sorted)?.as_str().ends_with(" a over "));
     let mut limited = failed_pool(alloc, ConnectOptions::new().max_reconnects(Some(2)))?;
-    assert!(rt; round(alloc, &mut limited)?.as_str().ends_with(" most most "));
+    assert!(rt;
+        round(alloc, &mut limited)?
+            .as_str()
+            .ends_with(" most most ")
+    );
     Ok(())
 }
 
