@@ -1,7 +1,8 @@
 use nats_pool::{
-    Auth, AuthBox, AuthError, AuthFn, Choice, ChoiceBox, ConnectOptions, DelayBox, Event, EventBox,
-    EventFn, Next, NoMemory, Outcome, Pool, ReconnectToServer, Server, ServerAddr, ServerInfo,
-    SetServerPoolErrorKind, SignerBox, SignerFn, Text, addrs_of_texts, reconnect_delay_default,
+    AddrError, Auth, AuthBox, AuthError, AuthFn, Choice, ChoiceBox, ConnectOptions, DelayBox,
+    Event, EventBox, EventFn, Next, NoMemory, Outcome, Pool, ReconnectToServer, Server, ServerAddr,
+    ServerInfo, SetServerPoolErrorKind, SignerBox, SignerFn, Text, addrs_of_texts,
+    reconnect_delay_default,
 };
 use std::alloc::Global;
 use std::num::{NonZeroU16, NonZeroU64};
@@ -110,16 +111,16 @@ fn goes(alloc: Global, pool: &mut Pool, step: &Step) -> bool {
     }
 }
 
-// A pool of a, b and c goes through these steps.
-fn plays(alloc: Global, mut options: ConnectOptions, steps: &[Step]) -> bool {
-    let Ok(addrs) = addrs_of_texts(alloc, &["a", "b", "c"]) else {
-        return false;
-    };
-    let Ok(mut pool) = Pool::new(alloc, addrs, options.take_pool_options(), 7) else {
-        return false;
-    };
+// A pool of a, b and c.
+fn three(alloc: Global, mut options: ConnectOptions) -> Result<Pool, AddrError> {
+    let addrs = addrs_of_texts(alloc, &["a", "b", "c"])?;
+    Ok(Pool::new(alloc, addrs, options.take_pool_options(), 7)?)
+}
+
+// A pool goes through these steps.
+fn plays(alloc: Global, pool: &mut Pool, steps: &[Step]) -> bool {
     for step in steps {
-        if !goes(alloc, &mut pool, step) {
+        if !goes(alloc, pool, step) {
             return false;
         }
     }
@@ -127,56 +128,57 @@ fn plays(alloc: Global, mut options: ConnectOptions, steps: &[Step]) -> bool {
 }
 
 #[test]
-fn a_pool_goes_through_its_rounds(rt: HostRuntime) {
+fn a_pool_in_order_goes_through_its_round(rt: HostRuntime) -> Result<(), Fail> {
+    let alloc = rt.alloc();
+    let mut pool = three(alloc, ConnectOptions::new().retain_servers_order())?;
+    let steps = [
+        Step::Fails("a"),
+        Step::Begins(Choice::Default),
+        Step::Tries("a", 0),
+        Step::Tries("b", 2),
+        Step::Tries("c", 4),
+        Step::Over,
+    ];
+    assert!(rt; plays(alloc, &mut pool, &steps));
+    Ok(())
+}
+
+#[test]
+fn a_pool_goes_through_its_rounds(rt: HostRuntime) -> Result<(), Fail> {
     let alloc = rt.alloc();
     let mixed = Some(SetServerPoolErrorKind::MixedSchemes);
-    assert!(rt;
-        plays(
-            alloc,
-            ConnectOptions::new().retain_servers_order(),
-            &[
-                Step::Fails("a"),
-                Step::Begins(Choice::Default),
-                Step::Tries("a", 0),
-                Step::Tries("b", 2),
-                Step::Tries("c", 4),
-                Step::Over,
-            ]
-        )
-    );
-    assert!(rt;
-        plays(
-            alloc,
-            ConnectOptions::default(),
-            &[
-                Step::Fails("a"),
-                Step::Fails("a"),
-                Step::Begins(Choice::Default),
-                Step::TriesOne,
-                Step::TriesOne,
-                Step::Tries("a", 4),
-                Step::Over,
-                Step::Sets(&[], Some(SetServerPoolErrorKind::EmptyPool)),
-                Step::Sets(&["ws://a", "nats://b"], mixed),
-                Step::Sets(&["a", "d"], None),
-                Step::Counts(2, 0),
-                Step::Discovers("d", 2),
-                Step::Discovers("e", 3),
-            ]
-        )
-    );
-    assert!(rt;
-        plays(
-            alloc,
-            ConnectOptions::new().max_reconnects(Some(2)),
-            &[
-                Step::Begins(Choice::Default),
-                Step::TriesOne,
-                Step::TriesOne,
-                Step::Limit,
-            ]
-        )
-    );
+    let mut pool = three(alloc, ConnectOptions::default())?;
+    let steps = [
+        Step::Fails("a"),
+        Step::Fails("a"),
+        Step::Begins(Choice::Default),
+        Step::TriesOne,
+        Step::TriesOne,
+        Step::Tries("a", 4),
+        Step::Over,
+        Step::Sets(&[], Some(SetServerPoolErrorKind::EmptyPool)),
+        Step::Sets(&["ws://a", "nats://b"], mixed),
+        Step::Sets(&["a", "d"], None),
+        Step::Counts(2, 0),
+        Step::Discovers("d", 2),
+        Step::Discovers("e", 3),
+    ];
+    assert!(rt; plays(alloc, &mut pool, &steps));
+    Ok(())
+}
+
+#[test]
+fn a_limited_pool_ends_its_round(rt: HostRuntime) -> Result<(), Fail> {
+    let alloc = rt.alloc();
+    let mut pool = three(alloc, ConnectOptions::new().max_reconnects(Some(2)))?;
+    let steps = [
+        Step::Begins(Choice::Default),
+        Step::TriesOne,
+        Step::TriesOne,
+        Step::Limit,
+    ];
+    assert!(rt; plays(alloc, &mut pool, &steps));
+    Ok(())
 }
 
 fn last_one(servers: Vec<Server>, _info: ServerInfo) -> Option<ReconnectToServer> {
@@ -207,7 +209,10 @@ fn tries_the_named_one(alloc: Global) -> Result<bool, NoMemory> {
         Step::Tries("c", 2),
         Step::Over,
     ];
-    Ok(plays(alloc, options, &steps))
+    let Ok(mut pool) = three(alloc, options) else {
+        return Err(NoMemory);
+    };
+    Ok(plays(alloc, &mut pool, &steps))
 }
 
 fn other_one(alloc: Global) -> Option<ReconnectToServer> {
@@ -229,7 +234,10 @@ fn tries_all(alloc: Global) -> Result<bool, NoMemory> {
         Step::Tries("a", 0),
         Step::Tries("b", 2),
     ];
-    Ok(plays(alloc, options, &steps))
+    let Ok(mut pool) = three(alloc, options) else {
+        return Err(NoMemory);
+    };
+    Ok(plays(alloc, &mut pool, &steps))
 }
 
 fn itself(nonce: Vec<u8>) -> Result<Vec<u8>, AuthError> {

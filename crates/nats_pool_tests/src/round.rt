@@ -194,17 +194,22 @@ fn the_second_address_gives_a_link(rt: HostRuntime) -> Result<(), Fail> {
     Ok(())
 }
 
+/// Whether a handshake at this address reads an INFO, whose servers a pool takes in.
+fn reads(alloc: Global, addr: &ServerAddr, pool: &mut Pool, info: &[u8]) -> bool {
+    let options = ConnectOptions::new();
+    let Ok(mut shaking) = Handshake::new(alloc, addr, &options, 0) else {
+        return false;
+    };
+    shaking.feed(alloc, info, &options, pool).is_ok()
+}
+
 #[test]
 fn a_pool_takes_in_the_servers_of_an_info(rt: HostRuntime) -> Result<(), Fail> {
     let alloc = rt.alloc();
     let mut pool = pool(alloc, &["a"], None)?;
     let addr = ServerAddr::parse(alloc, "a").ok().ok_or("addr")?;
-    let options = ConnectOptions::new();
-    let mut shaking = Handshake::new(alloc, &addr, &options, 0)
-        .ok()
-        .ok_or("begun")?;
     let info = b"INFO {\"connect_urls\":[\"a\",\"b\",\"b\"]}\r\n";
-    assert!(rt; shaking.feed(alloc, info, &options, &mut pool).is_ok());
+    assert!(rt; reads(alloc, &addr, &mut pool, info));
     assert!(rt; knows(alloc, &pool, 0, false, "", 2)?);
     Ok(())
 }
