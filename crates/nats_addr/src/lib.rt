@@ -4,8 +4,6 @@
 mod addr;
 mod addrs;
 mod resolver;
-#[cfg(test)]
-mod tests;
 mod to_addrs;
 
 pub use addr::ServerAddr;

@@ -29,11 +29,20 @@ impl fmt::Display for Left {
     }
 }
 
-/// A link comes up where none is, of a server that says nothing of itself.
+/// The most bytes of a payload, as the server says.
+const MAX_PAYLOAD: u64 = 1_048_576;
+
+fn server_info(alloc: Global) -> ServerInfo {
+    let mut info = ServerInfo::default(alloc);
+    info.max_payload = MAX_PAYLOAD;
+    info
+}
+
+/// A link comes up where none is, of a server that says nothing of itself but the most bytes of a payload.
 pub fn bring_up(alloc: Global, session: &mut ConnectionHandler) -> Result<(), NoMemory> {
-    let turn = Turn::Up(ServerInfo::default(alloc));
-    if session.check(&turn) {
-        session.up(alloc, ServerInfo::default(alloc))?;
+    let info = server_info(alloc);
+    if session.check(&Turn::Up(info.copy(alloc)?)) {
+        session.up(alloc, info)?;
     }
     Ok(())
 }
@@ -64,7 +73,11 @@ fn number_of(reply: &CallReply) -> Option<u64> {
         | CallReply::NoNumber
         | CallReply::Full
         | CallReply::Flushed
-        | CallReply::FlushFailed => None,
+        | CallReply::Replied(_)
+        | CallReply::FlushFailed
+        | CallReply::NoResponders
+        | CallReply::TimedOut
+        | CallReply::Dropped => None,
     }
 }
 

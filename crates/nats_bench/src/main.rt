@@ -1,7 +1,10 @@
 //! Measures the session: a mixed list of turns is made in memory and played, and as many subscriptions are made and dropped
 //! again, one after another. `count N` prints what N turns showed and what N subscriptions left, `time N` how long they took.
 //! `links N` carries N subscriptions over N links and prints how long that took; `count N` does so with 20 at most. `flushes N`
-//! has N flushes wait behind one command and prints how long it took to settle and to hand out all; `count N` does so too.
+//! has N flushes wait behind one command and prints how long it took to settle and to hand out all; `requests N` makes N requests,
+//! a thousand of which wait at a time, and prints how long it took to answer all; `count N` does both too.
+//! `decode MIX N`, `encode MIX N` and `publish MIX N` measure the wire alone over N operations of a mix, `small`, `large`, `hmsg` or
+//! `mixed`; `count N` prints what each of these comes to, too.
 #![tactic(auto)]
 
 ghost use Rattle.std.specs.Prelude.{◌≤◌, IfSome};
@@ -12,13 +15,19 @@ mod counts;
 mod flushes;
 mod mix;
 mod report;
+mod requests;
+mod streams;
+mod wire;
 
 use crate::carry::{Carried, carry};
 use crate::churn::{Left, churn};
 use crate::counts::{Counts, counts_of};
 use crate::flushes::{Flushed, flush};
 use crate::mix::mixed_turns;
-use crate::report::{Report, Times};
+use crate::report::{Counted, Report, Times};
+use crate::requests::{Asked, request};
+use crate::streams::{MIXES, Mix};
+use crate::wire::{Outcome, WORKS, Work, come_to, measure_wire};
 use anyhow::{Result, anyhow};
 use nats_session::{Config, NoMemory, Subject, Token, run};
 use std::alloc::Global;
@@ -49,6 +58,10 @@ enum Command {
     Links(usize),
     /// How long it took to settle so many flushes.
     Flushes(usize),
+    /// How long it took to answer so many requests.
+    Requests(usize),
+    /// How long it took to decode or encode so many operations of a mix.
+    Code(Work, Mix, usize),
 }
 
 fn number_of(word: &str) -> Option<usize>
@@ -58,16 +71,33 @@ fn number_of(word: &str) -> Option<usize>
     (number <= TURN_LIMIT).then_some(number)
 }
 
+fn work_named(word: &str) -> Option<Work> {
+    WORKS.into_iter().find(|work| work.name() == word)
+}
+
+fn coding_of(word: &str, mix: &str, number: &str) -> Option<Command> {
+    let work = work_named(word)?;
+    let mix = Mix::named(mix)?;
+    let count = number_of(number)?;
+    Some(Command::Code(work, mix, count))
+}
+
 fn command_of(words: &[String]) -> Option<Command> {
-    let [word, number] = words else {
-        return None;
-    };
-    let count = number_of(number.as_str())?;
-    match word.as_str() {
+    match words {
+        [word, number] => playing_of(word.as_str(), number.as_str()),
+        [word, mix, number] => coding_of(word.as_str(), mix.as_str(), number.as_str()),
+        _ => None,
+    }
+}
+
+fn playing_of(word: &str, number: &str) -> Option<Command> {
+    let count = number_of(number)?;
+    match word {
         "count" => Some(Command::Count(count)),
         "time" => Some(Command::Time(count)),
         "links" => Some(Command::Links(count)),
         "flushes" => Some(Command::Flushes(count)),
+        "requests" => Some(Command::Requests(count)),
         _ => None,
     }
 }
@@ -128,12 +158,40 @@ fn play_flushes<R: Clock + AllocGlobal>(rt: &R, count: usize) -> Result<(Flushed
     Ok((flushed, start.elapsed(rt)?))
 }
 
+/// Answers `count` requests: what they came to, and how long it took.
+fn play_requests<R: Clock + AllocGlobal>(rt: &R, count: usize) -> Result<(Asked, Duration)> {
+    let config = settings(rt.alloc())?;
+    let start = Instant::now(rt)?;
+    let asked = request(rt.alloc(), config, count)?;
+    Ok((asked, start.elapsed(rt)?))
+}
+
+/// What `count` operations of the wire come to, of each kind and mix.
+fn coded(alloc: Global, count: usize) -> Result<Vec<Outcome>> {
+    let mut outcomes = Vec::new(alloc);
+    for work in WORKS {
+        for mix in MIXES {
+            outcomes.push(come_to(alloc, work, mix, count)?)?;
+        }
+    }
+    Ok(outcomes)
+}
+
 fn counted<R: Clock + AllocGlobal>(rt: &R, count: usize) -> Result<Report> {
     let (counts, _) = play(rt, count)?;
     let (left, _) = play_churn(rt, count)?;
     let (carried, _) = play_links(rt, count.min(CARRIED))?;
     let (flushed, _) = play_flushes(rt, count)?;
-    Ok(Report::Counted(counts, left, carried, flushed))
+    let (asked, _) = play_requests(rt, count)?;
+    let outcomes = coded(rt.alloc(), count)?;
+    Ok(Report::Counted(Counted {
+        counts,
+        left,
+        carried,
+        flushed,
+        asked,
+        outcomes,
+    }))
 }
 
 fn linked<R: Clock + AllocGlobal>(rt: &R, count: usize) -> Result<Report> {
@@ -141,9 +199,14 @@ fn linked<R: Clock + AllocGlobal>(rt: &R, count: usize) -> Result<Report> {
     Ok(Report::Linked(carried, elapsed))
 }
 
-fn flushed<R: Clock + AllocGlobal>(rt: &R, count: usize) -> Result<Report> {
+fn settled<R: Clock + AllocGlobal>(rt: &R, count: usize) -> Result<Report> {
     let (flushed, elapsed) = play_flushes(rt, count)?;
     Ok(Report::Flushed(flushed, elapsed))
+}
+
+fn answered<R: Clock + AllocGlobal>(rt: &R, count: usize) -> Result<Report> {
+    let (asked, elapsed) = play_requests(rt, count)?;
+    Ok(Report::Asked(asked, elapsed))
 }
 
 fn timed<R: Clock + AllocGlobal>(rt: &R, count: usize) -> Result<Report> {
@@ -175,7 +238,11 @@ fn measure<R: Clock + Env + AllocGlobal>(rt: &R) -> Result<Option<Report>> {
         Some(Command::Count(count)) => Ok(Some(counted(rt, count)?)),
         Some(Command::Time(count)) => Ok(Some(timed(rt, count)?)),
         Some(Command::Links(count)) => Ok(Some(linked(rt, count)?)),
-        Some(Command::Flushes(count)) => Ok(Some(flushed(rt, count)?)),
+        Some(Command::Flushes(count)) => Ok(Some(settled(rt, count)?)),
+        Some(Command::Requests(count)) => Ok(Some(answered(rt, count)?)),
+        Some(Command::Code(work, mix, count)) => {
+            Ok(Some(Report::Measured(measure_wire(rt, work, mix, count)?)))
+        }
         None => Ok(None),
     }
 }
@@ -192,7 +259,8 @@ fn main(rt: HostRuntime) -> ExitCode {
         Ok(Some(report)) => print(&rt, &report),
         Ok(None) => {
             let _ = eprintln!(rt;
-                "usage: nats_bench count N, time N, links N or flushes N; N is at most {TURN_LIMIT}"
+                "usage: nats_bench count|time|links|flushes|requests N, or decode|encode|publish MIX N; \
+                 N is at most {TURN_LIMIT}, MIX small, large, hmsg or mixed"
             );
             UNKNOWN
         }

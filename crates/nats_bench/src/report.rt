@@ -6,6 +6,8 @@ use crate::carry::Carried;
 use crate::churn::Left;
 use crate::counts::Counts;
 use crate::flushes::Flushed;
+use crate::requests::Asked;
+use crate::wire::{Measured, Outcome};
 use std::fmt;
 use std::time::Duration;
 
@@ -22,18 +24,48 @@ pub struct Times {
     pub dropped_twice: Duration,
 }
 
+/// What all kinds of work came to.
+#[derive(Drop)]
+pub struct Counted {
+    /// What a list of turns showed.
+    pub counts: Counts,
+    /// What subscriptions left that were made and dropped.
+    pub left: Left,
+    /// What others came to that were carried over links.
+    pub carried: Carried,
+    pub flushed: Flushed,
+    pub asked: Asked,
+    /// What a stream of the wire came to, of each kind and mix.
+    pub outcomes: Vec<Outcome>,
+}
+
+/// Prints a line for each count, and one for each stream.
+impl fmt::Display for Counted {
+    fn fmt<W: fmt::Write>(&self, f: &mut fmt::Formatter<W>) -> fmt::Result {
+        write!(f, "{}{}{}", self.counts, self.left, self.carried)?;
+        write!(f, "{}{}", self.flushed, self.asked)?;
+        for outcome in self.outcomes.as_slice() {
+            writeln!(f, "{outcome}")?;
+        }
+        Ok(())
+    }
+}
+
 /// What a command found.
-#[derive(Clone, Copy)]
+#[derive(Drop)]
 pub enum Report {
-    /// What a list of turns showed, what subscriptions left that were made and dropped, what others came to that were carried
-    /// over links, and what flushes came to.
-    Counted(Counts, Left, Carried, Flushed),
+    /// What all kinds of work came to.
+    Counted(Counted),
+    /// What a stream of the wire came to, and how long that took.
+    Measured(Measured),
     /// How long the first two took.
     Timed(Times),
     /// What subscriptions came to that were carried over links, and how long that took.
     Linked(Carried, Duration),
     /// What flushes came to, and how long that took.
     Flushed(Flushed, Duration),
+    /// What requests came to, and how long that took.
+    Asked(Asked, Duration),
 }
 
 /// How many of `count` are a second's share; a time of nothing is taken as one nanosecond.
@@ -67,9 +99,8 @@ impl fmt::Display for Times {
 impl fmt::Display for Report {
     fn fmt<W: fmt::Write>(&self, f: &mut fmt::Formatter<W>) -> fmt::Result {
         match self {
-            Report::Counted(counts, left, carried, flushed) => {
-                write!(f, "{counts}{left}{carried}{flushed}")
-            }
+            Report::Counted(counted) => write!(f, "{counted}"),
+            Report::Measured(measured) => write!(f, "{measured}"),
             Report::Timed(times) => write!(f, "{times}"),
             Report::Linked(carried, elapsed) => {
                 let millis = elapsed.as_millis();
@@ -78,6 +109,10 @@ impl fmt::Display for Report {
             Report::Flushed(flushed, elapsed) => {
                 let millis = elapsed.as_millis();
                 write!(f, "{flushed}in {millis} ms\n")
+            }
+            Report::Asked(asked, elapsed) => {
+                let millis = elapsed.as_millis();
+                write!(f, "{asked}in {millis} ms\n")
             }
         }
     }

@@ -9,6 +9,3 @@ mod lines;
 
 pub use block::{Block, read_block};
 pub use error::BlockError;
-
-#[cfg(test)]
-mod tests;

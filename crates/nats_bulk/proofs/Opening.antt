@@ -1,5 +1,5 @@
 -- The opening of the list, and the list behind it.
-use Rattle.std.proofs.Common.{◌≡◌, ℕ, zero, suc, ◌%◌, Bool, true, false, cond, [], ◌∷◌, ◌++◌, length, nat_lt, Some, None, refl, sym, ◌∙◌, ap, subst}
+use Rattle.std.proofs.Common.{◌≡◌, ℕ, zero, suc, ◌%◌, Bool, true, false, cond, [], ◌∷◌, length, nat_lt, Some, None, refl, sym, ◌∙◌, ap, subst}
 use Rattle.std.specs.Prelude.{codes}
 use Rattle.nats_info.specs.Info.{default_info}
 use Rattle.nats_wire.specs.Operations.{front}

@@ -10,6 +10,3 @@ pub use generated::{bulk_config, bulk_turns};
 pub use laws::in_turn;
 pub use nats_history::{Config, NoMemory, Transcript, Turn};
 pub use sums::summary;
-
-#[cfg(test)]
-mod tests;

@@ -31,7 +31,13 @@ fn is_accepted(reply: &CallReply) -> bool
 fn calls(rows: &[(u64, CallReply)]) -> usize
     ensures { result ≡ count_by words.was_accepted rows.now }
 {
-    rows.iter().filter(|(_, reply)| is_accepted(reply)).count()
+    let mut count = 0;
+    for (_, reply) in rows {
+        if is_accepted(reply) {
+            count += 1;
+        }
+    }
+    count
 }
 
 fn is_message(reply: &TakeReply) -> bool
@@ -55,7 +61,13 @@ fn messages(rows: &[(u64, TakeReply)]) -> usize
 fn settled(tickets: &[Option<(u64, CallReply)>]) -> usize
     ensures { result ≡ count_by is_some tickets.now }
 {
-    tickets.iter().filter(|ticket| ticket.is_some()).count()
+    let mut count = 0;
+    for ticket in tickets {
+        if ticket.is_some() {
+            count += 1;
+        }
+    }
+    count
 }
 
 fn sub_sums(rows: &[SubRow]) -> SubSums

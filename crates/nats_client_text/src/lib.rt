@@ -12,6 +12,3 @@ mod sight;
 
 pub use nats_wire::{Bytes, ClientOp, HeaderMap, NoMemory, Seq, Subject};
 pub use read::{ClientEnd, ClientFront, ClientRead, read_client_op, read_client_text};
-
-#[cfg(test)]
-mod tests;

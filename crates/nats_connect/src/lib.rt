@@ -2,8 +2,6 @@
 #![tactic(auto)]
 
 mod info;
-#[cfg(test)]
-mod tests;
 mod text;
 
 pub use info::{ConnectInfo, Protocol};

@@ -1,5 +1,5 @@
 -- What becomes of a list of servers at one read.
-use Rattle.std.proofs.Common.{◌≡◌, refl, ◌∙◌, sym, subst, inl, inr, ℕ, Bool, List, Option, Result, Ok, Err}
+use Rattle.std.proofs.Common.{◌≡◌, refl, ◌∙◌, sym, subst, ◌⊎◌, inl, inr, ℕ, Bool, List, Option, Result, Ok, Err}
 use Rattle.nats_names.specs.declared.addr_error.AddrError.{AddrError}
 use Rattle.nats_names.specs.declared.cause.Cause.{Cause}
 use Rattle.nats_info.specs.declared.info.ServerInfo.{ServerInfo}

@@ -1,2 +1,5 @@
+pub mod Causes
+pub mod Greets
 pub mod Lines
 pub mod Taking
+pub mod Tries

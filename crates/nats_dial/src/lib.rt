@@ -1,14 +1,19 @@
-//! The handshake of a link over its two halves and a clock, which are handed in.
+//! Connecting: a round of servers, each of its addresses dialed, the handshake of each link, over an outside that is handed in.
 #![tactic(auto)]
 
+mod address;
+mod connect;
+mod greet;
 mod link;
+mod linked;
+mod server;
 mod shake;
-#[cfg(test)]
-mod tests;
 mod turn;
 
+pub use connect::try_connect;
+pub use linked::Linked;
 pub use nats_handshake::{ConnectError, ConnectErrorKind, ConnectOptions, Handshake, NoMemory};
-pub use nats_outside::{Clock, LinkRead, LinkWrite};
-pub use nats_pool::ServerList;
+pub use nats_outside::{Clock, LinkRead, LinkWrite, Reach};
+pub use nats_pool::{Rounds, ServerList};
 pub use shake::shake_hands;
 pub use turn::READ_SIZE;

@@ -136,7 +136,11 @@ impl Draft {
             | CallReply::NoNumber
             | CallReply::Full
             | CallReply::Flushed
-            | CallReply::FlushFailed => Ok(()),
+            | CallReply::Replied(_)
+            | CallReply::FlushFailed
+            | CallReply::NoResponders
+            | CallReply::TimedOut
+            | CallReply::Dropped => Ok(()),
         }
     }
 
@@ -172,12 +176,16 @@ impl Draft {
             | CallReply::NoNumber
             | CallReply::Full
             | CallReply::Flushed
-            | CallReply::FlushFailed => Ok(()),
+            | CallReply::Replied(_)
+            | CallReply::FlushFailed
+            | CallReply::NoResponders
+            | CallReply::TimedOut
+            | CallReply::Dropped => Ok(()),
         }
     }
 
-    /// A flush was answered; where the reply has a number, it is that of its ticket.
-    pub fn note_flush(&mut self, place: u64, reply: CallReply) -> Result<(), NoMemory>
+    /// A flush or a request was answered; where the reply has a number, it is that of its ticket.
+    pub fn note_ticket(&mut self, place: u64, reply: CallReply) -> Result<(), NoMemory>
         ensures { OnOk result (self.new ≡ record self.old {
           tickets = added_ticket reply self.old.tickets;
           calls = self.old.calls ++ (place, reply) ∷ [];

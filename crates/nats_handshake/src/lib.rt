@@ -6,12 +6,8 @@ mod error;
 mod greeting;
 mod handshake;
 pub mod laws;
-#[cfg(test)]
-mod machine_tests;
 mod offer;
 mod stage;
-#[cfg(test)]
-mod tests;
 
 pub use course::{Course, Greeting, HANDSHAKE_OPERATIONS, Verdict, read_course, read_greeting};
 pub use error::{ConnectError, ConnectErrorKind, Refusal};

@@ -13,11 +13,11 @@ use Rattle.nats_header.specs.Block.{crlf, value_line, field_lines, lines_of, blo
 same_text : (a b : List ℕ) → bytes_eq a b ≡ true → a ≡ b
 same_text a b e = (bytes_decides a b).0 e
 
-same_self : (a : List ℕ) → bytes_eq a a ≡ true
+pub same_self : (a : List ℕ) → bytes_eq a a ≡ true
 same_self a = (bytes_decides a a).1 refl
 
 -- two texts that differ do so either way round
-differ : (a b : List ℕ) → bytes_eq a b ≡ false → bytes_eq b a ≡ false
+pub differ : (a b : List ℕ) → bytes_eq a b ≡ false → bytes_eq b a ≡ false
 differ a b e = turned (bytes_eq b a) refl
   where
     turned : (r : Bool) → bytes_eq b a ≡ r → bytes_eq b a ≡ false
@@ -25,11 +25,11 @@ differ a b e = turned (bytes_eq b a) refl
     turned true h = absurd (false≢true (sym e ∙ (bytes_decides a b).1 (sym ((bytes_decides b a).0 h))))
 
 -- what a test says of two values is known once its answer is
-cond_true : {A : Type 0} (b : Bool) (x y : A) → b ≡ true → cond b x y ≡ x
+pub cond_true : {A : Type 0} (b : Bool) (x y : A) → b ≡ true → cond b x y ≡ x
 cond_true true x y e = refl
 cond_true false x y e = absurd (false≢true e)
 
-cond_false : {A : Type 0} (b : Bool) (x y : A) → b ≡ false → cond b x y ≡ y
+pub cond_false : {A : Type 0} (b : Bool) (x y : A) → b ≡ false → cond b x y ≡ y
 cond_false false x y e = refl
 cond_false true x y e = absurd (true≢false e)
 
@@ -83,11 +83,11 @@ both true true p q = refl
 both true false p q = q
 both false b p q = p
 
-first_of_both : (a b : Bool) → (a && b) ≡ true → a ≡ true
+pub first_of_both : (a b : Bool) → (a && b) ≡ true → a ≡ true
 first_of_both true b p = refl
 first_of_both false b p = p
 
-second_of_both : (a b : Bool) → (a && b) ≡ true → b ≡ true
+pub second_of_both : (a b : Bool) → (a && b) ≡ true → b ≡ true
 second_of_both true b p = p
 second_of_both false b p = absurd (false≢true p)
 

@@ -3,6 +3,7 @@ pub mod Block
 pub mod Equality
 pub mod Errors
 pub mod Headers
+pub mod Json
 pub mod Kept
 pub mod Names
 pub mod Walk

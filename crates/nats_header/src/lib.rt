@@ -4,16 +4,17 @@
 mod error;
 mod fields;
 mod iter;
+mod json;
+mod json_error;
 mod known;
 mod lines;
 mod map;
 mod name;
-#[cfg(test)]
-mod tests;
 mod value;
 
 pub use error::HeaderError;
 pub use iter::{GetAll, HeaderIter};
+pub use json_error::JsonError;
 pub use known::{
     NATS_BATCH_COMMIT, NATS_BATCH_COMMIT_EOB, NATS_BATCH_COMMIT_FINAL, NATS_BATCH_ID,
     NATS_BATCH_SEQUENCE, NATS_EXPECTED_LAST_MESSAGE_ID, NATS_EXPECTED_LAST_SEQUENCE,

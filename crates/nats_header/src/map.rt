@@ -79,7 +79,7 @@ impl HeaderMap {
         }
     }
 
-    fn insert_field(
+    pub(crate) fn insert_field(
         &mut self,
         alloc: Global,
         name: HeaderName,
@@ -99,7 +99,7 @@ impl HeaderMap {
         Ok(())
     }
 
-    fn append_field(
+    pub(crate) fn append_field(
         &mut self,
         alloc: Global,
         name: HeaderName,

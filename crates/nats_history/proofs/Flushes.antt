@@ -6,7 +6,12 @@ use Rattle.std.proofs.lemmas.Bool.{leb-true, leb-false}
 use Rattle.nats_wire.specs.declared.op.ClientOp.{ClientOp}
 use Rattle.nats_wire.specs.Commands.{command_text}
 use Rattle.nats_history.specs.declared.config.Config.{Config}
-use Rattle.nats_history.specs.History.{Step, opened, taken, handled, link_end, closed, History, is_up, is_flush, next_number, at_of, rows_of, commands, link_text, taken_count, waiting_bytes, Awaits, Tickets, reaches, flushed_by, nearer, left_by, awaiting, flush_handled, ticket_of, tickets}
+use Rattle.nats_history.specs.declared.call.Call.{Call}
+use Rattle.nats_history.specs.declared.call.Call.TheVariants.{Flush, Request}
+use Rattle.nats_history.specs.declared.waits.Waits.{Waits}
+use Rattle.nats_history.specs.declared.waits.Waits.TheVariants as waits
+use Rattle.nats_history.specs.Queue.{first}
+use Rattle.nats_history.specs.History.{Step, opened, taken, handled, link_end, closed, History, is_up, requested, at_of, rows_of, commands, link_text, taken_count, waiting_bytes, Awaits, Tickets, reaches, flushed_by, nearer, left_by, awaiting, flush_handled, request_handled, ticket_handled, ticket_of, tickets}
 use Rattle.nats_history.specs.After.{write_all, written}
 use Rattle.nats_history.specs.Laws.{FlushesReached}
 use Rattle.nats_history.proofs.Refines.{bytes_next}
@@ -62,16 +67,28 @@ grows true (command ∷ more) text = longer (command ∷ more) text
 grows false [] text = omega arith
 grows false (command ∷ more) text = omega arith
 
-no_fewer : (c : Config) (h : History) (place : ℕ) (step : Step) → waiting_bytes c ((place, step) ∷ h) ≡ written (is_up h) (commands c (at_of h) (rows_of c h) step) (waiting_bytes c h)
+no_fewer : (c : Config) (h : History) (place : ℕ) (step : Step) → waiting_bytes c ((place, step) ∷ h) ≡ written (is_up h) (commands c (requested h) (at_of h) (rows_of c h) step) (waiting_bytes c h)
     → length (waiting_bytes c h) ≤ length (waiting_bytes c ((place, step) ∷ h))
 no_fewer c h place step e =
-    let more = grows (is_up h) (commands c (at_of h) (rows_of c h) step) (drop (taken_count c h) (link_text c h)) in
+    let more = grows (is_up h) (commands c (requested h) (at_of h) (rows_of c h) step) (drop (taken_count c h) (link_text c h)) in
     omega (arith, more, ap length e)
 
-order_handled : (b : Bool) (next : Option ℕ) (t : Tickets) (waiting : ℕ) → InOrder 0 t.flushing waiting → InOrder 0 (cond b (flush_handled next waiting t) t).flushing waiting
-order_handled true None t waiting o = o
-order_handled true (Some ticket) t waiting o = order_await 0 ticket t.flushing waiting o
-order_handled false next t waiting o = o
+order_flush : (next : Option Waits) (t : Tickets) (waiting : ℕ) → InOrder 0 t.flushing waiting → InOrder 0 (flush_handled waiting next t).flushing waiting
+order_flush (Some waits.Flush) t waiting o = order_await 0 (suc t.handled) t.flushing waiting o
+order_flush (Some waits.Request) t waiting o = o
+order_flush (Some waits.Late) t waiting o = o
+order_flush None t waiting o = o
+
+order_request : (subject : List ℕ) (next : Option Waits) (t : Tickets) (waiting : ℕ) → InOrder 0 t.flushing waiting → InOrder 0 (request_handled subject next t).flushing waiting
+order_request subject (Some waits.Flush) t waiting o = o
+order_request subject (Some waits.Request) t waiting o = o
+order_request subject (Some waits.Late) t waiting o = o
+order_request subject None t waiting o = o
+
+order_handled : (c : Config) (call : Call) (t : Tickets) (waiting : ℕ) → InOrder 0 t.flushing waiting → InOrder 0 (ticket_handled c waiting call t).flushing waiting
+order_handled c Flush t waiting o = order_flush (first t.queued) t waiting o
+order_handled c (Request subject payload headers token) t waiting o = order_request _ (first t.queued) t waiting o
+order_handled c call t waiting o = o
 
 ordered : (c : Config) (h : History) → InOrder 0 (tickets c h).flushing (length (waiting_bytes c h))
 unfolding InOrder
@@ -89,7 +106,7 @@ ordered c ((place, handled call) ∷ h) =
     let t = tickets c h in
     order_more 0 (tickets c ((place, handled call) ∷ h)).flushing (length (waiting_bytes c h)) (length (waiting_bytes c ((place, handled call) ∷ h)))
     (no_fewer c h place (handled call) (bytes_next c h place (handled call)))
-    (order_handled (is_flush call) (next_number t.given t.handled) t (length (waiting_bytes c h)) (ordered c h))
+    (order_handled c call t (length (waiting_bytes c h)) (ordered c h))
 ordered c ((place, step) ∷ h) =
     order_more 0 (tickets c h).flushing (length (waiting_bytes c h)) (length (waiting_bytes c ((place, step) ∷ h)))
     (no_fewer c h place step (bytes_next c h place step)) (ordered c h)

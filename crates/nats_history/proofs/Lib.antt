@@ -1,3 +1,4 @@
+pub mod Cuts
 pub mod Drains
 pub mod Dues
 pub mod Flushes

@@ -5,7 +5,7 @@ use Rattle.std.proofs.Math.Seq.{drop-nil}
 use Rattle.nats_wire.specs.declared.op.ClientOp.{ClientOp}
 use Rattle.nats_wire.specs.Operations.{Front, got, unfinished, fault, front, past, behind}
 use Rattle.nats_history.specs.declared.config.Config.{Config}
-use Rattle.nats_history.specs.History.{Step, opened, fed, read, taken, accepted, handled, link_end, History, is_up, joined, is_got, reads, unread, calls, handled_count, waiting_calls, at_of, given, numbers, told, sub_of, kept, rows_of, commands, texts, text_by, link_text, taken_count, waiting_bytes}
+use Rattle.nats_history.specs.History.{Step, opened, fed, read, taken, accepted, handled, link_end, History, is_up, requested, joined, is_got, reads, unread, calls, handled_count, waiting_calls, at_of, given, numbers, told, sub_of, kept, rows_of, commands, texts, text_by, link_text, taken_count, waiting_bytes}
 use Rattle.nats_history.specs.Parts.{parts_of}
 use Rattle.nats_history.specs.After.{written, bytes_after, unread_after, calls_after, after}
 use Rattle.nats_history.proofs.Words.{drop_one_more, drop_more_of, calls_accepted, unread_read, unread_fed, waiting_more, written_all}
@@ -47,12 +47,12 @@ written_bytes false [] all waiting e = refl
 written_bytes true (command ∷ more) all waiting e = e ∙ written_all (command ∷ more) waiting
 written_bytes false (command ∷ more) all waiting e = refl
 
-pub bytes_next : (c : Config) (h : History) (place : ℕ) (step : Step) → waiting_bytes c ((place, step) ∷ h) ≡ bytes_after (is_up h) (commands c (at_of h) (rows_of c h) step) step (waiting_bytes c h)
-bytes_next c h place (opened info) = written_all (commands c (at_of h) (rows_of c h) (opened info)) []
+pub bytes_next : (c : Config) (h : History) (place : ℕ) (step : Step) → waiting_bytes c ((place, step) ∷ h) ≡ bytes_after (is_up h) (commands c (requested h) (at_of h) (rows_of c h) step) step (waiting_bytes c h)
+bytes_next c h place (opened info) = written_all (commands c (requested h) (at_of h) (rows_of c h) (opened info)) []
 bytes_next c h place (link_end word) = refl
 bytes_next c h place (taken n) = taken_bytes (is_up h) (taken_count c h) n (link_text c h)
 bytes_next c h place step =
-    written_bytes (is_up h) (commands c (at_of h) (rows_of c h) step) _ (drop (taken_count c h) (link_text c h)) (waiting_more c h (text_by c h step))
+    written_bytes (is_up h) (commands c (requested h) (at_of h) (rows_of c h) step) _ (drop (taken_count c h) (link_text c h)) (waiting_more c h (text_by c h step))
 
 -- ---- calls
 

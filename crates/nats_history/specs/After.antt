@@ -9,10 +9,11 @@ use Rattle.nats_wire.specs.Wire.{Wire}
 use Rattle.nats_history.specs.declared.config.Config.{Config}
 use Rattle.nats_history.specs.declared.call.Call.{Call}
 use Rattle.nats_history.specs.declared.call.CallReply.{CallReply}
-use Rattle.nats_history.specs.History.{Step, opened, fed, read, taken, accepted, handled, took, gone, link_end, closed, links_after, up_after, closed_after, drain_after, max_payload_after, info_after, all_reads_after, pings_after, cut, subscribes, At, given_after, subscribed_after, about, Sub, puts, interest_after, stage_after, shut_after, gone_after, draining_after, limit_after, kept, commands, tickets_after, settles, new_events}
+use Rattle.nats_history.specs.History.{Step, opened, fed, read, taken, accepted, handled, took, gone, link_end, closed, links_after, up_after, closed_after, drain_after, max_payload_after, info_after, all_reads_after, pings_after, cut, subscribes, requested_after, At, given_after, subscribed_after, about, Sub, puts, interest_after, stage_after, shut_after, gone_after, draining_after, limit_after, kept, commands, tickets_after, settles, new_events}
 use Rattle.nats_history.specs.declared.stage.Stage.TheVariants.{Asked}
 use Rattle.nats_history.specs.declared.ping.Ping.{Ping}
 use Rattle.nats_tables.specs.Numbers.{change}
+use Rattle.nats_history.specs.Counts.{statistics_after}
 use Rattle.nats_history.specs.Parts.{Link, Subs, Parts, at_with, at_in}
 use Rattle.nats_history.specs.Schedule.{chain, due, most_due}
 
@@ -116,7 +117,7 @@ link_after commands step link = record {
 
 -- the commands that a step writes, where these are the parts before it
 abbrev pub commands_of : Parts → Step → List ClientOp
-commands_of p step = commands p.config (at_in p) p.subs.rows step
+commands_of p step = commands p.config p.requested (at_in p) p.subs.rows step
 
 -- the events that a step gives out, where these are the parts before it
 abbrev pub events_of : Parts → Step → List Event
@@ -124,7 +125,7 @@ events_of p step = new_events p.config p.subs.rows step
 
 -- the tickets that a step settles, where these are the parts before it
 abbrev pub settled_of : Parts → Step → List (ℕ × CallReply)
-settled_of p step = settles (length p.link.wire.waiting) step p.tickets
+settled_of p step = settles p.config (length p.link.wire.waiting) step p.tickets
 
 abbrev pub after : Parts → Step → Parts
 after p step = record {
@@ -134,7 +135,9 @@ after p step = record {
   link = link_after (commands_of p step) step p.link;
   calls = calls_after step p.calls;
   subs = subs_after p.config p.link.pings step p.subs;
-  tickets = tickets_after (length p.link.wire.waiting) step p.tickets;
+  requested = requested_after step p.requested;
+  tickets = tickets_after p.config (length p.link.wire.waiting) step p.tickets;
+  statistics = statistics_after p.config step p.statistics;
 }
 
 abbrev pub after_all : Parts → List Step → Parts

@@ -1,5 +1,6 @@
 -- What happened to a session, and the words that tell of it.
-use Rattle.std.specs.Prelude.{ℕ, zero, suc, ◌+◌, ◌-◌, ◌^◌, Bool, true, false, not, ◌&&◌, ◌||◌, nat_lt, nat_le, min, List, [], ◌∷◌, ◌++◌, length, drop, map, Option, Some, None, is_some, if◌then◌else◌}
+use Rattle.std.specs.Prelude.{ℕ, zero, suc, ◌+◌, ◌-◌, ◌^◌, Bool, true, false, not, ◌&&◌, ◌||◌, ◌==◌, nat_lt, nat_le, min, List, [], ◌∷◌, ◌++◌, length, drop, map, Option, Some, None, is_some, if◌then◌else◌, codes}
+use Rattle.std.specs.Str.{bytes_eq}
 use Rattle.nats_names.specs.declared.event.Event.{Event}
 use Rattle.nats_names.specs.declared.event.Event.TheVariants.{Connected, Disconnected, LameDuckMode, Draining, Closed, SlowConsumer, ServerError}
 use Rattle.nats_info.specs.declared.info.ServerInfo.{ServerInfo}
@@ -10,14 +11,16 @@ use Rattle.nats_wire.specs.Operations.{Operation, message, info_op, error_op, pi
 use Rattle.nats_wire.specs.Commands.{command_text}
 use Rattle.nats_history.specs.declared.config.Config.{Config}
 use Rattle.nats_history.specs.declared.call.Call.{Call}
-use Rattle.nats_history.specs.declared.call.Call.TheVariants.{Publish, Subscribe, Unsubscribe, Limit, Drain, DrainAll, Flush, DropSub}
+use Rattle.nats_history.specs.declared.call.Call.TheVariants.{Publish, Subscribe, Unsubscribe, Limit, Drain, DrainAll, Flush, Request, DropSub}
 use Rattle.nats_history.specs.declared.call.CallReply.{CallReply}
-use Rattle.nats_history.specs.declared.call.CallReply.TheVariants.{Flushed, FlushFailed}
+use Rattle.nats_history.specs.declared.call.CallReply.TheVariants.{Flushed, Replied, FlushFailed, NoResponders, TimedOut, Dropped}
 use Rattle.nats_history.specs.declared.call.Interest.{Interest}
 use Rattle.nats_history.specs.declared.ping.Ping.{Ping}
 use Rattle.nats_history.specs.declared.ping.Ping.TheVariants as pinged
 use Rattle.nats_history.specs.declared.stage.Stage.{Stage}
 use Rattle.nats_history.specs.declared.stage.Stage.TheVariants.{Asked, Open, Ended}
+use Rattle.nats_history.specs.declared.waits.Waits.{Waits}
+use Rattle.nats_history.specs.declared.waits.Waits.TheVariants as waits
 use Rattle.nats_history.specs.declared.transcript.LinkWord.{LinkWord}
 use Rattle.nats_history.specs.declared.transcript.LinkWord.TheVariants as word
 use Rattle.nats_history.specs.Queue.{first}
@@ -44,6 +47,8 @@ pub data Step : Type 0 where
   took : ℕ → Step
   -- the subscription of that number was let go by its user
   gone : ℕ → Step
+  -- the deadline of the request of that ticket came before it settled
+  passed : ℕ → Step
   -- the link ended
   link_end : LinkWord → Step
   -- the session closed
@@ -227,10 +232,20 @@ abbrev pub drains_all : Call → Bool
 drains_all DrainAll = true
 drains_all call = false
 
--- a call that is given a ticket when it is accepted, and whose handling settles it or has it await bytes
-abbrev pub is_flush : Call → Bool
-is_flush Flush = true
-is_flush call = false
+-- what a call that is given a ticket when it is accepted waits as, if it is one
+abbrev pub waits_as : Call → Option Waits
+waits_as Flush = Some waits.Flush
+waits_as (Request subject payload headers token) = Some waits.Request
+waits_as call = None
+
+-- a call that is given a ticket when it is accepted
+abbrev pub takes_ticket : Call → Bool
+takes_ticket call = is_some (waits_as call)
+
+-- a call that asks for a reply
+abbrev pub requests : Call → Bool
+requests (Request subject payload headers token) = true
+requests call = false
 
 -- the subscription that the user of a call lets go, whatever the reply
 abbrev pub lets_go : Call → Option ℕ
@@ -246,6 +261,15 @@ drain_after step drain = drain
 abbrev pub whole_drain : History → WholeDrain
 whole_drain [] = record { is_accepted = false; is_handled = false }
 whole_drain ((place, step) ∷ h) = drain_after step (whole_drain h)
+
+abbrev pub requested_after : Step → Bool → Bool
+requested_after (handled call) requested = requests call || requested
+requested_after step requested = requested
+
+-- a request was handled, on whichever link
+abbrev pub requested : History → Bool
+requested [] = false
+requested ((place, step) ∷ h) = requested_after step (requested h)
 
 -- what a step's meaning hangs on
 pub record At : Type 0 where
@@ -558,16 +582,31 @@ commands_from g s (sub ∷ more) = g s sub ++ commands_from g (suc s) more
 abbrev pub unsubscribed : ℕ → Sub → List ClientOp
 unsubscribed s sub = unsubscribe_command (is_open sub.stage) s None
 
--- the commands of a call that is handled
-abbrev pub call_commands : At → List Sub → Call → List ClientOp
-call_commands at subs (Publish m) = client.Publish m.subject m.payload m.reply m.headers ∷ []
-call_commands at subs (Subscribe subject group) = subscribe_command (next_subscribed at) subject group
-call_commands at subs (Unsubscribe s) = unsubscribe_command (is_open_at (item_of s subs)) s None
-call_commands at subs (Limit s n) = unsubscribe_command (is_open_at (item_of s subs)) s (Some n)
-call_commands at subs (DropSub s) = unsubscribe_command (is_open_at (item_of s subs)) s None
-call_commands at subs (Drain s) = unsubscribe_command (is_open_at (item_of s subs)) s None ++ client.Ping ∷ []
-call_commands at subs DrainAll = commands_from unsubscribed 1 subs ++ client.Ping ∷ []
-call_commands at subs call = []
+-- what the subjects of all replies to requests begin with: the inbox prefix and the mux id, with a dot behind each
+abbrev pub inbox : Config → List ℕ
+inbox c = c.inbox_prefix ++ codes "." ++ c.mux_id ++ codes "."
+
+-- the subject of the reply to a request with a token
+abbrev pub inbox_of : Config → List ℕ → List ℕ
+inbox_of c token = inbox c ++ token
+
+-- the command that asks for the replies to requests, under number 0
+abbrev pub inbox_commands : Config → Bool → List ClientOp
+inbox_commands c false = []
+inbox_commands c true = client.Subscribe 0 (inbox c ++ codes "*") None ∷ []
+
+-- the commands of a call that is handled, where a request was handled before or was not
+abbrev pub call_commands : Config → Bool → At → List Sub → Call → List ClientOp
+call_commands c asked at subs (Publish m) = client.Publish m.subject m.payload m.reply m.headers ∷ []
+call_commands c asked at subs (Subscribe subject group) = subscribe_command (next_subscribed at) subject group
+call_commands c asked at subs (Unsubscribe s) = unsubscribe_command (is_open_at (item_of s subs)) s None
+call_commands c asked at subs (Limit s n) = unsubscribe_command (is_open_at (item_of s subs)) s (Some n)
+call_commands c asked at subs (DropSub s) = unsubscribe_command (is_open_at (item_of s subs)) s None
+call_commands c asked at subs (Drain s) = unsubscribe_command (is_open_at (item_of s subs)) s None ++ client.Ping ∷ []
+call_commands c asked at subs DrainAll = commands_from unsubscribed 1 subs ++ client.Ping ∷ []
+call_commands c asked at subs (Request subject payload headers token) =
+    inbox_commands c (not asked) ++ client.Publish subject payload (Some (inbox_of c token)) headers ∷ []
+call_commands c asked at subs call = []
 
 -- what is left of a limit after so many puts, if there is one
 abbrev pub limit_commands : ℕ → ℕ → Option ℕ → List ClientOp
@@ -586,14 +625,15 @@ again s sub = if listens sub then subscribed_again s sub sub.interest else []
 abbrev pub all_again : ℕ → List Sub → List ClientOp
 all_again s subs = commands_from again s subs
 
--- the commands that a step writes, where these are the subscriptions before it
-abbrev pub commands : Config → At → List Sub → Step → List ClientOp
-commands c at subs (opened info) = all_again 1 subs
-commands c at subs (handled call) = call_commands at subs call
-commands c at subs (read (message sid m)) = unsubscribe_command (is_closing_at (item_of sid subs)) sid None
-commands c at subs (read ping_op) = client.Pong ∷ []
-commands c at subs ticked = client.Ping ∷ []
-commands c at subs step = []
+-- the commands that a step writes, where these are the subscriptions before it and a request was handled before or was not: a
+-- new link asks for the replies again where one was
+abbrev pub commands : Config → Bool → At → List Sub → Step → List ClientOp
+commands c asked at subs (opened info) = all_again 1 subs ++ inbox_commands c asked
+commands c asked at subs (handled call) = call_commands c asked at subs call
+commands c asked at subs (read (message sid m)) = unsubscribe_command (is_closing_at (item_of sid subs)) sid None
+commands c asked at subs (read ping_op) = client.Pong ∷ []
+commands c asked at subs ticked = client.Ping ∷ []
+commands c asked at subs step = []
 
 abbrev pub texts : List ClientOp → List ℕ
 texts [] = []
@@ -601,7 +641,7 @@ texts (command ∷ more) = command_text command ++ texts more
 
 -- the text that a step writes after a history
 abbrev pub text_by : Config → History → Step → List ℕ
-text_by c h step = texts (commands c (at_of h) (rows_of c h) step)
+text_by c h step = texts (commands c (requested h) (at_of h) (rows_of c h) step)
 
 -- the text of the newest link: that of the commands written since it came up
 abbrev pub link_text : Config → History → List ℕ
@@ -630,10 +670,16 @@ pub record Awaits : Type 0 where
 pub record Tickets : Type 0 where
   -- how many were given
   pub given : ℕ
-  -- of how many of the first the flush was handled, or dropped at the close
+  -- of how many of the first the call was handled, or dropped at the close
   pub handled : ℕ
+  -- of each ticket by its number, whether its call is a request
+  pub of_request : List Bool
+  -- what the calls of the tickets behind the handled ones wait as, oldest first
+  pub queued : List Waits
   -- the handled flushes that await bytes, oldest first
   pub flushing : List Awaits
+  -- the handled requests that wait for a reply, oldest first, each with its ticket and the subject of its reply
+  pub asking : List (ℕ × List ℕ)
 
 -- n more bytes reach what a flush awaits
 abbrev pub reaches : ℕ → Awaits → Bool
@@ -662,47 +708,173 @@ abbrev pub flushed_at_once : ℕ → ℕ → List ℕ
 flushed_at_once ticket zero = ticket ∷ []
 flushed_at_once ticket (suc n) = []
 
-abbrev pub flush_handled : Option ℕ → ℕ → Tickets → Tickets
-flush_handled None waiting t = t
-flush_handled (Some ticket) waiting t = record t { handled = ticket; flushing = t.flushing ++ awaiting ticket waiting }
+-- the oldest ticket whose call waits is of a flush, which is handled while so many bytes wait
+abbrev pub flush_handled : ℕ → Option Waits → Tickets → Tickets
+flush_handled waiting (Some waits.Flush) t =
+    record t { handled = suc t.handled; queued = drop 1 t.queued; flushing = t.flushing ++ awaiting (suc t.handled) waiting }
+flush_handled waiting next t = t
 
-abbrev pub flush_settled : Option ℕ → ℕ → List ℕ
-flush_settled None waiting = []
-flush_settled (Some ticket) waiting = flushed_at_once ticket waiting
+abbrev pub flush_settled : ℕ → Option Waits → Tickets → List ℕ
+flush_settled waiting (Some waits.Flush) t = flushed_at_once (suc t.handled) waiting
+flush_settled waiting next t = []
 
--- the k-th accepted flush has ticket k; what waits before a step says what a flush that it handles awaits
-abbrev pub tickets_after : ℕ → Step → Tickets → Tickets
-tickets_after waiting (accepted call) t = record t { given = if is_flush call then suc t.given else t.given }
-tickets_after waiting (handled call) t = if is_flush call then flush_handled (next_number t.given t.handled) waiting t else t
-tickets_after waiting (taken n) t = record t { flushing = left_by n t.flushing }
-tickets_after waiting (opened info) t = record t { flushing = [] }
-tickets_after waiting (link_end end) t = record t { flushing = [] }
-tickets_after waiting closed t = record t { handled = t.given; flushing = [] }
-tickets_after waiting step t = t
+-- ---- requests
 
-abbrev pub ticket_of : Awaits → ℕ
-ticket_of flush = flush.ticket
+-- the ticket of the request whose reply comes to a subject, if one waits for it: no two wait for the same
+abbrev pub request_at : List ℕ → List (ℕ × List ℕ) → Option ℕ
+request_at subject [] = None
+request_at subject (request ∷ more) = if bytes_eq subject request.1 then Some request.0 else request_at subject more
+
+-- the other requests
+abbrev pub requests_elsewhere : List ℕ → List (ℕ × List ℕ) → List (ℕ × List ℕ)
+requests_elsewhere subject [] = []
+requests_elsewhere subject (request ∷ more) = if bytes_eq subject request.1 then more else request ∷ requests_elsewhere subject more
+
+-- the request of a ticket waits for its reply
+abbrev pub waits_for_reply : ℕ → List (ℕ × List ℕ) → Bool
+waits_for_reply ticket [] = false
+waits_for_reply ticket (request ∷ more) = (ticket == request.0) || waits_for_reply ticket more
+
+-- the other requests
+abbrev pub requests_but : ℕ → List (ℕ × List ℕ) → List (ℕ × List ℕ)
+requests_but ticket [] = []
+requests_but ticket (request ∷ more) = if ticket == request.0 then more else request ∷ requests_but ticket more
+
+-- the oldest ticket whose call waits is of a request, which is handled: it waits for its reply, but where its deadline came
+-- before; an older one that waits for a reply to the same subject waits no more
+abbrev pub request_handled : List ℕ → Option Waits → Tickets → Tickets
+request_handled subject (Some waits.Request) t = record t {
+  handled = suc t.handled;
+  queued = drop 1 t.queued;
+  asking = requests_elsewhere subject t.asking ++ (suc t.handled, subject) ∷ [];
+}
+request_handled subject (Some waits.Late) t =
+    record t { handled = suc t.handled; queued = drop 1 t.queued; asking = requests_elsewhere subject t.asking }
+request_handled subject next t = t
+
+abbrev pub displaced : List ℕ → Option Waits → Tickets → Option ℕ
+displaced subject (Some waits.Request) t = request_at subject t.asking
+displaced subject (Some waits.Late) t = request_at subject t.asking
+displaced subject next t = None
+
+abbrev pub waits_late : Waits → Waits
+waits_late waits.Request = waits.Late
+waits_late other = other
+
+-- a request waits to be handled, and its deadline did not come yet
+abbrev pub is_waiting_request : Option Waits → Bool
+is_waiting_request (Some waits.Request) = true
+is_waiting_request next = false
+
+-- a request is unsettled: it waits for its reply or to be handled, and its deadline did not come yet
+abbrev pub is_unsettled : ℕ → Tickets → Bool
+is_unsettled ticket t = waits_for_reply ticket t.asking || is_waiting_request (item_of (ticket - t.handled) t.queued)
+
+-- a reply of this status says that nobody answers requests to the subject
+abbrev pub no_responders : ℕ
+no_responders = 503
+
+abbrev pub is_no_responders : Option ℕ → Bool
+is_no_responders None = false
+is_no_responders (Some status) = status == no_responders
+
+-- how a request settles by the message that came to the subject of its reply
+abbrev pub request_reply : Message → CallReply
+request_reply m = if is_no_responders m.status then NoResponders else Replied m
+
+-- ---- what becomes of tickets
 
 abbrev pub replied : CallReply → List ℕ → List (ℕ × CallReply)
 replied reply tickets = map (λ ticket. (ticket, reply)) tickets
 
+abbrev pub replied_if : CallReply → Option ℕ → List (ℕ × CallReply)
+replied_if reply None = []
+replied_if reply (Some ticket) = (ticket, reply) ∷ []
+
+abbrev pub queued_with : Option Waits → List Waits → List Waits
+queued_with None queued = queued
+queued_with (Some next) queued = queued ++ next ∷ []
+
+abbrev pub ticket_handled : Config → ℕ → Call → Tickets → Tickets
+ticket_handled c waiting Flush t = flush_handled waiting (first t.queued) t
+ticket_handled c waiting (Request subject payload headers token) t = request_handled (inbox_of c token) (first t.queued) t
+ticket_handled c waiting call t = t
+
+-- a message to number 0 is the reply to the request that waits for it
+abbrev pub asking_after : Operation → List (ℕ × List ℕ) → List (ℕ × List ℕ)
+asking_after (message sid m) asking = if sid == 0 then requests_elsewhere m.subject asking else asking
+asking_after operation asking = asking
+
+abbrev pub settled_by : Operation → List (ℕ × List ℕ) → List (ℕ × CallReply)
+settled_by (message sid m) asking = if sid == 0 then replied_if (request_reply m) (request_at m.subject asking) else []
+settled_by operation asking = []
+
+-- the k-th accepted flush or request has ticket k; what waits before a step says what a flush that it handles awaits
+abbrev pub tickets_after : Config → ℕ → Step → Tickets → Tickets
+tickets_after c waiting (accepted call) t = record t {
+  given = if takes_ticket call then suc t.given else t.given;
+  of_request = if takes_ticket call then t.of_request ++ requests call ∷ [] else t.of_request;
+  queued = queued_with (waits_as call) t.queued;
+}
+tickets_after c waiting (handled call) t = ticket_handled c waiting call t
+tickets_after c waiting (read operation) t = record t { asking = asking_after operation t.asking }
+tickets_after c waiting (taken n) t = record t { flushing = left_by n t.flushing }
+tickets_after c waiting (passed ticket) t =
+    record t { queued = at_number (ticket - t.handled) waits_late t.queued; asking = requests_but ticket t.asking }
+tickets_after c waiting (opened info) t = record t { flushing = [] }
+tickets_after c waiting (link_end end) t = record t { flushing = [] }
+tickets_after c waiting closed t = record t { handled = t.given; queued = []; flushing = []; asking = [] }
+tickets_after c waiting step t = t
+
+abbrev pub ticket_of : Awaits → ℕ
+ticket_of flush = flush.ticket
+
+abbrev pub ticket_in : ℕ × List ℕ → ℕ
+ticket_in request = request.0
+
+-- how a ticket whose call waits settles at the close
+abbrev pub waits_dropped : ℕ → Waits → List (ℕ × CallReply)
+waits_dropped ticket waits.Flush = (ticket, FlushFailed) ∷ []
+waits_dropped ticket waits.Request = (ticket, Dropped) ∷ []
+waits_dropped ticket waits.Late = []
+
+-- how those from a ticket on do
+abbrev pub queue_dropped : ℕ → List Waits → List (ℕ × CallReply)
+queue_dropped ticket [] = []
+queue_dropped ticket (next ∷ more) = waits_dropped ticket next ++ queue_dropped (suc ticket) more
+
+abbrev pub handled_settles : Config → ℕ → Call → Tickets → List (ℕ × CallReply)
+handled_settles c waiting Flush t = replied Flushed (flush_settled waiting (first t.queued) t)
+handled_settles c waiting (Request subject payload headers token) t =
+    replied_if Dropped (displaced (inbox_of c token) (first t.queued) t)
+handled_settles c waiting call t = []
+
 -- the tickets that a step settles, where these are the waiting bytes and the tickets before it: a flush is flushed where it is
--- handled and no byte waits, or else by the bytes that are taken; it fails as its link ends, and at the close
-abbrev pub settles : ℕ → Step → Tickets → List (ℕ × CallReply)
-settles waiting (handled call) t = if is_flush call then replied Flushed (flush_settled (next_number t.given t.handled) waiting) else []
-settles waiting (taken n) t = replied Flushed (flushed_by n t.flushing)
-settles waiting (link_end end) t = replied FlushFailed (map ticket_of t.flushing)
-settles waiting closed t = replied FlushFailed (map ticket_of t.flushing ++ count_from (suc t.handled) (t.given - t.handled))
-settles waiting step t = []
+-- handled and no byte waits, or else by the bytes that are taken; it fails as its link ends, and at the close. A request
+-- settles by a message to number 0 whose subject is that of its reply, by its deadline, or it is dropped by a later one that
+-- waits for a reply to the same subject, and at the close
+abbrev pub settles : Config → ℕ → Step → Tickets → List (ℕ × CallReply)
+settles c waiting (handled call) t = handled_settles c waiting call t
+settles c waiting (read operation) t = settled_by operation t.asking
+settles c waiting (taken n) t = replied Flushed (flushed_by n t.flushing)
+settles c waiting (passed ticket) t = if is_unsettled ticket t then (ticket, TimedOut) ∷ [] else []
+settles c waiting (link_end end) t = replied FlushFailed (map ticket_of t.flushing)
+settles c waiting closed t =
+    replied FlushFailed (map ticket_of t.flushing)
+    ++ replied Dropped (map ticket_in t.asking) ++ queue_dropped (suc t.handled) t.queued
+settles c waiting step t = []
+
+abbrev pub no_tickets : Tickets
+no_tickets = record { given = 0; handled = 0; of_request = []; queued = []; flushing = []; asking = [] }
 
 -- the tickets as they stand
 abbrev pub tickets : Config → History → Tickets
-tickets c [] = record { given = 0; handled = 0; flushing = [] }
-tickets c ((place, step) ∷ h) = tickets_after (length (waiting_bytes c h)) step (tickets c h)
+tickets c [] = no_tickets
+tickets c ((place, step) ∷ h) = tickets_after c (length (waiting_bytes c h)) step (tickets c h)
 
 -- one more ticket where one is given
 abbrev pub grown_tickets : {A : Type 0} → Step → List (Option A) → List (Option A)
-grown_tickets (accepted call) rows = if is_flush call then rows ++ None ∷ [] else rows
+grown_tickets (accepted call) rows = if takes_ticket call then rows ++ None ∷ [] else rows
 grown_tickets step rows = rows
 
 -- a ticket settles once, at the first place that fits
@@ -718,7 +890,7 @@ settle_rows place ((ticket, reply) ∷ more) rows = settle_rows place more (at_n
 abbrev pub ticket_rows : Config → History → List (Option (ℕ × CallReply))
 ticket_rows c [] = []
 ticket_rows c ((place, step) ∷ h) =
-    settle_rows place (settles (length (waiting_bytes c h)) step (tickets c h)) (grown_tickets step (ticket_rows c h))
+    settle_rows place (settles c (length (waiting_bytes c h)) step (tickets c h)) (grown_tickets step (ticket_rows c h))
 
 -- ---- events
 

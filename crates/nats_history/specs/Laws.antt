@@ -1,16 +1,17 @@
 -- Sentences about the words on histories and what steps make of parts.
-use Rattle.std.specs.Prelude.{◌≡◌, ℕ, ◌≤◌, ◌<◌, ◌^◌, true, false, [], ◌∷◌, ◌++◌, length, map, max, Some, None}
+use Rattle.std.specs.Prelude.{◌≡◌, ℕ, ◌≤◌, ◌<◌, ◌^◌, true, false, List, [], ◌∷◌, ◌++◌, length, map, max, Some, None}
 use Rattle.std.specs.List.{filter}
 use Rattle.nats_wire.specs.declared.message.Message.{Message}
 use Rattle.nats_wire.specs.Operations.{message, pong_op}
 use Rattle.nats_history.specs.declared.config.Config.{Config}
 use Rattle.nats_history.specs.declared.turn.Turn.{Turn}
+use Rattle.nats_history.specs.declared.turn.Turn.TheVariants.{Piece}
 use Rattle.nats_history.specs.declared.call.Call.TheVariants.{Limit, Drain}
 use Rattle.nats_history.specs.declared.ping.Ping.TheVariants as pinged
 use Rattle.nats_history.specs.Queue.{first}
-use Rattle.nats_history.specs.History.{Step, came, opened, read, handled, link_end, closed, History, concerns, at_of, pings, sub_of, is_open, has_room, call_ends, ends, told, reaches, flushed_by, ticket_of, tickets}
+use Rattle.nats_history.specs.History.{Step, came, opened, fed, read, handled, link_end, closed, History, concerns, at_of, pings, sub_of, is_open, has_room, call_ends, ends, told, reaches, flushed_by, ticket_of, tickets}
 use Rattle.nats_history.specs.Parts.{Parts, parts_of}
-use Rattle.nats_history.specs.Schedule.{due, put_steps, settled, after_turn}
+use Rattle.nats_history.specs.Schedule.{due, put_steps, settled, after_turn, steps, out_of_turn}
 use Rattle.nats_history.specs.After.{after, after_all, due_steps}
 
 -- what the words on a longer history give is what its newest step makes of the parts before it
@@ -70,3 +71,38 @@ DrainPuts =
 -- the flushes that n more bytes settle are all those that await no more: they stand in order
 abbrev pub FlushesReached : Type 0
 FlushesReached = (c : Config) (h : History) (n : ℕ) → flushed_by n (tickets c h).flushing ≡ map ticket_of (filter (reaches n) (tickets c h).flushing)
+
+-- ---- cutting
+
+abbrev pub onto_piece : List ℕ → List Turn → List Turn
+onto_piece bytes (Piece more ∷ turns) = Piece (bytes ++ more) ∷ turns
+onto_piece bytes turns = Piece bytes ∷ turns
+
+-- a list of turns with the bytes of all pieces that stand side by side as one piece
+abbrev pub uncut : List Turn → List Turn
+uncut [] = []
+uncut (Piece bytes ∷ turns) = onto_piece bytes (uncut turns)
+uncut (turn ∷ turns) = turn ∷ uncut turns
+
+-- two lists of turns differ only in how pieces that stand side by side cut the same bytes
+abbrev pub CutAlike : List Turn → List Turn → Type 0
+CutAlike turns others = uncut turns ≡ uncut others
+
+abbrev pub onto_unfed : Step → List Step → List Step
+onto_unfed (fed bytes) steps = steps
+onto_unfed step steps = step ∷ steps
+
+-- the steps of a history, newest first, without their places and without those by which bytes joined a link
+abbrev pub unfed : History → List Step
+unfed [] = []
+unfed ((place, step) ∷ h) = onto_unfed step (unfed h)
+
+-- two valid lists of turns that differ only in how pieces that stand side by side cut the same bytes make the same happen
+abbrev pub CutAnyhow : Type 0
+CutAnyhow =
+    (c : Config) (turns others : List Turn) → out_of_turn c turns ≡ None → out_of_turn c others ≡ None → CutAlike turns others
+    → unfed (steps c turns) ≡ unfed (steps c others)
+
+-- a valid list is valid uncut
+abbrev pub UncutInTurn : Type 0
+UncutInTurn = (c : Config) (turns : List Turn) → out_of_turn c turns ≡ None → out_of_turn c (uncut turns) ≡ None

@@ -1,4 +1,5 @@
 pub mod After
+pub mod Counts
 pub mod History
 pub mod Laws
 pub mod Parts

@@ -5,7 +5,9 @@ use Rattle.nats_wire.specs.Wire.{Wire}
 use Rattle.nats_history.specs.declared.config.Config.{Config}
 use Rattle.nats_history.specs.declared.call.Call.{Call}
 use Rattle.nats_history.specs.declared.ping.Ping.{Ping}
-use Rattle.nats_history.specs.History.{History, links, is_up, is_closed, WholeDrain, max_payload, last_info, all_reads, whole_drain, pings, unread, waiting_bytes, waiting_calls, At, at_of, Sub, rows_of, Tickets, tickets}
+use Rattle.nats_history.specs.declared.statistics.Statistics.{Statistics}
+use Rattle.nats_history.specs.Counts.{statistics}
+use Rattle.nats_history.specs.History.{History, links, is_up, is_closed, WholeDrain, max_payload, last_info, all_reads, whole_drain, pings, requested, unread, waiting_bytes, waiting_calls, At, at_of, Sub, rows_of, Tickets, tickets}
 
 -- the newest link
 pub record Link : Type 0 where
@@ -40,8 +42,12 @@ pub record Parts : Type 0 where
   -- the calls that wait, oldest first
   pub calls : List Call
   pub subs : Subs
-  -- how many tickets were given, of how many the flush was handled, and what the handled ones await
+  -- a request was handled
+  pub requested : Bool
+  -- the tickets that were given: what each is of, what waits to be handled, for bytes or for a reply
   pub tickets : Tickets
+  -- what was counted over all links
+  pub statistics : Statistics
 
 -- what a step's meaning hangs on, as parts have it
 abbrev pub at_with : List Ping → Subs → At
@@ -75,5 +81,7 @@ parts_of c h = record {
   link = link_of c h;
   calls = waiting_calls h;
   subs = subs_of c h;
+  requested = requested h;
   tickets = tickets c h;
+  statistics = statistics c h;
 }

@@ -6,7 +6,7 @@ use Rattle.nats_wire.specs.Operations.{Operation, pong_op, Front, unfinished, go
 use Rattle.nats_wire.specs.Commands.{sent_block}
 use Rattle.nats_history.specs.declared.config.Config.{Config}
 use Rattle.nats_history.specs.declared.call.Call.{Call}
-use Rattle.nats_history.specs.declared.call.Call.TheVariants.{Publish, Subscribe, Reconnect}
+use Rattle.nats_history.specs.declared.call.Call.TheVariants.{Publish, Subscribe, Request, Reconnect}
 use Rattle.nats_history.specs.declared.call.CallReply.{CallReply}
 use Rattle.nats_history.specs.declared.call.CallReply.TheVariants.{Accepted, Numbered, InvalidSubject, InvalidQueueName, MaxPayloadExceeded, Closed, NoNumber, Full}
 use Rattle.nats_history.specs.declared.call.TakeReply.{TakeReply}
@@ -14,12 +14,12 @@ use Rattle.nats_history.specs.declared.call.TakeReply.TheVariants as takes
 use Rattle.nats_history.specs.declared.ping.Ping.{Ping}
 use Rattle.nats_history.specs.declared.ping.Ping.TheVariants as pinged
 use Rattle.nats_history.specs.declared.turn.Turn.{Turn}
-use Rattle.nats_history.specs.declared.turn.Turn.TheVariants.{Up, Piece, Write, Tick, Lost, GiveUp, Hangup, Do, Take}
+use Rattle.nats_history.specs.declared.turn.Turn.TheVariants.{Up, Piece, Write, Tick, Lost, GiveUp, Hangup, Do, Take, Deadline}
 use Rattle.nats_history.specs.declared.transcript.LinkWord.{LinkWord}
 use Rattle.nats_history.specs.declared.transcript.LinkWord.TheVariants as word
 use Rattle.nats_history.specs.Queue.{first}
 use Rattle.nats_tables.specs.Numbers.{item_of}
-use Rattle.nats_history.specs.History.{Step, opened, fed, read, ticked, taken, accepted, handled, took, gone, link_end, closed, History, ticks, subscribes, is_flush, names, lets_go, Sub, is_ended}
+use Rattle.nats_history.specs.History.{Step, opened, fed, read, ticked, taken, accepted, handled, took, gone, passed, link_end, closed, History, ticks, subscribes, takes_ticket, names, lets_go, Sub, is_ended, is_unsettled}
 use Rattle.nats_history.specs.Parts.{Parts, parts_of}
 
 -- ---- replies
@@ -37,9 +37,11 @@ abbrev pub passes : (List ℕ → Bool) → Option (List ℕ) → Bool
 passes test None = true
 passes test (Some text) = test text
 
--- the subjects of a call may stand there
+-- the subjects of a call may stand there; those of replies to requests begin with a prefix that is publishable, whatever the
+-- settings skip
 abbrev pub has_subjects : Config → Call → Bool
 has_subjects c (Publish m) = may_publish_to c m.subject && passes (may_publish_to c) m.reply
+has_subjects c (Request subject payload headers token) = may_publish_to c subject && is_publishable c.inbox_prefix
 has_subjects c (Subscribe subject group) = is_valid subject
 has_subjects c call = true
 
@@ -51,11 +53,12 @@ has_group call = true
 -- its size in bytes: the payload, and the header block where one is sent
 abbrev pub size_of : Call → ℕ
 size_of (Publish m) = length_or_0 (sent_block m.headers) + length m.payload
+size_of (Request subject payload headers token) = length_or_0 (sent_block headers) + length payload
 size_of call = 0
 
 -- it would be given a number or a ticket and none is left
 abbrev pub has_no_number : Parts → Call → Bool
-has_no_number p call = (subscribes call && nat_le (2 ^ 64 - 1) p.subs.given) || (is_flush call && nat_le (2 ^ 64 - 1) p.tickets.given)
+has_no_number p call = (subscribes call && nat_le (2 ^ 64 - 1) p.subs.given) || (takes_ticket call && nat_le (2 ^ 64 - 1) p.tickets.given)
 
 -- no further call is accepted: the session closed, or a drain of the whole session was accepted
 abbrev pub takes_no_call : Parts → Bool
@@ -74,7 +77,7 @@ refusal p call =
 -- the reply of a call that is accepted
 abbrev pub accepted_reply : Parts → Call → CallReply
 accepted_reply p call =
-    if subscribes call then Numbered (suc p.subs.given) else (if is_flush call then Numbered (suc p.tickets.given) else Accepted)
+    if subscribes call then Numbered (suc p.subs.given) else (if takes_ticket call then Numbered (suc p.tickets.given) else Accepted)
 
 abbrev pub reply_by : Option CallReply → CallReply → CallReply
 reply_by None reply = reply
@@ -113,6 +116,11 @@ abbrev pub may_name : Parts → Option ℕ → Bool
 may_name p None = true
 may_name p (Some s) = is_there (item_of s p.subs.rows)
 
+-- a ticket is of a request
+abbrev pub is_of_request : Option Bool → Bool
+is_of_request None = false
+is_of_request (Some request) = request
+
 -- a turn may come here
 abbrev pub is_valid_turn : Parts → Turn → Bool
 is_valid_turn p (Up info) = not p.link.is_up && not p.is_closed
@@ -124,6 +132,7 @@ is_valid_turn p GiveUp = not p.link.is_up && not p.is_closed
 is_valid_turn p Hangup = not p.is_closed
 is_valid_turn p (Do call) = may_name p (names call)
 is_valid_turn p (Take sid) = is_there (item_of sid p.subs.rows)
+is_valid_turn p (Deadline ticket) = is_of_request (item_of ticket p.tickets.of_request)
 
 -- a link's end that closes the session: the user hung up, or a drain of the whole session was handled
 abbrev pub closes : Bool → LinkWord → Bool
@@ -203,6 +212,7 @@ own_steps p GiveUp = chain p closed
 own_steps p Hangup = if p.link.is_up then chain p (link_end word.Hangup) else chain p closed
 own_steps p (Do call) = call_steps p call
 own_steps p (Take sid) = took_step sid (take_reply p sid)
+own_steps p (Deadline ticket) = if is_unsettled ticket p.tickets then chain p (passed ticket) else []
 
 -- ---- due steps
 

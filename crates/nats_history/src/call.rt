@@ -1,7 +1,10 @@
 //! What a user asks of a session, and what it answers.
 ghost use Rattle.std.specs.Prelude.{◌≡◌, IfOk};
 
-use nats_wire::{Message, NoMemory, OutboundMessage, Subject, copy_subject};
+use nats_wire::{
+    Bytes, HeaderMap, Message, NoMemory, OutboundMessage, Subject, Token, copy_headers,
+    copy_subject,
+};
 use std::alloc::Global;
 
 /// What a user asks of a session.
@@ -27,6 +30,14 @@ pub enum Call {
     DrainAll,
     /// A ticket that is settled once the link took all bytes that wait when the call is handled.
     Flush,
+    /// A message for those that answer requests to its subject. Its ticket is settled by the reply that comes under the
+    /// `token`, by its deadline, or by a later request under the same token.
+    Request {
+        subject: Subject,
+        payload: Bytes,
+        headers: Option<HeaderMap>,
+        token: Token,
+    },
     /// The user lets the subscription of this number go, whatever the reply: its waiting messages go, and no later call may
     /// name it.
     DropSub(u64),
@@ -52,7 +63,10 @@ pub enum CallReply {
     Numbered(u64),
     /// A flush is done: the link took all bytes that waited when it was handled.
     Flushed,
-    /// A subject or a reply may not be published to, or a subject may not be subscribed to.
+    /// The message by which a request was replied.
+    Replied(Message),
+    /// A subject or a reply may not be published to, or a subject may not be subscribed to; or a request's inbox prefix may not
+    /// be published to.
     InvalidSubject,
     /// A queue group has no letter, or a space, a tab, a CR or an LF.
     InvalidQueueName,
@@ -66,6 +80,12 @@ pub enum CallReply {
     Full,
     /// A flush was not done before its link ended or the session closed.
     FlushFailed,
+    /// Nobody answers requests to the subject: the reply has the status 503.
+    NoResponders,
+    /// The deadline of a request came before its reply.
+    TimedOut,
+    /// A request waits no more, as a later one under its token was handled or the session closed.
+    Dropped,
 }
 
 /// The answer to a take.
@@ -98,6 +118,17 @@ impl Call {
             Call::Drain(s) => Ok(Call::Drain(*s)),
             Call::DrainAll => Ok(Call::DrainAll),
             Call::Flush => Ok(Call::Flush),
+            Call::Request {
+                subject,
+                payload,
+                headers,
+                token,
+            } => Ok(Call::Request {
+                subject: subject.copy(alloc)?,
+                payload: payload.clone()?,
+                headers: copy_headers(alloc, headers)?,
+                token: token.copy(),
+            }),
             Call::DropSub(s) => Ok(Call::DropSub(*s)),
             Call::Reconnect => Ok(Call::Reconnect),
         }
@@ -118,14 +149,18 @@ impl Interest {
 
 impl CallReply {
     /// An equal reply.
-    pub fn copy(&self, _alloc: Global) -> Result<CallReply, NoMemory>
+    pub fn copy(&self, alloc: Global) -> Result<CallReply, NoMemory>
         ensures { IfOk result (λ r. r ≡ self.now) }
     {
         match self {
             CallReply::Accepted => Ok(CallReply::Accepted),
             CallReply::Numbered(number) => Ok(CallReply::Numbered(*number)),
             CallReply::Flushed => Ok(CallReply::Flushed),
+            CallReply::Replied(message) => Ok(CallReply::Replied(message.copy(alloc)?)),
             CallReply::FlushFailed => Ok(CallReply::FlushFailed),
+            CallReply::NoResponders => Ok(CallReply::NoResponders),
+            CallReply::TimedOut => Ok(CallReply::TimedOut),
+            CallReply::Dropped => Ok(CallReply::Dropped),
             CallReply::InvalidSubject => Ok(CallReply::InvalidSubject),
             CallReply::InvalidQueueName => Ok(CallReply::InvalidQueueName),
             CallReply::MaxPayloadExceeded { limit, size } => Ok(CallReply::MaxPayloadExceeded {

@@ -1,6 +1,6 @@
 //! What holds of the words on histories, whatever the history. Each function does nothing: its contract is the law, so the
 //! law is proved where the function is.
-ghost use Rattle.nats_history.specs.Laws.{PartsAfter, SameSettled, NoneLeft, NoneAfterTurn, LimitHolds, DrainPuts, FlushesReached};
+ghost use Rattle.nats_history.specs.Laws.{PartsAfter, SameSettled, NoneLeft, NoneAfterTurn, LimitHolds, DrainPuts, FlushesReached, CutAnyhow, UncutInTurn};
 
 /// What the words on a longer history give is what its newest step makes of the parts before it: so a handler needs no
 /// history.
@@ -40,4 +40,16 @@ pub fn drain_puts()
 /// were handled.
 pub fn flushes_reached()
     ensures { FlushesReached }
+{}
+
+/// Two lists of turns, each turn of which may come where it stands, and which differ only in how pieces that stand side by side
+/// cut the same bytes, have the same steps, but for those by which bytes joined a link, and for the places.
+pub fn cut_anyhow()
+    ensures { CutAnyhow }
+{}
+
+/// Where each turn of a list may come where it stands, each still may once all pieces that stand side by side are one. The
+/// other way round it need not be so: a link may end within a piece, and a piece behind that would come out of turn.
+pub fn uncut_in_turn()
+    ensures { UncutInTurn }
 {}

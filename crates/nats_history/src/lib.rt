@@ -9,8 +9,10 @@ pub mod laws;
 mod ping;
 pub mod refusals;
 mod stage;
+pub mod statistics;
 mod transcript;
 mod turn;
+mod waits;
 
 pub use call::{Call, CallReply, Interest, TakeReply};
 pub use config::Config;
@@ -19,5 +21,7 @@ pub use nats_wire::{
 };
 pub use ping::Ping;
 pub use stage::Stage;
+pub use statistics::Statistics;
 pub use transcript::{LinkRow, LinkWord, RunError, SubRow, Transcript};
 pub use turn::{Due, Turn};
+pub use waits::Waits;

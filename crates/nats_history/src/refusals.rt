@@ -1,14 +1,15 @@
 //! What a call asks for, and which calls may not be accepted.
-ghost use Rattle.std.specs.Prelude.{◌≡◌, ◌<◌, ◌^◌, ◌||◌, IfOk};
+ghost use Rattle.std.specs.Prelude.{◌≡◌, ◌<◌, ◌^◌, ◌+◌, ◌||◌, IfOk, length};
 ghost use Rattle.nats_wire.specs.Commands.{sent_block};
 ghost use Rattle.nats_wire.specs.Operations.{length_or_0};
-ghost use Rattle.nats_history.specs.History.{asks, subscribes, shuts, drains_all, is_flush, lets_go};
+ghost use Rattle.nats_history.specs.History.{asks, subscribes, shuts, drains_all, waits_as, takes_ticket, requests, lets_go};
 ghost use Rattle.nats_history.specs.Schedule.{ends_link, may_publish_to, passes, has_subjects, has_group, size_of};
 
 use crate::call::{Call, Interest};
 use crate::config::Config;
 use crate::transcript::LinkWord;
-use nats_wire::{HeaderMap, NoMemory, Subject, copy_subject};
+use crate::waits::Waits;
+use nats_wire::{Bytes, HeaderMap, NoMemory, Subject, copy_subject};
 use std::alloc::Global;
 
 /// Whether a call is given a subscription number.
@@ -23,6 +24,7 @@ pub fn subscribes(call: &Call) -> bool
         | Call::Drain(_)
         | Call::DrainAll
         | Call::Flush
+        | Call::Request { .. }
         | Call::DropSub(_)
         | Call::Reconnect => false,
     }
@@ -46,6 +48,7 @@ pub fn interest_of(alloc: Global, call: &Call) -> Result<Option<Interest>, NoMem
         | Call::Drain(_)
         | Call::DrainAll
         | Call::Flush
+        | Call::Request { .. }
         | Call::DropSub(_)
         | Call::Reconnect => Ok(None),
     }
@@ -64,6 +67,7 @@ pub fn ends_link(call: &Call) -> Option<LinkWord>
         | Call::Drain(_)
         | Call::DrainAll
         | Call::Flush
+        | Call::Request { .. }
         | Call::DropSub(_) => None,
     }
 }
@@ -80,17 +84,19 @@ pub fn shuts(call: &Call) -> Option<u64>
         | Call::Drain(_)
         | Call::DrainAll
         | Call::Flush
+        | Call::Request { .. }
         | Call::DropSub(_)
         | Call::Reconnect => None,
     }
 }
 
-/// Whether a call is given a ticket.
-pub fn is_flush(call: &Call) -> bool
-    ensures { result ≡ is_flush call.now }
+/// What a call that is given a ticket waits as, if it is one.
+pub fn waits_as(call: &Call) -> Option<Waits>
+    ensures { result ≡ waits_as call.now }
 {
     match call {
-        Call::Flush => true,
+        Call::Flush => Some(Waits::Flush),
+        Call::Request { .. } => Some(Waits::Request),
         Call::Publish(_)
         | Call::Subscribe { .. }
         | Call::Unsubscribe(_)
@@ -98,8 +104,40 @@ pub fn is_flush(call: &Call) -> bool
         | Call::Drain(_)
         | Call::DrainAll
         | Call::DropSub(_)
+        | Call::Reconnect => None,
+    }
+}
+
+/// Whether a call is given a ticket.
+pub fn takes_ticket(call: &Call) -> bool
+    ensures { result ≡ takes_ticket call.now }
+{
+    waits_as(call).is_some()
+}
+
+/// Whether a call asks for a reply.
+pub fn requests(call: &Call) -> bool
+    ensures { result ≡ requests call.now }
+{
+    match call {
+        Call::Request { .. } => true,
+        Call::Publish(_)
+        | Call::Subscribe { .. }
+        | Call::Unsubscribe(_)
+        | Call::Limit(..)
+        | Call::Drain(_)
+        | Call::DrainAll
+        | Call::Flush
+        | Call::DropSub(_)
         | Call::Reconnect => false,
     }
+}
+
+/// Whether a request was handled once this call is too.
+pub fn is_requested_with(call: &Call, before: bool) -> bool
+    ensures { result ≡ (requests call.now || before) }
+{
+    requests(call) || before
 }
 
 /// Whether a call drains the whole session.
@@ -114,6 +152,7 @@ pub fn drains_all(call: &Call) -> bool
         | Call::Limit(..)
         | Call::Drain(_)
         | Call::Flush
+        | Call::Request { .. }
         | Call::DropSub(_)
         | Call::Reconnect => false,
     }
@@ -138,6 +177,7 @@ pub fn lets_go(call: &Call) -> Option<u64>
         | Call::Drain(_)
         | Call::DrainAll
         | Call::Flush
+        | Call::Request { .. }
         | Call::Unsubscribe(_)
         | Call::Reconnect => None,
     }
@@ -165,6 +205,9 @@ pub fn has_subjects(config: &Config, call: &Call) -> bool
     match call {
         Call::Publish(message) => {
             may_publish_to(config, &message.subject) && may_reply_to(config, &message.reply)
+        }
+        Call::Request { subject, .. } => {
+            may_publish_to(config, subject) && config.inbox_prefix.is_publishable()
         }
         Call::Subscribe { subject, .. } => subject.is_valid(),
         Call::Unsubscribe(_)
@@ -196,6 +239,7 @@ pub fn has_group(call: &Call) -> bool
         | Call::Drain(_)
         | Call::DrainAll
         | Call::Flush
+        | Call::Request { .. }
         | Call::DropSub(_)
         | Call::Reconnect => true,
     }
@@ -212,15 +256,25 @@ fn block_len(headers: &Option<HeaderMap>) -> usize
     }
 }
 
+/// The length in bytes of a payload and the header block that is sent with it.
+fn body_len(headers: &Option<HeaderMap>, payload: &Bytes) -> u64
+    ensures { result ≡ length_or_0 (sent_block headers.now) + length payload.now }
+{
+    let block = block_len(headers);
+    (block + payload.as_slice().len()) as u64
+}
+
 /// Its size in bytes: the payload, and the header block where one is sent.
 pub fn size_of(call: &Call) -> u64
     ensures { result ≡ size_of call.now }
 {
     match call {
-        Call::Publish(message) => {
-            let block = block_len(&message.headers);
-            (block + message.payload.as_slice().len()) as u64
-        }
+        Call::Publish(message) => body_len(&message.headers, &message.payload),
+        Call::Request {
+            payload,
+            headers,
+            ..
+        } => body_len(headers, payload),
         Call::Subscribe { .. }
         | Call::Unsubscribe(_)
         | Call::Limit(..)

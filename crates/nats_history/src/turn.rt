@@ -26,6 +26,8 @@ pub enum Turn {
     Do(Call),
     /// The user asked for the oldest waiting message of the subscription of this number.
     Take(u64),
+    /// The deadline of the request of this ticket came.
+    Deadline(u64),
 }
 
 /// One due step that was played.
@@ -60,6 +62,7 @@ impl Turn {
             Turn::Hangup => Ok(Turn::Hangup),
             Turn::Do(call) => Ok(Turn::Do(call.copy(alloc)?)),
             Turn::Take(s) => Ok(Turn::Take(*s)),
+            Turn::Deadline(t) => Ok(Turn::Deadline(*t)),
         }
     }
 }

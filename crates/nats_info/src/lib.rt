@@ -9,6 +9,3 @@ mod read;
 pub use error::InfoError;
 pub use info::ServerInfo;
 pub use read::read_info;
-
-#[cfg(test)]
-mod tests;

@@ -14,8 +14,6 @@ mod state;
 mod status;
 mod subject;
 mod subject_error;
-#[cfg(test)]
-mod tests;
 mod text;
 mod token;
 

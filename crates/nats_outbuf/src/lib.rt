@@ -7,8 +7,6 @@ mod inbuf;
 pub mod laws;
 mod outbuf;
 mod steps;
-#[cfg(test)]
-mod tests;
 
 pub use inbuf::InBuf;
 pub use nats_names::{Bytes, NoMemory};

@@ -12,8 +12,6 @@ mod joined;
 mod link;
 mod reach;
 pub mod seen;
-#[cfg(test)]
-mod tests;
 
 pub use clock::Clock;
 pub use dialer::{DialWord, Dialer};

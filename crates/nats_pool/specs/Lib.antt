@@ -1,7 +1,9 @@
 pub mod Auths
 pub mod Delays
 pub mod Errors
+pub mod Handing
 pub mod Options
+pub mod PoolRounds
 pub mod Pools
 pub mod Rounds
 pub mod Servers

@@ -13,9 +13,8 @@ mod pool_error;
 mod pool_options;
 mod pool_parts;
 mod round;
+mod rounds;
 mod server;
-#[cfg(test)]
-mod tests;
 
 pub use auth::Auth;
 pub use callbacks::{
@@ -33,4 +32,5 @@ pub use nats_names::{AddrError, AuthError, Error, Event, NoMemory, Subject, Text
 pub use pool_error::SetServerPoolErrorKind;
 pub use pool_options::{Delay, PoolOptions};
 pub use pool_parts::{Attempt, Choice, Next, Outcome, Planned, Pool};
+pub use rounds::Rounds;
 pub use server::{ReconnectToServer, Server};

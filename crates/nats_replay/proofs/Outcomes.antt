@@ -3,12 +3,6 @@ use Rattle.std.proofs.Common.{inl, refl, ◌≡◌, ℕ, ◌<◌, ◌≤◌, Boo
 use Rattle.std.specs.Prelude.{◌≢◌, ◌⊎◌, IfSome, MatchBool, codes}
 use Rattle.std.specs.Str.{bytes_eq}
 use Rattle.std.proofs.lemmas.Slice.Eq.{bytes_eq-Decides}
-use Rattle.std.proofs.lemmas.Option.{none-some}
-use Rattle.nats_history.specs.declared.config.Config.{Config}
-use Rattle.nats_history.specs.declared.turn.Turn.{Turn}
-use Rattle.nats_history.specs.Schedule.{out_of_turn}
-use Rattle.nats_bulk.specs.Generated.{bulk_config, generated}
-use Rattle.nats_bulk.specs.Laws.{InTurn}
 use Rattle.nats_replay.specs.declared.top.Refusal.{Refusal}
 use Rattle.nats_replay.specs.declared.top.Refusal.TheVariants.{ReadFault, NoMemory, TooLong}
 use Rattle.nats_replay.specs.declared.top.Output.{Output}
@@ -50,12 +44,6 @@ pub completes : (A B : Type 0) (held : Option (List ℕ)) (ending : Ending) (tex
     → IfSome held (λ bytes. Prints ending bytes text) → IfSome held (λ bytes. IsPlayable bytes → A → B → (status ≡ 0) ⊎ (status ≡ 7))
 completes A B None ending text status is prints = tt
 completes A B (Some bytes) ending text status is prints = λ playable a b. inl (is ∙ plays_out ending bytes text prints playable)
-
--- no turn of a list that is made by a rule is out of turn
-pub never_out : (config : Config) (turns : List Turn) (n place : ℕ) → config ≡ bulk_config → turns ≡ generated n → InTurn
-    → out_of_turn config turns ≡ Some place → ⊥
-never_out config turns n place c t law out =
-    none-some place (sym (law n) ∙ (sym (ap (out_of_turn bulk_config) t) ∙ (sym (ap (λ (settings : Config). out_of_turn settings turns) c) ∙ out)))
 
 -- ---- words
 

@@ -7,7 +7,7 @@ use Rattle.nats_names.specs.declared.event.Event.{Event}
 use Rattle.nats_names.specs.Events.{event_text}
 use Rattle.nats_wire.specs.declared.message.Message.{Message}
 use Rattle.nats_history.specs.declared.call.CallReply.{CallReply}
-use Rattle.nats_history.specs.declared.call.CallReply.TheVariants.{Accepted, Numbered, InvalidSubject, InvalidQueueName, MaxPayloadExceeded, Closed, NoNumber, Full, Flushed, FlushFailed}
+use Rattle.nats_history.specs.declared.call.CallReply.TheVariants.{Accepted, Numbered, InvalidSubject, InvalidQueueName, MaxPayloadExceeded, Closed, NoNumber, Full, Flushed, Replied, FlushFailed, NoResponders, TimedOut, Dropped}
 use Rattle.nats_history.specs.declared.call.TakeReply.{TakeReply}
 use Rattle.nats_history.specs.declared.call.TakeReply.TheVariants as took
 use Rattle.nats_history.specs.declared.transcript.LinkWord.{LinkWord}
@@ -119,7 +119,11 @@ reply_text Closed = codes "closed"
 reply_text NoNumber = codes "no-number"
 reply_text Full = codes "full"
 reply_text Flushed = codes "flushed"
+reply_text (Replied m) = codes "replied " ++ message_text m
 reply_text FlushFailed = codes "flush-failed"
+reply_text NoResponders = codes "no-responders"
+reply_text TimedOut = codes "timed-out"
+reply_text Dropped = codes "dropped"
 
 abbrev pub call_line : ℕ × CallReply → List ℕ
 call_line (place, reply) = placed (codes "call") place (reply_text reply)

@@ -9,9 +9,9 @@ use Rattle.nats_info.specs.Info.{default_info}
 use Rattle.nats_info.specs.Fields.{info_at}
 use Rattle.nats_history.specs.declared.config.Config.{Config}
 use Rattle.nats_history.specs.declared.call.Call.{Call}
-use Rattle.nats_history.specs.declared.call.Call.TheVariants.{Publish, Subscribe, Unsubscribe, Limit, Drain, DrainAll, Flush, DropSub, Reconnect}
+use Rattle.nats_history.specs.declared.call.Call.TheVariants.{Publish, Subscribe, Unsubscribe, Limit, Drain, DrainAll, Flush, Request, DropSub, Reconnect}
 use Rattle.nats_history.specs.declared.turn.Turn.{Turn}
-use Rattle.nats_history.specs.declared.turn.Turn.TheVariants.{Up, Piece, Write, Tick, Lost, GiveUp, Hangup, Do, Take}
+use Rattle.nats_history.specs.declared.turn.Turn.TheVariants.{Up, Piece, Write, Tick, Lost, GiveUp, Hangup, Do, Take, Deadline}
 use Rattle.nats_script.specs.declared.turn_lines.Word.{Word}
 use Rattle.nats_script.specs.declared.turn_lines.Word.TheVariants as word
 use Rattle.nats_script.specs.declared.script.Script.{Script}
@@ -98,7 +98,10 @@ word_of field =
     if bytes_eq field (codes "giveup") then word.GiveUp else
     (if bytes_eq field (codes "hangup") then word.Hangup else
     (if bytes_eq field (codes "drainall") then word.DrainAll else
-    (if bytes_eq field (codes "reconnect") then word.Reconnect else short_word_of field)))
+    (if bytes_eq field (codes "reconnect") then word.Reconnect else
+    (if bytes_eq field (codes "request") then word.Request else
+    (if bytes_eq field (codes "hrequest") then word.Hrequest else
+    (if bytes_eq field (codes "deadline") then word.Deadline else short_word_of field))))))
 
 -- a link that came up, with the INFO of a server that says its greatest size of a message alone
 abbrev pub up_turn : ℕ → Turn
@@ -158,6 +161,23 @@ hpub_of (subject ∷ reply ∷ payload ∷ pairs) =
     publish_with (field_text subject) (field_optional reply) (field_bytes payload) (option_map Some (headers_from (Some []) pairs))
 hpub_of fields = None
 
+-- ---- requests
+
+abbrev pub request_with : Option (List ℕ) → Option (List ℕ) → Option (List ℕ) → Option (Option Headers) → Option Turn
+request_with (Some subject) (Some token) (Some payload) (Some headers) = Some (Do (Request subject payload headers token))
+request_with subject token payload headers = None
+
+-- `request S T B`
+abbrev pub request_of : List (List ℕ) → Option Turn
+request_of (subject ∷ token ∷ payload ∷ []) = request_with (field_text subject) (field_token token) (field_bytes payload) (Some None)
+request_of fields = None
+
+-- `hrequest S T B` and pairs of names and values
+abbrev pub hrequest_of : List (List ℕ) → Option Turn
+hrequest_of (subject ∷ token ∷ payload ∷ pairs) =
+    request_with (field_text subject) (field_token token) (field_bytes payload) (option_map Some (headers_from (Some []) pairs))
+hrequest_of fields = None
+
 -- ---- the turn of a line
 
 -- a call of the subscription whose number is the only field
@@ -192,6 +212,9 @@ turn_of word.Limit fields = limit_of fields
 turn_of word.Drain fields = call_of Drain fields
 turn_of word.DrainAll fields = bare (Do DrainAll) fields
 turn_of word.Flush fields = bare (Do Flush) fields
+turn_of word.Request fields = request_of fields
+turn_of word.Hrequest fields = hrequest_of fields
+turn_of word.Deadline fields = option_map Deadline (option_and_then field_number (only fields))
 turn_of word.Drop fields = call_of DropSub fields
 turn_of word.Reconnect fields = bare (Do Reconnect) fields
 turn_of word.Other fields = None

@@ -17,6 +17,3 @@ pub use print::print_transcript;
 pub use read::read_script;
 pub use script::Script;
 pub use spelling::push_number;
-
-#[cfg(test)]
-mod tests;

@@ -291,7 +291,14 @@ fn push_reply(out: &mut Vec<u8>, reply: &CallReply) -> Result<(), NoMemory>
         CallReply::NoNumber => out.extend_from_slice(b"no-number")?,
         CallReply::Full => out.extend_from_slice(b"full")?,
         CallReply::Flushed => out.extend_from_slice(b"flushed")?,
+        CallReply::Replied(m) => {
+            out.extend_from_slice(b"replied ")?;
+            push_message(out, m)?;
+        }
         CallReply::FlushFailed => out.extend_from_slice(b"flush-failed")?,
+        CallReply::NoResponders => out.extend_from_slice(b"no-responders")?,
+        CallReply::TimedOut => out.extend_from_slice(b"timed-out")?,
+        CallReply::Dropped => out.extend_from_slice(b"dropped")?,
     }
     Ok(())
 }

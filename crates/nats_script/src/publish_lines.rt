@@ -1,17 +1,17 @@
-//! The lines of a script that publish.
+//! The lines of a script that publish or ask.
 ghost use Rattle.std.specs.Prelude.{◌≡◌, ◌∷◌, ◌<◌, [], None, Some, length, IfOk, IfSome, MatchOption, if◌then◌else◌};
-ghost use Rattle.std.specs.Option.{option_copied};
+ghost use Rattle.std.specs.Option.{option_copied, option_map};
 ghost use Rattle.nats_header.specs.Headers.{Headers};
 ghost use Rattle.nats_header.specs.Names.{is_header_name, is_header_value};
 ghost use Rattle.nats_script.specs.Spelling.{field_text};
-ghost use Rattle.nats_script.specs.Script.{parts_at, text_that, with_value, headers_from, publish_with, pub_of, hpub_of};
+ghost use Rattle.nats_script.specs.Script.{parts_at, text_that, with_value, headers_from, publish_with, pub_of, hpub_of, request_with, request_of, hrequest_of};
 ghost use Rattle.nats_script.specs.Cut.{parts_behind};
 
 use crate::cut::{cut, only};
-use crate::fields::{bytes_field, field_optional, field_text};
+use crate::fields::{bytes_field, field_optional, field_text, field_token};
 use nats_header::{HeaderError, HeaderMap};
 use nats_history::{Call, OutboundMessage, Turn};
-use nats_names::{Bytes, NoMemory, Subject};
+use nats_names::{Bytes, NoMemory, Subject, Token};
 use std::alloc::Global;
 
 fn publish_with(
@@ -32,7 +32,9 @@ fn publish_with(
 
 /// The three fields that are left, where they are three.
 fn three(fields: Option<&[u8]>) -> Option<(&[u8], &[u8], &[u8])>
-    ensures { MatchOption result (pub_of (parts_behind 32 (option_copied fields.entry)) ≡ None)
+    ensures { MatchOption result
+        ((pub_of (parts_behind 32 (option_copied fields.entry)) ≡ None)
+        × (request_of (parts_behind 32 (option_copied fields.entry)) ≡ None))
         (λ f. parts_behind 32 (option_copied fields.entry) ≡ f.0.now ∷ f.1.now ∷ f.2.now ∷ []) }
 {
     let (subject, rest) = cut(fields?, b' ');
@@ -120,7 +122,9 @@ struct FrontFields<'a> {
 }
 
 fn front_fields(fields: Option<&[u8]>) -> Option<FrontFields<'_>>
-    ensures { MatchOption result (hpub_of (parts_behind 32 (option_copied fields.entry)) ≡ None)
+    ensures { MatchOption result
+        ((hpub_of (parts_behind 32 (option_copied fields.entry)) ≡ None)
+        × (hrequest_of (parts_behind 32 (option_copied fields.entry)) ≡ None))
         (λ f. parts_behind 32 (option_copied fields.entry)
         ≡ f.subject.now ∷ f.reply.now ∷ f.payload.now ∷ parts_behind 32 (option_copied f.pairs)) }
 {
@@ -135,6 +139,16 @@ fn front_fields(fields: Option<&[u8]>) -> Option<FrontFields<'_>>
     })
 }
 
+/// Headers that are there, maybe none of them.
+fn some_headers(headers: Option<HeaderMap>) -> Option<Option<HeaderMap>>
+    ensures { result ≡ option_map Some headers }
+{
+    match headers {
+        Some(headers) => Some(Some(headers)),
+        None => None,
+    }
+}
+
 /// The turn of the fields `S R B` and pairs of names and values.
 pub fn hpub_of(alloc: Global, fields: Option<&[u8]>) -> Result<Option<Turn>, NoMemory>
     ensures { IfOk result (λ t. t ≡ hpub_of (parts_behind 32 (option_copied fields.entry))) }
@@ -147,6 +161,55 @@ pub fn hpub_of(alloc: Global, fields: Option<&[u8]>) -> Result<Option<Turn>, NoM
         field_text(alloc, fields.subject)?,
         field_optional(alloc, fields.reply)?,
         bytes_field(alloc, fields.payload)?,
-        headers.map(Some),
+        some_headers(headers),
+    ))
+}
+
+// ---- requests
+
+fn request_with(
+    subject: Option<Subject>,
+    token: Option<Token>,
+    payload: Option<Bytes>,
+    headers: Option<Option<HeaderMap>>,
+) -> Option<Turn>
+    ensures { result ≡ request_with subject token payload headers }
+{
+    Some(Turn::Do(Call::Request {
+        subject: subject?,
+        payload: payload?,
+        headers: headers?,
+        token: token?,
+    }))
+}
+
+/// The turn of the fields `S T B`.
+pub fn request_of(alloc: Global, fields: Option<&[u8]>) -> Result<Option<Turn>, NoMemory>
+    ensures { IfOk result (λ t. t ≡ request_of (parts_behind 32 (option_copied fields.entry))) }
+{
+    let Some((subject, token, payload)) = three(fields) else {
+        return Ok(None);
+    };
+    Ok(request_with(
+        field_text(alloc, subject)?,
+        field_token(alloc, token)?,
+        bytes_field(alloc, payload)?,
+        Some(None),
+    ))
+}
+
+/// The turn of the fields `S T B` and pairs of names and values.
+pub fn hrequest_of(alloc: Global, fields: Option<&[u8]>) -> Result<Option<Turn>, NoMemory>
+    ensures { IfOk result (λ t. t ≡ hrequest_of (parts_behind 32 (option_copied fields.entry))) }
+{
+    let Some(fields) = front_fields(fields) else {
+        return Ok(None);
+    };
+    let headers = headers_of(alloc, fields.pairs)?;
+    Ok(request_with(
+        field_text(alloc, fields.subject)?,
+        field_token(alloc, fields.reply)?,
+        bytes_field(alloc, fields.payload)?,
+        some_headers(headers),
     ))
 }

@@ -9,7 +9,7 @@ use crate::cut::{cut, only};
 use crate::fields::{
     bytes_field, field_bytes, field_number, field_optional, field_text, field_token,
 };
-use crate::publish_lines::{hpub_of, pub_of};
+use crate::publish_lines::{hpub_of, hrequest_of, pub_of, request_of};
 use nats_history::{Call, Config, ServerInfo, Turn};
 use nats_info::{InfoError, read_info};
 use nats_names::{Bytes, NoMemory, Subject, Token};
@@ -118,6 +118,9 @@ pub enum Word {
     Drain,
     DrainAll,
     Flush,
+    Request,
+    Hrequest,
+    Deadline,
     Drop,
     Reconnect,
     Other,
@@ -161,6 +164,15 @@ fn word_of(field: &[u8]) -> Word
     }
     if field == b"reconnect".as_slice() {
         return Word::Reconnect;
+    }
+    if field == b"request".as_slice() {
+        return Word::Request;
+    }
+    if field == b"hrequest".as_slice() {
+        return Word::Hrequest;
+    }
+    if field == b"deadline".as_slice() {
+        return Word::Deadline;
     }
     short_word_of(field)
 }
@@ -276,6 +288,9 @@ fn turn_of(alloc: Global, word: Word, fields: Option<&[u8]>) -> Result<Option<Tu
         Word::Drain => Ok(number_in(fields).map(|s| Turn::Do(Call::Drain(s)))),
         Word::DrainAll => Ok(is_bare(fields).then_some(Turn::Do(Call::DrainAll))),
         Word::Flush => Ok(is_bare(fields).then_some(Turn::Do(Call::Flush))),
+        Word::Request => request_of(alloc, fields),
+        Word::Hrequest => hrequest_of(alloc, fields),
+        Word::Deadline => Ok(number_in(fields).map(Turn::Deadline)),
         Word::Drop => Ok(number_in(fields).map(|s| Turn::Do(Call::DropSub(s)))),
         Word::Reconnect => Ok(is_bare(fields).then_some(Turn::Do(Call::Reconnect))),
         Word::Other => Ok(None),

@@ -7,8 +7,8 @@ use Rattle.nats_history.specs.declared.call.CallReply.{CallReply}
 use Rattle.nats_history.specs.declared.call.CallReply.TheVariants.{Accepted, Numbered, InvalidSubject, InvalidQueueName, MaxPayloadExceeded, Closed, NoNumber, Full}
 use Rattle.nats_history.specs.declared.turn.Turn.TheVariants.{Do}
 use Rattle.nats_history.specs.declared.transcript.SubRow.{SubRow}
-use Rattle.nats_history.specs.declared.call.Call.TheVariants.{Flush}
-use Rattle.nats_history.specs.History.{accepted, subscribes, is_flush, lets_go}
+use Rattle.nats_history.specs.declared.call.Call.TheVariants.{Flush, Request}
+use Rattle.nats_history.specs.History.{accepted, subscribes, takes_ticket, lets_go}
 use Rattle.nats_history.specs.Parts.{Parts}
 use Rattle.nats_history.specs.Schedule.{has_subjects, has_group, size_of, has_no_number, is_full, takes_no_call, refusal, accepted_reply, reply_by, call_reply, accepted_step, gone_step}
 use Rattle.nats_history.specs.Transcripts.{called}
@@ -57,7 +57,7 @@ abbrev more_rows : Call → Sheet → List SubRow
 more_rows call sheet = cond (subscribes call) (sheet.subs ++ new_row ∷ []) sheet.subs
 
 abbrev more_tickets : Call → Sheet → Tickets
-more_tickets call sheet = cond (is_flush call) (sheet.tickets ++ None ∷ []) sheet.tickets
+more_tickets call sheet = cond (takes_ticket call) (sheet.tickets ++ None ∷ []) sheet.tickets
 
 noted_accepted : (place : ℕ) (p : Parts) (call : Call) (sheet : Sheet)
     → sheet_noted place (accepted call) p sheet ≡ sheet_of sheet (more_rows call sheet) (more_tickets call sheet)
@@ -97,34 +97,35 @@ accepted_sheet place given ticket sheet true false e = refl
 accepted_sheet place given ticket sheet false true e = refl
 accepted_sheet place given ticket sheet false false e = refl
 
-not_both : (call : Call) → (subscribes call && is_flush call) ≡ false
+not_both : (call : Call) → (subscribes call && takes_ticket call) ≡ false
 not_both Flush = refl
+not_both (Request subject payload headers token) = refl
 not_both call = and_false (subscribes call)
   where
     and_false : (b : Bool) → (b && false) ≡ false
     and_false true = refl
     and_false false = refl
 
-called_sheet : (place : ℕ) (p : Parts) (call : Call) (sheet : Sheet) → answered place sheet (is_flush call) (call_reply p call) ≡ own_sheet place (Do call) p sheet
+called_sheet : (place : ℕ) (p : Parts) (call : Call) (sheet : Sheet) → answered place sheet (takes_ticket call) (call_reply p call) ≡ own_sheet place (Do call) p sheet
 called_sheet place p call sheet = by_refusal (refusal p call) (not_numbered p call)
   where
     by_refusal : (refused : Option CallReply) → is_numbered refused ≡ false
-        → answered place sheet (is_flush call) (reply_by refused (accepted_reply p call))
+        → answered place sheet (takes_ticket call) (reply_by refused (accepted_reply p call))
         ≡ write_answer place (called (reply_by refused (accepted_reply p call))) (sheet_recorded place (accepted_step refused call ++ gone_step (lets_go call)) p sheet)
     by_refusal None e =
-        accepted_sheet place (suc p.subs.given) (suc p.tickets.given) sheet (subscribes call) (is_flush call) (not_both call)
+        accepted_sheet place (suc p.subs.given) (suc p.tickets.given) sheet (subscribes call) (takes_ticket call) (not_both call)
         ∙ sym (ap (write_answer place (called (accepted_reply p call))) (recorded_accepted place (lets_go call) p call sheet))
     by_refusal (Some reply) e =
-        refused_sheet place sheet (is_flush call) reply e ∙ sym (ap (write_answer place (called reply)) (recorded_gone place (lets_go call) p sheet))
+        refused_sheet place sheet (takes_ticket call) reply e ∙ sym (ap (write_answer place (called reply)) (recorded_gone place (lets_go call) p sheet))
 
 -- the same of a call that asks for no ticket
-pub plain_sheet : (place : ℕ) (p : Parts) (call : Call) (sheet : Sheet) → is_flush call ≡ false
+pub plain_sheet : (place : ℕ) (p : Parts) (call : Call) (sheet : Sheet) → takes_ticket call ≡ false
     → record sheet { subs = added (call_reply p call) sheet.subs; calls = sheet.calls ++ (place, call_reply p call) ∷ [] } ≡ own_sheet place (Do call) p sheet
 plain_sheet place p call sheet plain =
     sym (ap (λ b. answered place sheet b (call_reply p call)) plain) ∙ called_sheet place p call sheet
 
--- and of a flush
-pub flush_sheet : (place : ℕ) (p : Parts) (call : Call) (sheet : Sheet) → is_flush call ≡ true
+-- and of one that does
+pub ticket_sheet : (place : ℕ) (p : Parts) (call : Call) (sheet : Sheet) → takes_ticket call ≡ true
     → record sheet { tickets = added_ticket (call_reply p call) sheet.tickets; calls = sheet.calls ++ (place, call_reply p call) ∷ [] } ≡ own_sheet place (Do call) p sheet
-flush_sheet place p call sheet flush =
+ticket_sheet place p call sheet flush =
     sym (ap (λ b. answered place sheet b (call_reply p call)) flush) ∙ called_sheet place p call sheet

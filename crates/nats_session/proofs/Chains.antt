@@ -7,7 +7,7 @@ use Rattle.nats_history.specs.declared.transcript.LinkWord.{LinkWord}
 use Rattle.nats_history.specs.declared.transcript.LinkWord.TheVariants as word
 use Rattle.nats_history.specs.declared.call.CallReply.{CallReply}
 use Rattle.nats_history.specs.declared.turn.Turn.TheVariants.{Write}
-use Rattle.nats_history.specs.History.{Step, accepted, taken, ticked, link_end, closed, at_place, grown_tickets, settle_once, settle_rows}
+use Rattle.nats_history.specs.History.{Step, accepted, taken, ticked, passed, link_end, closed, at_place, grown_tickets, settle_once, settle_rows}
 use Rattle.nats_tables.specs.Numbers.{at_number}
 use Rattle.nats_history.specs.Parts.{Parts}
 use Rattle.nats_history.specs.Schedule.{due, chain, closes, closing, ending}
@@ -62,6 +62,10 @@ hangup_gives_none p false = (refl, tt)
 pub tick_gives_none : (p : Parts) (last : Bool) → NoneGiven (cond last (chain p (link_end word.Ticks)) (chain p ticked))
 tick_gives_none p true = (refl, closing_gives_none (closes p.drain.is_handled word.Ticks))
 tick_gives_none p false = (refl, tt)
+
+pub deadline_gives_none : (p : Parts) (ticket : ℕ) (unsettled : Bool) → NoneGiven (cond unsettled (chain p (passed ticket)) [])
+deadline_gives_none p ticket true = (refl, tt)
+deadline_gives_none p ticket false = tt
 
 grown_same : {A : Type 0} (step : Step) (rows : List (Option A)) → gives step ≡ false → grown_tickets step rows ≡ rows
 grown_same (accepted call) rows e = absurd (false≢true (sym e))
@@ -142,6 +146,11 @@ pub tick_written : (place : ℕ) (p : Parts) (last : Bool) (sheet : Sheet)
     → write_end (end_in (cond last (chain p (link_end word.Ticks)) (chain p ticked))) p sheet ≡ sheet_written place (cond last (chain p (link_end word.Ticks)) (chain p ticked)) p sheet
 tick_written place p true sheet = end_written place p word.Ticks sheet
 tick_written place p false sheet = refl
+
+pub deadline_written : (place : ℕ) (p : Parts) (ticket : ℕ) (unsettled : Bool) (sheet : Sheet)
+    → sheet ≡ sheet_written place (cond unsettled (chain p (passed ticket)) []) p sheet
+deadline_written place p ticket true sheet = refl
+deadline_written place p ticket false sheet = refl
 
 -- what follows a step at once where the link ends by this word, or does not
 pub ending_written : (place : ℕ) (p q : Parts) (drained : Bool) (end : Option LinkWord) (sheet : Sheet) → q.link.wire.waiting ≡ p.link.wire.waiting

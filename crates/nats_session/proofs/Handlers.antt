@@ -1,25 +1,27 @@
 -- Laws on a handler as it is seen.
-use Rattle.std.proofs.Common.{◌≡◌, ℕ, zero, suc, ◌≤◌, List, [], ◌∷◌, ◌++◌, length, drop, map, Option, Some, None, Result, Ok, Err, OnOk, OnErr, IfOk, Bool, true, false, not, cond, is_some, ◌&&◌, ◌||◌, ◌==◌, refl, sym, ◌∙◌, ap, subst, arith}
+use Rattle.std.proofs.Common.{◌≡◌, ℕ, zero, suc, ◌≤◌, ◌-◌, List, [], ◌∷◌, ◌++◌, length, drop, map, Option, Some, None, Result, Ok, Err, OnOk, OnErr, IfOk, Bool, true, false, not, cond, is_some, ◌&&◌, ◌||◌, ◌==◌, refl, sym, ◌∙◌, ap, subst, arith}
 use Rattle.std.proofs.lemmas.List.{append-nil, append_assoc, map-append, length-append, length-map, drop-append-le, length-drop}
 use Rattle.std.proofs.lemmas.Bool.{false≢true}
-use Rattle.std.proofs.lemmas.Option.{none-some}
+use Rattle.std.proofs.lemmas.Option.{none-some, same_Some}
 use Rattle.std.proofs.lemmas.Result.{on_ok_weaker}
 use Rattle.nats_names.specs.declared.event.Event.{Event}
 use Rattle.nats_wire.specs.declared.message.Message.{Message}
 use Rattle.nats_history.specs.declared.config.Config.{Config}
 use Rattle.nats_history.specs.declared.call.Call.{Call}
-use Rattle.nats_history.specs.declared.call.Call.TheVariants.{Unsubscribe, DrainAll, Flush}
+use Rattle.nats_history.specs.declared.call.Call.TheVariants.{Unsubscribe, DrainAll, Flush, Request}
 use Rattle.nats_history.specs.declared.call.Interest.{Interest}
+use Rattle.nats_history.specs.declared.waits.Waits.{Waits}
+use Rattle.nats_history.specs.declared.waits.Waits.TheVariants as waits
 use Rattle.nats_history.specs.declared.ping.Ping.{Ping}
 use Rattle.nats_history.specs.declared.call.CallReply.{CallReply}
-use Rattle.nats_history.specs.declared.call.CallReply.TheVariants.{Accepted, Numbered}
+use Rattle.nats_history.specs.declared.call.CallReply.TheVariants.{Accepted, Numbered, TimedOut}
 use Rattle.nats_history.specs.declared.call.TakeReply.{TakeReply}
 use Rattle.nats_history.specs.declared.call.TakeReply.TheVariants as takes
-use Rattle.nats_history.specs.declared.turn.Turn.TheVariants.{Do, Take}
+use Rattle.nats_history.specs.declared.turn.Turn.TheVariants.{Do, Take, Deadline}
 use Rattle.nats_history.specs.declared.turn.Due.{Due}
 use Rattle.nats_history.specs.Queue.{first}
 use Rattle.nats_tables.specs.Numbers.{only, at_number, item_of, named, change}
-use Rattle.nats_history.specs.History.{Step, accepted, took, History, asks, shuts, drains_all, is_flush, lets_go, settles, tickets, waiting_bytes, interest_by, Sub, is_ended, forgotten, kept, second, events_by, at_place, events}
+use Rattle.nats_history.specs.History.{Step, accepted, took, passed, History, asks, shuts, drains_all, waits_as, takes_ticket, requests, queued_with, waits_for_reply, requests_but, waits_late, is_waiting_request, is_unsettled, lets_go, settles, tickets, waiting_bytes, interest_by, Sub, is_ended, forgotten, kept, second, events_by, at_place, events}
 use Rattle.nats_history.specs.Parts.{Subs, Parts}
 use Rattle.nats_history.specs.Schedule.{refusal, reply_by, accepted_reply, call_reply, accepted_step, gone_step, call_steps, is_closed_sub, oldest, sub_take, take_reply_of, take_reply, is_there, took_step, own_steps, due, put_steps, chain, due_chain}
 use Rattle.nats_history.specs.After.{new_sub, sub_after, subs_after, after, after_all, events_of, settled_of}
@@ -128,11 +130,11 @@ stands_after c out h place step seen stands = record {
   parts = ap (λ q. after q step) stands.parts ∙ sym (parts_after c h place step);
   handed_out = omega (arith, stands.handed_out, length-append (events c h) (at_place place (events_by c h step)));
   waiting = pushed (events_of seen.parts step) seen.events ∙ (ap (λ q. seen.events ++ events_of q step) stands.parts ∙ (ap (λ es. es ++ events_by c h step) stands.waiting ∙ events_more out.events (events c h) place (events_by c h step) stands.handed_out));
-  replied = stood_more out.tickets (settled_tickets c h) (settles (length (waiting_bytes c h)) step (tickets c h)) stands.replied;
+  replied = stood_more out.tickets (settled_tickets c h) (settles c (length (waiting_bytes c h)) step (tickets c h)) stands.replied;
   ready = pushed (settled_of seen.parts step) seen.ready
       ∙ (ap (λ q. seen.ready ++ settled_of q step) stands.parts
-      ∙ (ap (λ rs. rs ++ settles (length (waiting_bytes c h)) step (tickets c h)) stands.ready
-      ∙ sym (all_more out.tickets (settled_tickets c h) (settles (length (waiting_bytes c h)) step (tickets c h)) stands.replied)));
+      ∙ (ap (λ rs. rs ++ settles c (length (waiting_bytes c h)) step (tickets c h)) stands.ready
+      ∙ sym (all_more out.tickets (settled_tickets c h) (settles c (length (waiting_bytes c h)) step (tickets c h)) stands.replied)));
 }
 
 lead_to : (old : Seen) (steps : List Step) → LeadTo old steps (seen_all old steps)
@@ -261,9 +263,10 @@ no_drain : (call : Call) (asked : Interest) → asks call ≡ Some asked → dra
 no_drain DrainAll asked e = absurd (none-some asked e)
 no_drain call asked e = refl
 
-no_flush : (call : Call) (asked : Interest) → asks call ≡ Some asked → is_flush call ≡ false
-no_flush Flush asked e = absurd (none-some asked e)
-no_flush call asked e = refl
+no_ticket : (call : Call) (asked : Interest) → asks call ≡ Some asked → waits_as call ≡ None
+no_ticket Flush asked e = absurd (none-some asked e)
+no_ticket (Request subject payload headers token) asked e = absurd (none-some asked e)
+no_ticket call asked e = refl
 
 no_shut : (call : Call) (asked : Interest) → asks call ≡ Some asked → shuts call ≡ None
 no_shut (Unsubscribe s) asked e = absurd (none-some asked e)
@@ -308,19 +311,23 @@ with_call seen drained calls subs = record seen {
 abbrev TakenIn : Seen → Call → CallReply → Seen → Type 0
 TakenIn old call reply new = (reply ≡ call_reply old.parts call) × (new ≡ seen_all old (accepted_step (refusal old.parts call) call))
 
--- the same, where a flush is given a ticket
-abbrev with_flush : Seen → Bool → List Call → Subs → Bool → Seen
-with_flush seen drained calls subs flush = record seen {
+-- the same, where a call may be given a ticket
+abbrev with_ticket : Seen → Bool → List Call → Subs → Bool → Option Waits → Seen
+with_ticket seen drained calls subs request next = record seen {
   parts = record seen.parts {
     drain = record seen.parts.drain { is_accepted = drained };
     calls = calls;
     subs = subs;
-    tickets = record seen.parts.tickets { given = cond flush (suc seen.parts.tickets.given) seen.parts.tickets.given };
+    tickets = record seen.parts.tickets {
+      given = cond (is_some next) (suc seen.parts.tickets.given) seen.parts.tickets.given;
+      of_request = cond (is_some next) (seen.parts.tickets.of_request ++ request ∷ []) seen.parts.tickets.of_request;
+      queued = queued_with next seen.parts.tickets.queued;
+    };
   };
 }
 
--- a call that is not refused and no flush: one more waits, and the subscriptions are those after its acceptance
-taken : (old : Seen) (call : Call) (reply : CallReply) (drained : Bool) (calls : List Call) (subs : Subs) → refusal old.parts call ≡ None → is_flush call ≡ false → reply ≡ accepted_reply old.parts call
+-- a call that is not refused and is given no ticket: one more waits, and the subscriptions are those after its acceptance
+taken : (old : Seen) (call : Call) (reply : CallReply) (drained : Bool) (calls : List Call) (subs : Subs) → refusal old.parts call ≡ None → waits_as call ≡ None → reply ≡ accepted_reply old.parts call
     → drained ≡ (drains_all call || old.parts.drain.is_accepted) → calls ≡ old.parts.calls ++ call ∷ [] → subs ≡ subs_after old.parts.config old.parts.link.pings (accepted call) old.parts.subs
     → TakenIn old call reply (with_call old drained calls subs)
 taken old call reply drained calls subs free plain is d a b = (
@@ -328,12 +335,12 @@ taken old call reply drained calls subs free plain is d a b = (
   ap (λ x. with_call old x calls subs) d
       ∙ (ap (λ cs. with_call old (drains_all call || old.parts.drain.is_accepted) cs subs) a
       ∙ (ap (with_call old (drains_all call || old.parts.drain.is_accepted) (old.parts.calls ++ call ∷ [])) b
-      ∙ (ap (with_flush old (drains_all call || old.parts.drain.is_accepted) (old.parts.calls ++ call ∷ []) (subs_after old.parts.config old.parts.link.pings (accepted call) old.parts.subs)) (sym plain)
+      ∙ (ap (with_ticket old (drains_all call || old.parts.drain.is_accepted) (old.parts.calls ++ call ∷ []) (subs_after old.parts.config old.parts.link.pings (accepted call) old.parts.subs) (requests call)) (sym plain)
       ∙ sym (ap (λ r. seen_all old (accepted_step r call)) free)))),
 )
 
 -- the same by what the fields of the handler became
-taken_by : (seen old : Seen) (call : Call) (reply : CallReply) (drained : Bool) (calls : List Call) (subs : Subs) → seen ≡ old → refusal old.parts call ≡ None → is_flush call ≡ false
+taken_by : (seen old : Seen) (call : Call) (reply : CallReply) (drained : Bool) (calls : List Call) (subs : Subs) → seen ≡ old → refusal old.parts call ≡ None → waits_as call ≡ None
     → reply ≡ accepted_reply seen.parts call → drained ≡ (drains_all call || seen.parts.drain.is_accepted) → calls ≡ seen.parts.calls ++ call ∷ []
     → subs ≡ subs_after seen.parts.config seen.parts.link.pings (accepted call) seen.parts.subs → TakenIn old call reply (with_call seen drained calls subs)
 taken_by seen old call reply drained calls subs same free plain is d a b =
@@ -344,41 +351,97 @@ pub numbered_by : (seen old : Seen) (call : Call) (asked : Interest) (calls : Li
     → calls ≡ seen.parts.calls ++ call ∷ [] → subs ≡ given_one asked seen.parts.subs → number ≡ subs.given
     → TakenIn old call (Numbered number) (record seen { parts = record seen.parts { calls = calls; subs = subs } })
 numbered_by seen old call asked calls subs number same free is a b d =
-    taken_by seen old call (Numbered number) seen.parts.drain.is_accepted calls subs same free (no_flush call asked is)
-    (ap Numbered (d ∙ ap (λ (x : Subs). x.given) b) ∙ sym (ap (λ o. cond (is_some o) (Numbered (suc seen.parts.subs.given)) (cond (is_flush call) (Numbered (suc seen.parts.tickets.given)) Accepted)) is))
+    taken_by seen old call (Numbered number) seen.parts.drain.is_accepted calls subs same free (no_ticket call asked is)
+    (ap Numbered (d ∙ ap (λ (x : Subs). x.given) b) ∙ sym (ap (λ o. cond (is_some o) (Numbered (suc seen.parts.subs.given)) (cond (takes_ticket call) (Numbered (suc seen.parts.tickets.given)) Accepted)) is))
     (sym (ap (λ x. x || seen.parts.drain.is_accepted) (no_drain call asked is)))
     a (b ∙ sym (subs_given seen.parts.config seen.parts.link.pings call asked seen.parts.subs is))
 
-pub shut_by : (seen old : Seen) (call : Call) (drained : Bool) (calls : List Call) (subs : Subs) → seen ≡ old → refusal old.parts call ≡ None → is_flush call ≡ false → asks call ≡ None
+pub shut_by : (seen old : Seen) (call : Call) (drained : Bool) (calls : List Call) (subs : Subs) → seen ≡ old → refusal old.parts call ≡ None → waits_as call ≡ None → asks call ≡ None
     → drained ≡ (drains_all call || seen.parts.drain.is_accepted) → calls ≡ seen.parts.calls ++ call ∷ [] → subs ≡ with_rows (rows_named (shuts call) alterations.Shut seen.parts.subs.rows) seen.parts.subs
     → TakenIn old call Accepted (with_call seen drained calls subs)
 shut_by seen old call drained calls subs same free plain is d a b =
     taken_by seen old call Accepted drained calls subs same free plain
-    (sym (ap (λ o. cond (is_some o) (Numbered (suc seen.parts.subs.given)) (cond (is_flush call) (Numbered (suc seen.parts.tickets.given)) Accepted)) is
-    ∙ ap (λ b. cond b (Numbered (suc seen.parts.tickets.given)) Accepted) plain))
+    (sym (ap (λ o. cond (is_some o) (Numbered (suc seen.parts.subs.given)) (cond (takes_ticket call) (Numbered (suc seen.parts.tickets.given)) Accepted)) is
+    ∙ ap (λ o. cond (is_some o) (Numbered (suc seen.parts.tickets.given)) Accepted) plain))
     d a (b ∙ sym (subs_shut seen.parts.config seen.parts.link.pings call seen.parts.subs is))
 
--- ---- a flush that is accepted
+-- ---- a flush or a request that is accepted
 
 abbrev pub with_kept : List Call → Kept → Seen → Seen
 with_kept calls kept seen = record seen { parts = record seen.parts { calls = calls; tickets = kept.tickets }; ready = kept.ready }
 
-flush_taken : (old : Seen) (calls : List Call) (kept : Kept) (number : ℕ) → refusal old.parts Flush ≡ None → calls ≡ old.parts.calls ++ Flush ∷ []
-    → kept ≡ tickets_kept.given_one (kept_of old) → number ≡ kept.tickets.given → TakenIn old Flush (Numbered number) (with_kept calls kept old)
+-- the same of a call that waits as this, where its ticket comes next
+abbrev Tickets : Call → Waits → Type 0
+Tickets call next =
+    (old : Seen) (calls : List Call) (kept : Kept) (number : ℕ) → refusal old.parts call ≡ None → calls ≡ old.parts.calls ++ call ∷ []
+    → kept ≡ tickets_kept.given_one next (kept_of old) → number ≡ kept.tickets.given → TakenIn old call (Numbered number) (with_kept calls kept old)
+
+flush_taken : Tickets Flush waits.Flush
 flush_taken old calls kept number free a b d = (
   ap Numbered (d ∙ ap (λ (k : Kept). k.tickets.given) b) ∙ sym (ap (λ r. reply_by r (Numbered (suc old.parts.tickets.given))) free),
   ap (λ cs. with_kept cs kept old) a
       ∙ (ap (λ k. with_kept (old.parts.calls ++ Flush ∷ []) k old) b ∙ sym (ap (λ r. seen_all old (accepted_step r Flush)) free)),
 )
 
+tickets_by : (call : Call) (next : Waits) → waits_as call ≡ Some next → Tickets call next
+tickets_by Flush next is = subst (Tickets Flush) (same_Some waits.Flush next is) flush_taken
+tickets_by (Request subject payload headers token) next is =
+    subst (Tickets (Request subject payload headers token)) (same_Some waits.Request next is) (λ old calls kept number free a b d. (
+      ap Numbered (d ∙ ap (λ (k : Kept). k.tickets.given) b) ∙ sym (ap (λ r. reply_by r (Numbered (suc old.parts.tickets.given))) free),
+      ap (λ cs. with_kept cs kept old) a
+          ∙ (ap (λ k. with_kept (old.parts.calls ++ Request subject payload headers token ∷ []) k old) b ∙ sym (ap (λ r. seen_all old (accepted_step r (Request subject payload headers token))) free)),
+    ))
+tickets_by call next is = absurd (none-some next is)
+
 -- one more call waits, and one more ticket was given
-pub flush_by : (seen old : Seen) (call : Call) (calls : List Call) (kept : Kept) (number : ℕ) → seen ≡ old → refusal old.parts call ≡ None → is_flush call ≡ true
-    → calls ≡ seen.parts.calls ++ call ∷ [] → kept ≡ tickets_kept.given_one (kept_of seen) → number ≡ kept.tickets.given
+pub ticket_by : (seen old : Seen) (call : Call) (next : Waits) (calls : List Call) (kept : Kept) (number : ℕ) → seen ≡ old → refusal old.parts call ≡ None → waits_as call ≡ Some next
+    → calls ≡ seen.parts.calls ++ call ∷ [] → kept ≡ tickets_kept.given_one next (kept_of seen) → number ≡ kept.tickets.given
     → TakenIn old call (Numbered number) (with_kept calls kept seen)
-flush_by seen old Flush calls kept number same free flush a b d =
-    let free_there : refusal seen.parts Flush ≡ None = subst (λ (s : Seen). refusal s.parts Flush ≡ None) (sym same) free in
-    subst (λ s. TakenIn s Flush (Numbered number) (with_kept calls kept seen)) same (flush_taken seen calls kept number free_there a b d)
-flush_by seen old call calls kept number same free flush a b d = absurd (false≢true flush)
+ticket_by seen old call next calls kept number same free is a b d =
+    let free_there : refusal seen.parts call ≡ None = subst (λ (s : Seen). refusal s.parts call ≡ None) (sym same) free in
+    subst (λ s. TakenIn s call (Numbered number) (with_kept calls kept seen)) same (tickets_by call next is seen calls kept number free_there a b d)
+
+-- ---- a deadline
+
+late_same : (k : ℕ) (queued : List Waits) → is_waiting_request (item_of k queued) ≡ false → at_number k waits_late queued ≡ queued
+late_same k queued none = agree_at k waits_late (λ w. w) queued (λ w is. by w (sym (ap is_waiting_request is) ∙ none)) ∙ at_number_same k queued
+  where
+    by : (w : Waits) → is_waiting_request (Some w) ≡ false → waits_late w ≡ w
+    by waits.Flush e = refl
+    by waits.Late e = refl
+    by waits.Request e = absurd (false≢true (sym e))
+
+but_same : (ticket : ℕ) (asking : List (ℕ × List ℕ)) → waits_for_reply ticket asking ≡ false → requests_but ticket asking ≡ asking
+but_same ticket [] none = refl
+but_same ticket (request ∷ more) none = by (ticket == request.0) (but_same ticket more) none
+  where
+    by : (b : Bool) → (waits_for_reply ticket more ≡ false → requests_but ticket more ≡ more) → (b || waits_for_reply ticket more) ≡ false
+        → cond b more (request ∷ requests_but ticket more) ≡ request ∷ more
+    by true rest e = absurd (false≢true (sym e))
+    by false rest e = ap (λ xs. request ∷ xs) (rest e)
+
+or_false : (a b : Bool) → (a || b) ≡ false → (a ≡ false) × (b ≡ false)
+or_false true b e = absurd (false≢true (sym e))
+or_false false b e = (refl, e)
+
+abbrev with_tickets : Kept → Seen → Seen
+with_tickets kept seen = record seen { parts = record seen.parts { tickets = kept.tickets }; ready = kept.ready }
+
+-- where the ticket is settled nothing changes
+pub deadline_by : (seen old : Seen) (ticket : ℕ) (kept : Kept) → seen ≡ old → kept ≡ tickets_kept.timed_out ticket (kept_of seen)
+    → with_tickets kept seen ≡ seen_all old (own_steps old.parts (Deadline ticket))
+deadline_by seen old ticket kept same is =
+    ap (λ k. with_tickets k seen) is ∙ (ap (λ s. with_tickets (tickets_kept.timed_out ticket (kept_of s)) s) same ∙ by (is_unsettled ticket old.parts.tickets) refl)
+  where
+    by : (b : Bool) → is_unsettled ticket old.parts.tickets ≡ b
+        → with_tickets (tickets_kept.timed_out ticket (kept_of old)) old ≡ seen_all old (cond (is_unsettled ticket old.parts.tickets) (chain old.parts (passed ticket)) [])
+    by true e = sym (ap (λ b. seen_all old (cond b (chain old.parts (passed ticket)) [])) e)
+    by false e =
+        let parts = or_false (waits_for_reply ticket old.parts.tickets.asking) (is_waiting_request (item_of (ticket - old.parts.tickets.handled) old.parts.tickets.queued)) e in
+        ap (λ b. record old { parts = record old.parts { tickets = record old.parts.tickets { queued = at_number (ticket - old.parts.tickets.handled) waits_late old.parts.tickets.queued; asking = requests_but ticket old.parts.tickets.asking } }; ready = push_all (cond b ((ticket, TimedOut) ∷ []) []) old.ready }) e
+        ∙ (ap (λ qs. record old { parts = record old.parts { tickets = record old.parts.tickets { queued = qs; asking = requests_but ticket old.parts.tickets.asking } } }) (late_same (ticket - old.parts.tickets.handled) old.parts.tickets.queued parts.1)
+        ∙ (ap (λ xs. record old { parts = record old.parts { tickets = record old.parts.tickets { asking = xs } } }) (but_same ticket old.parts.tickets.asking parts.0)
+        ∙ sym (ap (λ b. seen_all old (cond b (chain old.parts (passed ticket)) [])) e)))
 
 -- ---- a subscription that is let go, whatever the reply
 

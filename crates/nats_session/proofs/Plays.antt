@@ -12,9 +12,9 @@ use Rattle.nats_history.specs.declared.call.TakeReply.TheVariants as takes
 use Rattle.nats_history.specs.declared.transcript.LinkWord.{LinkWord}
 use Rattle.nats_history.specs.declared.transcript.LinkWord.TheVariants as word
 use Rattle.nats_history.specs.declared.turn.Turn.{Turn}
-use Rattle.nats_history.specs.declared.turn.Turn.TheVariants.{Up, Piece, Write, Tick, Lost, GiveUp, Hangup, Do, Take}
+use Rattle.nats_history.specs.declared.turn.Turn.TheVariants.{Up, Piece, Write, Tick, Lost, GiveUp, Hangup, Do, Take, Deadline}
 use Rattle.nats_tables.specs.Numbers.{item_of}
-use Rattle.nats_history.specs.History.{Step, read, ticked, link_end, closed, handled, History, ticks, lets_go, Sub, at_of, given}
+use Rattle.nats_history.specs.History.{Step, read, ticked, link_end, closed, handled, passed, History, ticks, is_unsettled, lets_go, Sub, at_of, given}
 use Rattle.nats_history.specs.Parts.{Parts, parts_of}
 use Rattle.nats_history.specs.Schedule.{refusal, take_reply, is_there, is_valid_turn, closes, closing, ending, ends_link, read_end, tick_limit, chain, accepted_step, gone_step, took_step, own_steps, due_by, due, most_due, put_steps, after_turn, steps_from, steps, out_of_turn_from, out_of_turn}
 use Rattle.nats_history.specs.Transcripts.{Answer, answer_of, answers_from, answers, transcript}
@@ -99,6 +99,10 @@ tick_ends_up : (last : Bool) (p : Parts) → p.link.is_up ≡ true → AllEndUp 
 tick_ends_up true p up = chain_ends_up p (link_end word.Ticks) up
 tick_ends_up false p up = (tt, tt)
 
+deadline_ends_up : (p : Parts) (ticket : ℕ) (unsettled : Bool) → AllEndUp (cond unsettled (chain p (passed ticket)) []) p
+deadline_ends_up p ticket true = (tt, tt)
+deadline_ends_up p ticket false = tt
+
 own_end_up : (turn : Turn) (p : Parts) → is_valid_turn p turn ≡ true → AllEndUp (own_steps p turn) p
 own_end_up (Up info) p valid = (tt, tt)
 own_end_up (Piece bytes) p valid = (tt, tt)
@@ -109,6 +113,7 @@ own_end_up GiveUp p valid = (tt, tt)
 own_end_up Hangup p valid = hangup_ends_up p.link.is_up p refl
 own_end_up (Do call) p valid = call_ends_up (refusal p call) call (lets_go call) p
 own_end_up (Take sid) p valid = took_ends_up sid (take_reply p sid) p
+own_end_up (Deadline ticket) p valid = deadline_ends_up p ticket (is_unsettled ticket p.tickets)
 
 -- ---- a whole turn
 
@@ -122,6 +127,7 @@ answer_is c h Tick = refl
 answer_is c h Lost = refl
 answer_is c h GiveUp = refl
 answer_is c h Hangup = refl
+answer_is c h (Deadline ticket) = refl
 
 item_within : {A : Type 0} (xs : List A) (k : ℕ) → is_some (item_of k xs) ≡ true → k ≤ length xs
 item_within xs zero e = omega arith
@@ -148,6 +154,7 @@ answer_given c h place Tick steps valid = tt
 answer_given c h place Lost steps valid = tt
 answer_given c h place GiveUp steps valid = tt
 answer_given c h place Hangup steps valid = tt
+answer_given c h place (Deadline ticket) steps valid = tt
 answer_given c h place (Do call) steps valid = tt
 
 -- at the parts of the history itself

@@ -1,11 +1,14 @@
 -- A run is half way: playing the turns that are left from here is playing all of them from the beginning.
-use Rattle.std.proofs.Common.{◌≡◌, ℕ, suc, ◌+◌, ◌≤◌, ◌<◌, true, false, cond, List, ◌∷◌, length, get_or, drop, Some, None, refl, sym, ◌∙◌, ap, add-one, drop-cons}
+use Rattle.std.proofs.Common.{◌≡◌, ℕ, suc, ◌+◌, ◌≤◌, ◌<◌, true, false, cond, List, ◌∷◌, length, get_or, drop, Some, None, Result, Ok, Err, IsErr, IsErrAnd, refl, sym, ◌∙◌, ap, subst, add-one, drop-cons}
 use Rattle.std.proofs.lemmas.List.{drop_all}
 use Rattle.nats_history.specs.declared.config.Config.{Config}
 use Rattle.nats_history.specs.declared.turn.Turn.{Turn}
 use Rattle.nats_history.specs.Parts.{Parts}
 use Rattle.nats_history.specs.Schedule.{is_valid_turn, due, out_of_turn}
-use Rattle.nats_history.specs.Transcripts.{transcript}
+use Rattle.nats_history.specs.Transcripts.{transcript, Plays}
+use Rattle.nats_history.specs.declared.transcript.Transcript.{Transcript}
+use Rattle.nats_history.specs.declared.transcript.RunError.{RunError}
+use Rattle.nats_history.specs.declared.transcript.RunError.TheVariants as refused
 use Rattle.nats_history.proofs.Dues.{none_left}
 use Rattle.nats_session.specs.Handler.{idle}
 use Rattle.nats_session.specs.Sheet.{Sheet, empty_sheet, finished}
@@ -55,3 +58,8 @@ ends_at c turns i p sheet running past =
     sym (ap (λ ts. played_sheet (suc i) ts p sheet) over) ∙ running.written
     in
     (none, ap (λ q. finished q sheet) parts ∙ (ap (finished (played_parts turns (idle c))) written ∙ transcript_from_idle c turns none))
+
+-- memory was wanting
+pub wanting : (c : Config) (turns : List Turn) (r : Result Transcript RunError) → IsErr r × IsErrAnd r (λ e. e ≡ refused.NoMemory) → Plays c turns r
+wanting c turns (Ok t) is = absurd is.1
+wanting c turns (Err e) is = subst (λ x. Plays c turns (Err x)) (sym is.1) tt

@@ -15,7 +15,7 @@ use Rattle.nats_subs.specs.declared.subs.subscription.Delivery.TheVariants.{Put,
 use Rattle.nats_history.specs.declared.transcript.LinkWord.{LinkWord}
 use Rattle.nats_history.specs.declared.transcript.LinkWord.TheVariants as word
 use Rattle.nats_history.specs.Queue.{first}
-use Rattle.nats_history.specs.History.{Step, opened, fed, read, ticked, taken, accepted, handled, took, gone, link_end, closed}
+use Rattle.nats_history.specs.History.{Step, opened, fed, read, ticked, taken, accepted, handled, took, gone, passed, link_end, closed}
 use Rattle.nats_history.specs.Parts.{Parts}
 use Rattle.nats_history.specs.Schedule.{closes, ending, ends_link, read_end, pong_end, chain, due_call, due_by, due, due_chain, most_due}
 use Rattle.nats_history.specs.After.{after, after_all, due_steps}
@@ -83,6 +83,7 @@ written_due place p (took sid) sheet can = absurd can
 written_due place p (gone sid) sheet can = absurd can
 written_due place p closed sheet can = absurd can
 written_due place p ticked sheet can = absurd can
+written_due place p (passed ticket) sheet can = absurd can
 
 chain_gives_none : (p : Parts) (step : Step) → CanBeDue step → NoneGiven (chain p step)
 chain_gives_none p (read operation) can = (refl, ending_gives_none p.drain.is_handled (read_end p.link.pings operation))
@@ -96,6 +97,7 @@ chain_gives_none p (took sid) can = absurd can
 chain_gives_none p (gone sid) can = absurd can
 chain_gives_none p closed can = absurd can
 chain_gives_none p ticked can = absurd can
+chain_gives_none p (passed ticket) can = absurd can
 
 -- a due step that was played, written and whose events and settled tickets were handed out
 pub noted : (place : ℕ) (next : Option Step) (old new last : Seen) (name : Due) (s0 s1 s2 s3 : Sheet)

@@ -24,12 +24,13 @@ use Rattle.nats_subs.specs.declared.subs.subscription.Delivery.{Delivery}
 use Rattle.nats_subs.specs.declared.subs.subscription.Delivery.TheVariants.{Put, Dropped, Unwanted, Ignored}
 use Rattle.nats_history.specs.Queue.{first}
 use Rattle.nats_tables.specs.Numbers.{at_number, item_of, change}
-use Rattle.nats_history.specs.History.{Step, cut, read, handled, link_end, History, drained_by, second, kept, events, waiting_bytes, settles, tickets}
+use Rattle.nats_history.specs.History.{Step, cut, read, handled, link_end, History, drained_by, second, kept, events, waiting_bytes, settles, no_tickets, tickets}
+use Rattle.nats_history.specs.Counts.{no_statistics, message_counted}
 use Rattle.nats_history.specs.Parts.{Parts, parts_of}
 use Rattle.nats_history.specs.Schedule.{is_valid_turn, refusal, call_reply, accepted_step, call_steps, due, chain, ends_link, put_steps}
 use Rattle.nats_history.specs.After.{after, events_of, settled_of}
 pub use Rattle.nats_tickets.specs.Kept.{push_all}
-use Rattle.nats_tickets.specs.Kept.{Kept, reply_in, without}
+use Rattle.nats_tickets.specs.Kept.{Kept, arrived, reply_in, without}
 use Rattle.nats_subs.specs.Delivery.{delivery_at, deliver, altered, with_rows, rows_with}
 use Rattle.nats_subs.specs.declared.subs.subscription.Alteration.TheVariants as alterations
 
@@ -56,7 +57,7 @@ nothing_handed = record { events = 0; tickets = [] }
 -- the tickets that settled, each with its reply, in the order in which they did
 abbrev pub settled_tickets : Config → History → List (ℕ × CallReply)
 settled_tickets c [] = []
-settled_tickets c ((place, step) ∷ h) = settled_tickets c h ++ settles (length (waiting_bytes c h)) step (tickets c h)
+settled_tickets c ((place, step) ∷ h) = settled_tickets c h ++ settles c (length (waiting_bytes c h)) step (tickets c h)
 
 -- those that are left where these were handed out
 abbrev pub without_all : List ℕ → List (ℕ × CallReply) → List (ℕ × CallReply)
@@ -85,7 +86,9 @@ idle c = record {
   link = record { number = 0; is_up = false; max_payload = 1048576; info = None; reads = 0; pings = []; wire = fresh };
   calls = [];
   subs = record { given = 0; subscribed = 0; rows = [] };
-  tickets = record { given = 0; handled = 0; flushing = [] };
+  requested = false;
+  tickets = no_tickets;
+  statistics = no_statistics;
 }
 
 abbrev pub seen_after : Seen → Step → Seen
@@ -137,6 +140,11 @@ read_past n seen = record seen {
   };
 }
 
+-- the same where it was a message of such a length
+abbrev pub message_past : ℕ → ℕ → Seen → Seen
+message_past n len seen =
+    read_past n (record seen { parts = record seen.parts { statistics = message_counted len seen.parts.statistics } })
+
 -- a turn may be played: it may come here and no step is due
 abbrev pub can_play : Parts → Turn → Bool
 can_play p turn = is_valid_turn p turn && not (is_some (due p))
@@ -186,6 +194,17 @@ after_message sid m Unwanted old = unwanted_seen sid old
 after_message sid m Dropped old = record old { events = old.events ++ SlowConsumer sid ∷ [] }
 after_message sid m Put old = delivered_seen sid m old
 after_message sid m Ignored old = delivered_seen sid m old
+
+-- what is seen after a message to the inbox, by which a request may settle
+abbrev pub arrived_seen : Message → Seen → Seen
+arrived_seen m old = record old {
+  parts = record old.parts { tickets = (arrived m (kept_of old)).tickets };
+  ready = (arrived m (kept_of old)).ready;
+}
+
+-- what is seen after a message of a number, but for its bytes
+abbrev pub come_seen : ℕ → Message → Seen → Seen
+come_seen sid m old = if sid == 0 then arrived_seen m old else after_message sid m (delivery_of old.parts sid) old
 
 -- what is seen after a PONG by which the link stays up, but for its bytes: its PING is answered, and the subscription that it
 -- drained ends

@@ -7,11 +7,12 @@ mod calls;
 mod drains;
 mod due;
 mod ends;
+mod requests;
 
 pub use due::Look;
-use nats_history::{Call, Config, Event, NoMemory, ServerInfo};
+use nats_history::{Call, Config, Event, NoMemory, ServerInfo, Statistics};
 use nats_subs::{Pings, Queue, Subscriptions};
-use nats_tickets::Flushes;
+use nats_tickets::Tickets;
 use nats_wire::Connection;
 use std::alloc::Global;
 use std::marker::Model;
@@ -39,7 +40,9 @@ pub struct ConnectionHandler {
     connection: Connection,
     calls: Queue<Call>,
     subs: Subscriptions,
-    flushes: Flushes,
+    requested: bool,
+    tickets: Tickets,
+    statistics: Statistics,
     events: Queue<Event>,
 }
 
@@ -65,10 +68,12 @@ impl Model for ConnectionHandler {
         };
         calls = h.calls;
         subs = h.subs;
-        tickets = h.flushes.tickets;
+        requested = h.requested;
+        tickets = h.tickets.tickets;
+        statistics = h.statistics;
       };
       events = h.events;
-      ready = h.flushes.ready;
+      ready = h.tickets.ready;
     } };
 }
 
@@ -92,7 +97,9 @@ impl ConnectionHandler {
             connection: Connection::new(alloc),
             calls: Queue::new(alloc),
             subs: Subscriptions::new(alloc),
-            flushes: Flushes::new(alloc),
+            requested: false,
+            tickets: Tickets::new(alloc),
+            statistics: Statistics::default(),
             events: Queue::new(alloc),
         })
     }

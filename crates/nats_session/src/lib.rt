@@ -9,8 +9,8 @@ mod play;
 pub use handler::ConnectionHandler;
 pub use nats_history::{
     Bytes, Call, CallReply, Config, Due, Event, HeaderMap, LinkRow, LinkWord, Message, NoMemory,
-    OutboundMessage, RunError, Seq, ServerInfo, SubRow, Subject, TakeReply, Token, Transcript,
-    Turn,
+    OutboundMessage, RunError, Seq, ServerInfo, Statistics, SubRow, Subject, TakeReply, Token,
+    Transcript, Turn,
 };
 pub use nats_names::State;
 pub use play::run;

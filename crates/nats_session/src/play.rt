@@ -10,7 +10,7 @@ ghost use Rattle.nats_history.specs.declared.transcript.RunError.TheVariants as 
 
 use crate::handler::{ConnectionHandler, Look};
 use nats_draft::{Draft, Note};
-use nats_history::refusals::is_flush;
+use nats_history::refusals::takes_ticket;
 use nats_history::{Call, Config, LinkWord, NoMemory, RunError, ServerInfo, Transcript, Turn};
 use nats_subs::Delivery;
 use nats_wire::PeekedOp;
@@ -155,8 +155,8 @@ fn play_call(
     let Ok(reply) = handler.submit(alloc, call.copy(alloc)?) else {
         return Err(NoMemory);
     };
-    if is_flush(call) {
-        return draft.note_flush(place, reply);
+    if takes_ticket(call) {
+        return draft.note_ticket(place, reply);
     }
     draft.note_call(alloc, place, reply)
 }
@@ -176,6 +176,22 @@ fn play_take(
 {
     let reply = handler.take(sid);
     draft.note(alloc, place, sid, Note::Take(reply))
+}
+
+fn play_deadline(
+    handler: &mut ConnectionHandler,
+    draft: &mut Draft,
+    place: u64,
+    ticket: u64,
+) -> Result<(), NoMemory>
+    requires may { IsTrue (can_play handler.old.parts (turns.Deadline ticket)) }
+    requires none { handler.old.events ≡ [] }
+    requires settled { handler.old.ready ≡ [] }
+    ensures parts { OnOk result (handler.new ≡ quiet (own_parts (turns.Deadline ticket) handler.old.parts)) }
+    ensures sheet { OnOk result (draft.new ≡ own_sheet place (turns.Deadline ticket) handler.old.parts draft.old) }
+{
+    handler.deadline(ticket);
+    note_news(handler, draft, place)
 }
 
 fn play_own(
@@ -201,6 +217,7 @@ fn play_own(
         Turn::Hangup => play_hangup(alloc, handler, draft, place),
         Turn::Do(call) => play_call(alloc, handler, draft, place, call),
         Turn::Take(sid) => play_take(alloc, handler, draft, place, *sid),
+        Turn::Deadline(ticket) => play_deadline(handler, draft, place, *ticket),
     }
 }
 

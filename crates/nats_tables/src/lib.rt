@@ -2,8 +2,6 @@
 #![tactic(auto)]
 
 mod table;
-#[cfg(test)]
-mod tests;
 
 pub use nats_names::NoMemory;
 pub use table::{Change, Row, Table, TryChange};

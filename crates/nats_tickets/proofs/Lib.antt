@@ -1,2 +1,5 @@
+pub mod Asks
 pub mod Marks
 pub mod Places
+pub mod Rooms
+pub mod Sorts

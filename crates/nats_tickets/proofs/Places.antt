@@ -1,7 +1,5 @@
 -- Where a ticket stands among the settled ones.
-use Rattle.std.specs.Prelude.{slice_index_or}
-use Rattle.std.specs.List.{remove}
-use Rattle.std.proofs.Common.{◌≡◌, ℕ, zero, suc, ◌+◌, ◌<◌, ◌≤◌, Bool, true, false, cond, ◌==◌, List, [], ◌∷◌, ◌++◌, length, get_or, take, drop, Some, None, refl, sym, ◌∙◌, ap, arith}
+use Rattle.std.proofs.Common.{◌≡◌, ℕ, zero, suc, ◌<◌, ◌≤◌, true, false, cond, ◌==◌, List, [], ◌∷◌, ◌++◌, length, get_or, take, drop, Some, None, refl, sym, ◌∙◌, ap, arith}
 use Rattle.std.proofs.lemmas.List.{append-nil, append_assoc, drop_all}
 use Rattle.nats_history.specs.declared.call.CallReply.{CallReply}
 use Rattle.nats_tickets.specs.Kept.{reply_in, without, IsPlaceIn}

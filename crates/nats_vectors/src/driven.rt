@@ -8,7 +8,7 @@ use crate::words::{
 };
 use nats_names::{Bytes, NoMemory, State};
 use nats_script::{Script, print_transcript, read_script};
-use nats_session::{Call, Config, ConnectionHandler, ServerInfo, Turn, run};
+use nats_session::{Call, Config, ConnectionHandler, ServerInfo, Statistics, Turn, run};
 use std::alloc::Global;
 
 /// The most due steps, and the most events, that are played behind one turn.
@@ -112,6 +112,13 @@ fn take(
     say_take(out, &reply.copy(alloc)?)
 }
 
+fn deadline(handler: &mut ConnectionHandler, out: &mut Vec<u8>, t: u64) -> Result<(), NoMemory>
+    requires { IsTrue (can_play handler.old.parts (turns.Deadline t)) }
+{
+    handler.deadline(t);
+    say(out, "ok")
+}
+
 fn play_own(
     alloc: Global,
     handler: &mut ConnectionHandler,
@@ -130,6 +137,7 @@ fn play_own(
         Turn::Hangup => hang_up(alloc, handler, out),
         Turn::Do(call) => submit(alloc, handler, out, call),
         Turn::Take(s) => take(alloc, handler, out, *s),
+        Turn::Deadline(t) => deadline(handler, out, *t),
     }
 }
 
@@ -246,12 +254,21 @@ fn say_info(out: &mut Vec<u8>, info: Option<&ServerInfo>) -> Result<(), NoMemory
     }
 }
 
+fn say_counts(out: &mut Vec<u8>, counted: Statistics) -> Result<(), NoMemory> {
+    say_number(out, " in", counted.in_messages)?;
+    say_number(out, "", counted.in_bytes)?;
+    say_number(out, " out", counted.out_messages)?;
+    say_number(out, "", counted.out_bytes)?;
+    say_number(out, " links", counted.connects)
+}
+
 fn say_link(out: &mut Vec<u8>, handler: &ConnectionHandler) -> Result<(), NoMemory> {
     say_number(out, "link", handler.link())?;
     say_state(out, handler)?;
     say_number(out, " most", handler.max_payload())?;
     say_info(out, handler.server_info())?;
     say_number(out, " reads", handler.reads())?;
+    say_counts(out, handler.statistics())?;
     say_number(out, " pending", handler.pending())
 }
 
@@ -305,8 +322,8 @@ fn drive(
 /// What a session answers to copies of the turns of a script, a line for each: the answer to the turn's own call, the due steps
 /// that `advance` then plays, the events, and the replies of the first tickets; `out of turn` where `check` refuses the turn, which
 /// is then not played. A last line says what the session tells of itself: its link, the payload's limit that a server said last, how
-/// much was read and how much waits, the youngest message of subscription 1, the waiting bytes. Where a line cannot be read, its
-/// number alone.
+/// much was read, the messages in and out, each with their bytes, the links that came up, how much waits, the youngest message of
+/// subscription 1, the waiting bytes. Where a line cannot be read, its number alone.
 pub fn answers(alloc: Global, script: &str) -> Result<Vec<u8>, NoMemory> {
     let mut out = Vec::new(alloc);
     match read_script(alloc, script.as_bytes())? {

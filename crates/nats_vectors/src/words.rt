@@ -42,7 +42,11 @@ pub fn say_reply(out: &mut Vec<u8>, reply: &CallReply) -> Result<(), NoMemory> {
         CallReply::NoNumber => say(out, "no-number"),
         CallReply::Full => say(out, "full"),
         CallReply::Flushed => say(out, "flushed"),
+        CallReply::Replied(message) => say_message(out, "replied", message),
         CallReply::FlushFailed => say(out, "flush-failed"),
+        CallReply::NoResponders => say(out, "no-responders"),
+        CallReply::TimedOut => say(out, "timed-out"),
+        CallReply::Dropped => say(out, "dropped"),
     }
 }
 

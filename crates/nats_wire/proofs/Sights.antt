@@ -1,10 +1,12 @@
 -- What stands at the front of a text, by what is seen there.
-use Rattle.std.proofs.Common.{◌≡◌, ◌≢◌, ℕ, ◌≤◌, Bool, true, false, List, length, Option, Some, None, Err, refl, ap, sym, ◌∙◌}
-use Rattle.std.specs.Prelude.{IsTrue}
+use Rattle.std.proofs.Common.{◌≡◌, ◌≢◌, ℕ, ◌≤◌, arith, Bool, true, false, List, length, Option, Some, None, Result, Ok, Err, refl, ap, sym, ◌∙◌}
+use Rattle.std.specs.Prelude.{IsTrue, IfOk}
 use Rattle.nats_wire.specs.declared.decode.Sight as code
 use Rattle.nats_wire.specs.declared.decode.Sight.TheVariants as sees
-use Rattle.nats_wire.specs.Operations.{Operation, OpText, Sight, less, whole, bad, sight, op_of, lost_at, got_or_fault, front_of_sight, unfinished, got, fault, is_unfinished, is_whole, takes_memory, front}
-use Rattle.nats_wire.specs.Decoder.{sight_view}
+use Rattle.nats_wire.specs.declared.front.Front as code_front
+use Rattle.nats_wire.specs.declared.front.Front.TheVariants as fronts
+use Rattle.nats_wire.specs.Operations.{Operation, OpText, Sight, less, whole, bad, sight, op_of, lost_at, got_or_fault, front_of_sight, unfinished, got, fault, is_unfinished, is_whole, takes_memory, front, peeked_view}
+use Rattle.nats_wire.specs.Decoder.{sight_view, front_view, taken_by}
 use Rattle.nats_wire.specs.Connection.{Looks, Reads}
 use Rattle.nats_wire.specs.Wire.{Wire}
 use Rattle.nats_wire.specs.declared.op.WireError.TheVariants.{NoMemory}
@@ -76,3 +78,20 @@ reads_seen (whole text n) wire takes = reads_by (op_of text) n (lost_at text n) 
 pub reads_without_memory : (bytes : List ℕ) (wire : Wire) → IsTrue (takes_memory bytes)
     → Reads (front bytes) (takes_memory bytes) wire (Err NoMemory) wire
 reads_without_memory bytes wire takes = rw (front_by_sight bytes (sight bytes) refl) (reads_seen (sight bytes) wire takes)
+
+-- what is there takes no more bytes than are there
+pub view_fits : (bytes : List ℕ) (f : code_front.Front) → front_view f ≡ front bytes → taken_by f ≤ length bytes
+view_fits bytes fronts.Unfinished is = omega arith
+view_fits bytes (fronts.Got op n) is = got_fits bytes n (peeked_view op) is
+view_fits bytes (fronts.Fault n) is = lost_fits bytes n is
+
+-- what is told by what is seen is told of the text
+pub ok_by_sight : {E : Type 0} (bytes : List ℕ) (seen : Sight) (r : Result code_front.Front E) → seen ≡ sight bytes
+    → IfOk r (λ f. front_view f ≡ front_of_sight seen) → IfOk r (λ f. front_view f ≡ front bytes)
+ok_by_sight bytes seen (Ok f) sees is = is ∙ sym (front_by_sight bytes seen sees)
+ok_by_sight bytes seen (Err e) sees is = is
+
+pub ok_fits : {E : Type 0} (bytes : List ℕ) (r : Result code_front.Front E)
+    → IfOk r (λ f. front_view f ≡ front bytes) → IfOk r (λ f. taken_by f ≤ length bytes)
+ok_fits bytes (Ok f) is = view_fits bytes f is
+ok_fits bytes (Err e) is = is

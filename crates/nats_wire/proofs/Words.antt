@@ -1,6 +1,6 @@
 -- The words of a text between white space, one after another.
 use lib.Utf8.{low_scalar}
-use Rattle.std.proofs.Common.{◌≡◌, ℕ, ◌+◌, ◌<◌, ◌≤◌, Bool, true, false, not, List, [], ◌∷◌, ◌++◌, length, map, Option, Some, None, IfSome, nat_lt, Bor, refl, ap, sym, ◌∙◌, arith, tests, append-nil, length-append}
+use Rattle.std.proofs.Common.{◌≡◌, ℕ, ◌+◌, ◌<◌, ◌≤◌, Bool, true, false, not, List, [], ◌∷◌, ◌++◌, length, map, Option, Some, None, IfSome, nat_lt, Bor, refl, ap, sym, ◌∙◌, arith, tests, ltb-false, append-nil, length-append}
 use Rattle.std.specs.Prelude.{◌==◌, if◌then◌else◌}
 use Rattle.std.specs.Char.{is_whitespace, is_not_whitespace, IsScalar, encode_utf8}
 use Rattle.std.specs.List.{filter, slice_split, onto_first}
@@ -220,3 +220,34 @@ other_step false text is never = refl
 -- and where it is none
 pub no_header_head : (text : List ℕ) → ¬ (IsUtf8 text) → None ≡ header_head_of text
 no_header_head text never = other_step (is_utf8 text) text refl never
+
+within_step : (test : Bool) (head : Head) (block_len : ℕ) (h : HeaderHead) → nat_lt head.count block_len ≡ test
+    → (if test then None else Some (record { head = head; block_len = block_len })) ≡ Some h → h.block_len ≤ h.head.count
+within_step true head block_len h test is = cc
+within_step false head block_len h test is =
+    let e : record { head = head; block_len = block_len } ≡ h = cc in
+    let fits : block_len ≤ head.count = ltb-false head.count block_len test in
+    omega (arith, ap (λ (h : HeaderHead). h.block_len) e, ap (λ (h : HeaderHead). h.head.count) e)
+
+within_by : (block_len : Option ℕ) (head : Option Head) (h : HeaderHead) → with_block_len block_len head ≡ Some h → h.block_len ≤ h.head.count
+within_by None head h is = cc
+within_by (Some block_len) None h is = cc
+within_by (Some block_len) (Some head) h is = within_step (nat_lt head.count block_len) head block_len h refl is
+
+words_within : (words : List (List ℕ)) (h : HeaderHead) → header_head_of_words words ≡ Some h → h.block_len ≤ h.head.count
+words_within [] h is = cc
+words_within (a ∷ []) h is = cc
+words_within (a ∷ b ∷ []) h is = cc
+words_within (a ∷ b ∷ c ∷ []) h is = cc
+words_within (a ∷ b ∷ c ∷ d ∷ []) h is = within_by (number_of c) (head_with a None (number_of b) (number_of d)) h is
+words_within (a ∷ b ∷ c ∷ d ∷ e ∷ []) h is = within_by (number_of d) (head_with a (Some c) (number_of b) (number_of e)) h is
+words_within (a ∷ b ∷ c ∷ d ∷ e ∷ f ∷ more) h is = cc
+
+header_within_by : (test : Bool) (text : List ℕ) (h : HeaderHead) → (if test then header_head_of_words (words_of text) else None) ≡ Some h
+    → h.block_len ≤ h.head.count
+header_within_by true text h is = words_within (words_of text) h is
+header_within_by false text h is = cc
+
+-- the block of a message with headers is within what its line counts
+pub header_within : (text : List ℕ) (h : HeaderHead) → header_head_of text ≡ Some h → h.block_len ≤ h.head.count
+header_within text h is = header_within_by (is_utf8 text) text h is

@@ -1,14 +1,15 @@
 //! A connection to a server: bytes in, operations out; commands in, bytes out. It reads and writes nothing itself.
-ghost use Rattle.std.specs.Prelude.{◌≡◌, ◌<◌, ◌≤◌, ◌++◌, [], length, drop, OnOk, OnErr, IfOk, IfSome, nat_le};
+ghost use Rattle.std.specs.Prelude.{◌≡◌, ◌<◌, ◌≤◌, ◌++◌, [], length, take, drop, OnOk, OnErr, IfOk, IfSome, nat_le};
 ghost use Rattle.nats_wire.specs.Wire.{fresh};
 ghost use Rattle.nats_wire.specs.Operations.{front, takes_memory, is_unfinished};
 ghost use Rattle.nats_wire.specs.Commands.{command_text, command_texts, one_piece};
 ghost use Rattle.nats_wire.specs.Connection.{Looks, Reads};
 
 use crate::command;
-use crate::decode::{self, Sight};
-use crate::front::{Front, front_of};
+use crate::decode::Sight;
+use crate::front::Front;
 use crate::op::{ClientOp, PeekedOp, ServerOp, WireError};
+use crate::unread::Unread;
 use bytes::BytesMut;
 use nats_names::{Bytes, NoMemory};
 use std::alloc::Global;
@@ -27,7 +28,7 @@ pub struct Peeked {
 /// The two buffers of a link. The crate's `Connection`, apart from its stream.
 #[derive(Drop)]
 pub struct Connection {
-    read_buf: BytesMut,
+    unread: Unread,
     write_buf: BytesMut,
 }
 
@@ -36,7 +37,7 @@ impl Model for Connection {
 
     ghost Value = { Wire };
 
-    ghost view = { λ c. record { unread = c.read_buf.items; waiting = c.write_buf.items } };
+    ghost view = { λ c. record { unread = c.unread; waiting = c.write_buf.items } };
 }
 
 impl Connection {
@@ -45,18 +46,17 @@ impl Connection {
         ensures { result ≡ fresh }
     {
         Connection {
-            read_buf: BytesMut::new(alloc),
+            unread: Unread::new(alloc),
             write_buf: BytesMut::new(alloc),
         }
     }
 
     /// Appends bytes that the server sent, whole.
-    pub fn feed(&mut self, _alloc: Global, bytes: &[u8]) -> Result<(), NoMemory>
+    pub fn feed(&mut self, alloc: Global, bytes: &[u8]) -> Result<(), NoMemory>
         ensures ok { OnOk result (self.new ≡ record self.old { unread = self.old.unread ++ bytes.now }) }
         ensures err { OnErr result (self.new ≡ self.old) }
     {
-        self.read_buf.extend_from_slice(bytes)?;
-        Ok(())
+        self.unread.feed(alloc, bytes)
     }
 
     /// What stands at the front of the unread bytes, copied; `None` where that is less than an operation. Nothing is
@@ -72,7 +72,7 @@ impl Connection {
         ensures looks { Looks (front self.now.unread) (takes_memory self.now.unread) result }
         ensures fits { IfOk result (λ peeked. IfSome peeked (λ p. p.len ≤ length self.now.unread)) }
     {
-        match front_of(alloc, self.read_buf.as_slice()) {
+        match self.unread.front(alloc) {
             Ok(Front::Unfinished) => Ok(None),
             Ok(Front::Got(op, len)) => Ok(Some(Peeked { op, len })),
             Ok(Front::Fault(_)) => Err(WireError::ReadFault),
@@ -84,7 +84,7 @@ impl Connection {
     pub fn is_unfinished(&self) -> bool
         ensures { result ≡ is_unfinished (front self.now.unread) }
     {
-        let sight = decode::sight_of(self.read_buf.as_slice());
+        let sight = self.unread.sight();
         matches!(sight, Sight::Unfinished)
     }
 
@@ -92,7 +92,7 @@ impl Connection {
     pub fn unread(&self) -> usize
         ensures { result ≡ length self.now.unread }
     {
-        self.read_buf.len()
+        self.unread.len()
     }
 
     /// Takes the first `n` unread bytes away. Own call, for use after `peek_op`.
@@ -100,7 +100,7 @@ impl Connection {
         requires { n ≤ length self.old.unread }
         ensures { self.new ≡ record self.old { unread = drop n self.old.unread } }
     {
-        self.read_buf.advance(n);
+        self.unread.consume(n);
     }
 
     /// Takes the operation at the front of the unread bytes, `None` where that is less than an operation. The crate's
@@ -114,7 +114,7 @@ impl Connection {
     pub fn try_read_op(&mut self, alloc: Global) -> Result<Option<ServerOp>, WireError>
         ensures { Reads (front self.old.unread) (takes_memory self.old.unread) self.old result self.new }
     {
-        match front_of(alloc, self.read_buf.as_slice()) {
+        match self.unread.front(alloc) {
             Ok(Front::Unfinished) => Ok(None),
             Ok(Front::Got(op, len)) => {
                 self.consume(len);
@@ -172,6 +172,14 @@ impl Connection {
         ensures { self.new ≡ record self.old { waiting = drop n self.old.waiting } }
     {
         self.write_buf.advance(n);
+    }
+
+    /// Takes back what was put behind the first `n` waiting bytes. It takes no memory. Own call.
+    pub fn cut(&mut self, n: usize)
+        requires { n ≤ length self.old.waiting }
+        ensures { self.new ≡ record self.old { waiting = take n self.old.waiting } }
+    {
+        self.write_buf.truncate(n);
     }
 
     /// The waiting bytes as pieces to be written in order: one, or none where nothing waits. They stay until `written`

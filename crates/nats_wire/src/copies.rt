@@ -1,18 +1,24 @@
 //! Copies of what was read, which outlive the text.
-ghost use Rattle.std.specs.Prelude.{◌≡◌, IfOk, option_map};
+ghost use Rattle.std.specs.Prelude.{◌≡◌, ◌+◌, ◌<◌, ◌≤◌, length, IfOk, option_map};
 ghost use Rattle.nats_info.specs.Fields.{info_at};
 ghost use Rattle.nats_block.specs.Block.{block_of};
-ghost use Rattle.nats_wire.specs.Operations.{info_op, message, with_block, peeked_view, op_of};
+ghost use Rattle.nats_wire.specs.Operations.{info_op, message, with_block, peeked_view, op_of, whole, sight};
 ghost use Rattle.nats_wire.specs.Decoder.{op_text_view, message_view, error_view};
+ghost use Rattle.nats_wire.specs.Store.{EndsAt};
 
 use crate::decode::{MessageText, OpText};
 use crate::error_line::ErrorText;
 use crate::message::Message;
 use crate::op::PeekedOp;
-use nats_block::{BlockError, read_block};
+use nats_block::{Block, BlockError, read_block};
 use nats_info::{InfoError, read_info};
 use nats_names::{Bytes, NoMemory, ServerError, Subject, Text};
 use std::alloc::Global;
+
+/// The bytes of the word of a message, and of one with headers, with the space behind it.
+const PLAIN: usize = 4;
+
+const HEADED: usize = 5;
 
 fn optional(alloc: Global, text: Option<&str>) -> Result<Option<Subject>, NoMemory>
     ensures { IfOk result (λ copy. copy ≡ option_map (λ text. text.now) text.entry) }
@@ -30,6 +36,42 @@ fn message(alloc: Global, text: &MessageText<'_>) -> Result<Message, NoMemory>
         subject: Subject::from_text(alloc, text.subject)?,
         reply: optional(alloc, text.reply)?,
         payload: Bytes::copy_from_slice(alloc, text.payload)?,
+        headers: None,
+        status: None,
+        description: None,
+        length: text.length,
+    })
+}
+
+// A subject with the text of `text`, which is shared where it stands at `at`, and else copied.
+fn subject_in(alloc: Global, bytes: &Bytes, at: usize, text: &str) -> Result<Subject, NoMemory>
+    ensures { IfOk result (λ s. s ≡ text.now) }
+{
+    let len = text.len();
+    if at <= bytes.len() && bytes.as_slice()[at..].starts_with(text.as_bytes()) {
+        let part = bytes.slice(at..at + len)?;
+        return Ok(Subject::from_bytes_unchecked(part));
+    }
+    Subject::from_text(alloc, text)
+}
+
+// The message of a text that takes the first `len` of some bytes, whose first word takes the first `at`. It shares the bytes.
+fn message_in(
+    alloc: Global,
+    bytes: &Bytes,
+    text: &MessageText<'_>,
+    len: usize,
+    at: usize,
+) -> Result<Message, NoMemory>
+    requires { EndsAt bytes.now len text.now.payload.now }
+    ensures { IfOk result (λ copy. copy ≡ message_view text.now) }
+{
+    let end = len - 2;
+    let payload = bytes.slice(end - text.payload.len()..end)?;
+    Ok(Message {
+        subject: subject_in(alloc, bytes, at, text.subject)?,
+        reply: optional(alloc, text.reply)?,
+        payload,
         headers: None,
         status: None,
         description: None,
@@ -57,6 +99,20 @@ fn info(alloc: Global, text: &[u8]) -> Result<Option<PeekedOp>, NoMemory>
     }
 }
 
+// A message with what its header block says, in a box.
+fn headed(alloc: Global, sid: u64, plain: Message, block: Block) -> Result<PeekedOp, NoMemory>
+    ensures { IfOk result (λ op. peeked_view op ≡ message sid (with_block plain block)) }
+{
+    let message = Message {
+        headers: Some(block.headers),
+        status: block.status,
+        description: block.description,
+        ..plain
+    };
+    let message = Box::new(alloc, message)?;
+    Ok(PeekedOp::Message { sid, message })
+}
+
 // The message of a text with what its header block says, where that is a header block. The block is read first: it may be
 // none, and then nothing else is copied.
 fn header_message(
@@ -71,14 +127,7 @@ fn header_message(
     match read_block(alloc, block) {
         Ok(block) => {
             let message = message(alloc, text)?;
-            let message = Message {
-                headers: Some(block.headers),
-                status: block.status,
-                description: block.description,
-                ..message
-            };
-            let message = Box::new(alloc, message)?;
-            Ok(Some(PeekedOp::Message { sid, message }))
+            Ok(Some(headed(alloc, sid, message, block)?))
         }
         Err(BlockError::Malformed) => Ok(None),
         Err(BlockError::NoMemory) => Err(NoMemory),
@@ -105,4 +154,54 @@ pub fn operation(alloc: Global, text: &OpText<'_>) -> Result<Option<PeekedOp>, N
             block,
         } => return header_message(alloc, *sid, text, block),
     }))
+}
+
+// The same as `header_message`, of a text that takes the first `len` of some bytes, which the message shares.
+fn header_message_in(
+    alloc: Global,
+    bytes: &Bytes,
+    sid: u64,
+    text: &MessageText<'_>,
+    block: &[u8],
+    len: usize,
+) -> Result<Option<PeekedOp>, NoMemory>
+    requires { EndsAt bytes.now len text.now.payload.now }
+    ensures { IfOk result (λ op. option_map peeked_view op
+        ≡ option_map (λ b. message sid (with_block (message_view text.now) b)) (block_of block.now)) }
+{
+    match read_block(alloc, block) {
+        Ok(block) => {
+            let message = message_in(alloc, bytes, text, len, HEADED)?;
+            Ok(Some(headed(alloc, sid, message, block)?))
+        }
+        Err(BlockError::Malformed) => Ok(None),
+        Err(BlockError::NoMemory) => Err(NoMemory),
+    }
+}
+
+/// The operation of a text that takes the first `len` of some bytes, which it shares; `None` where it turns out to be none.
+pub fn operation_in(
+    alloc: Global,
+    bytes: &Bytes,
+    text: &OpText<'_>,
+    len: usize,
+) -> Result<Option<PeekedOp>, NoMemory>
+    requires { whole (op_text_view text.now) len ≡ sight bytes.now }
+    ensures { IfOk result (λ op. option_map peeked_view op ≡ op_of (op_text_view text.now)) }
+{
+    match text {
+        OpText::Message { sid, message: text } => {
+            let message = message_in(alloc, bytes, text, len, PLAIN)?;
+            let message = Box::new(alloc, message)?;
+            Ok(Some(PeekedOp::Message { sid: *sid, message }))
+        }
+        OpText::HeaderMessage {
+            sid,
+            message: text,
+            block,
+        } => header_message_in(alloc, bytes, *sid, text, block, len),
+        OpText::Ok | OpText::Ping | OpText::Pong | OpText::Error(_) | OpText::Info(_) => operation(
+            alloc, text,
+        ),
+    }
 }

@@ -1,11 +1,12 @@
 //! Finds what stands at the front of a text: the grammar of server operations, in code. It takes no memory.
-ghost use Rattle.std.specs.Prelude.{◌≡◌, ◌+◌, ◌^◌, ◌<◌, ◌≤◌, length, take, drop, Some, None, IfSome, codes, option_map, nat_lt, if◌then◌else◌};
+ghost use Rattle.std.specs.Prelude.{◌≡◌, ◌+◌, ◌^◌, ◌<◌, ◌≤◌, length, take, drop, Some, None, IfSome, IsTrue, codes, option_map, nat_lt, if◌then◌else◌};
 ghost use Rattle.nats_wire.specs.Operations.{cut_line, word_of, head_of, header_head_of, length_or_0, message_of, message_or_bad, headed_or_bad, error_of, error_or_bad, sight_of_word, sight, lost_at};
+ghost use Rattle.nats_wire.specs.Scan.{is_crlf_at, clear_to, cut_at, Needs, Awaits};
 ghost use Rattle.nats_wire.specs.Decoder.{word_len, sight_view, op_text_view, message_view, line_view, head_view};
 
 use crate::error_line::{ErrorText, read_error};
 use crate::head::{Head, HeaderHead, read_head, read_header_head};
-use memchr::memmem;
+use memchr::{memchr, memmem};
 
 /// What stands at the front of a text: less than an operation, the text of one and the number of its bytes, or a fault that
 /// takes some bytes.
@@ -86,11 +87,53 @@ pub struct Line<'a> {
     pub rest: &'a [u8],
 }
 
-fn cut(bytes: &[u8]) -> Option<Line<'_>>
+/// Whether the end of a line, CR LF, stands at `place`.
+pub fn is_crlf_at(bytes: &[u8], place: usize) -> bool
+    requires { place ≤ length bytes.now }
+    ensures { result ≡ is_crlf_at bytes.now place }
+{
+    bytes[place..].starts_with(b"\r\n")
+}
+
+// The place of the first line's end, which stands at no place before `from`.
+fn line_end(bytes: &[u8], from: usize) -> Option<usize>
+    requires within { from ≤ length bytes.now }
+    requires clear { IsTrue (clear_to from bytes.now) }
+    ensures cut { option_map (cut_at bytes.now) result ≡ cut_line bytes.now }
+    ensures fits { IfSome result (λ end. end + 2 ≤ length bytes.now) }
+{
+    if is_crlf_at(bytes, from) {
+        return Some(from);
+    }
+    let lf = memchr(b'\n', &bytes[from..])?;
+    let before = lf.saturating_sub(1);
+    if is_crlf_at(bytes, from + before) {
+        return Some(from + before);
+    }
+    let behind = memmem::find(&bytes[from..], b"\r\n")?;
+    Some(from + behind)
+}
+
+/// A place before which no line's end stands: that of the first one, or that of the last byte, since `from` at the least.
+pub fn clear_place(bytes: &[u8], from: usize) -> usize
+    requires within { from ≤ length bytes.now }
+    requires clear { IsTrue (clear_to from bytes.now) }
+    ensures within { result ≤ length bytes.now }
+    ensures clear { IsTrue (clear_to result bytes.now) }
+{
+    match line_end(bytes, from) {
+        Some(end) => end,
+        None => bytes.len().saturating_sub(1),
+    }
+}
+
+fn cut(bytes: &[u8], from: usize) -> Option<Line<'_>>
+    requires within { from ≤ length bytes.now }
+    requires clear { IsTrue (clear_to from bytes.now) }
     ensures cut { option_map line_view result ≡ cut_line bytes.now }
     ensures whole { IfSome result (λ line. length line.text.now + 2 + length line.rest.now ≡ length bytes.now) }
 {
-    let end = memmem::find(bytes, b"\r\n")?;
+    let end = line_end(bytes, from)?;
     Some(Line {
         text: &bytes[..end],
         rest: &bytes[end + 2..],
@@ -215,12 +258,47 @@ fn sight_of_line<'a>(line: &Line<'a>) -> Sight<'a>
     }
 }
 
+// How many bytes a line announces behind it, apart from the two that end them.
+fn announced(line: &[u8]) -> Option<usize>
+    ensures { IfSome result (λ count. Awaits line.now count) }
+{
+    match first_word(line) {
+        Word::Message => Some(read_head(&line[4..])?.count),
+        Word::HeaderMessage => Some(read_header_head(&line[5..])?.head.count),
+        Word::Info | Word::Error | Word::Ok | Word::Ping | Word::Pong | Word::Other => None,
+    }
+}
+
+/// How many bytes the operation at the front of `bytes` needs, by its line; 0 where the line tells no number.
+pub fn needed(bytes: &[u8], from: usize) -> usize
+    requires within { from ≤ length bytes.now }
+    requires clear { IsTrue (clear_to from bytes.now) }
+    ensures { Needs bytes.now result }
+{
+    let Some(line) = cut(bytes, from) else {
+        return 0;
+    };
+    match announced(line.text) {
+        Some(count) => (line.text.len() + 4).saturating_add(count),
+        None => 0,
+    }
+}
+
+/// What stands at the front of `bytes`, where no line's end stands before the place `from`.
+pub fn sight_behind(bytes: &[u8], from: usize) -> Sight<'_>
+    requires within { from ≤ length bytes.now }
+    requires clear { IsTrue (clear_to from bytes.now) }
+    ensures { sight_view result ≡ sight bytes.now }
+{
+    match cut(bytes, from) {
+        Some(line) => sight_of_line(&line),
+        None => Sight::Unfinished,
+    }
+}
+
 /// What stands at the front of `bytes`.
 pub fn sight_of(bytes: &[u8]) -> Sight<'_>
     ensures { sight_view result ≡ sight bytes.now }
 {
-    match cut(bytes) {
-        Some(line) => sight_of_line(&line),
-        None => Sight::Unfinished,
-    }
+    sight_behind(bytes, 0)
 }

@@ -11,8 +11,8 @@ ghost use Rattle.nats_subs.specs.Delivery.{youngest};
 ghost use Rattle.nats_session.specs.Handler.{can_play, HandsOut, HandsReply, end_in, state_of};
 
 use super::{ConnectionHandler, TICK_LIMIT};
-use nats_history::refusals::{has_group, has_subjects, is_flush, size_of, subscribes};
-use nats_history::{Call, CallReply, Event, LinkWord, Message, ServerInfo, Turn};
+use nats_history::refusals::{has_group, has_subjects, size_of, subscribes, takes_ticket};
+use nats_history::{Call, CallReply, Event, LinkWord, Message, ServerInfo, Statistics, Turn};
 use nats_names::State;
 
 impl ConnectionHandler {
@@ -39,7 +39,8 @@ impl ConnectionHandler {
     }
 
     /// Whether a turn may be played: it may come here, and no step is due. It is the condition of the call of that turn; a
-    /// `Do` may come where the subscription that it names, if it does, was given and not let go. It takes no memory.
+    /// `Do` may come where the subscription that it names, if it does, was given and not let go, a `Deadline` where its ticket was
+    /// given to a request. It takes no memory.
     pub fn check(&self, turn: &Turn) -> bool
         ensures { result ≡ can_play self.now.parts turn.now }
     {
@@ -56,6 +57,7 @@ impl ConnectionHandler {
             Turn::Hangup => !self.is_closed,
             Turn::Do(call) => self.may_name(call),
             Turn::Take(sid) => self.subs.has(*sid),
+            Turn::Deadline(ticket) => self.tickets.is_request(*ticket),
         }
     }
 
@@ -67,6 +69,7 @@ impl ConnectionHandler {
             | Call::Subscribe { .. }
             | Call::DrainAll
             | Call::Flush
+            | Call::Request { .. }
             | Call::Reconnect => true,
             Call::Unsubscribe(sid) | Call::Limit(sid, _) | Call::Drain(sid) | Call::DropSub(sid) =>
                 self.subs.has(*sid),
@@ -78,7 +81,7 @@ impl ConnectionHandler {
         ensures { result ≡ has_no_number self.now.parts call.now }
     {
         (subscribes(call) && self.subs.given() == u64::MAX)
-            || (is_flush(call) && self.flushes.given() == u64::MAX)
+            || (takes_ticket(call) && self.tickets.given() == u64::MAX)
     }
 
     /// The reply by which a call is refused, if it is.
@@ -159,6 +162,15 @@ impl ConnectionHandler {
         self.reads
     }
 
+    /// What was counted over all links, each count up to 2^64 - 1: the messages that were read and their lengths, whatever became
+    /// of them; those of publishes and requests that were handled, with the bytes of subject, reply, header block and payload;
+    /// the links that came up. It takes no memory. The crate's `Client::statistics`; the crate counts the bytes of the link.
+    pub fn statistics(&self) -> Statistics
+        ensures { result ≡ self.now.parts.statistics }
+    {
+        self.statistics
+    }
+
     /// Whether the session closed.
     pub fn is_closed(&self) -> bool
         ensures { result ≡ self.now.parts.is_closed }
@@ -230,14 +242,14 @@ impl ConnectionHandler {
         ensures ticket { result ≡ first self.old.ready }
         ensures rest { self.new ≡ record self.old { ready = drop 1 self.old.ready } }
     {
-        self.flushes.next()
+        self.tickets.next()
     }
 
     fn take_reply_of(&mut self, t: u64) -> Option<CallReply>
         ensures reply { result ≡ reply_in t self.old.ready }
         ensures rest { self.new ≡ record self.old { ready = without t self.old.ready } }
     {
-        self.flushes.reply_of(t)
+        self.tickets.reply_of(t)
     }
 
     /// Hands out the reply by which ticket `t` settled. `None` exactly where it did not settle or its reply was handed out, as

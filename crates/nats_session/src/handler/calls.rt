@@ -1,28 +1,39 @@
 //! The calls that play a session, turn by turn and step by step.
-ghost use Rattle.std.specs.Prelude.{◌≡◌, ◌<◌, [], ◌∷◌, ◌++◌, OnOk, OnErr, IfOk, IfErr, IsTrue, min, length, is_some, None};
+ghost use Rattle.std.specs.Prelude.{◌≡◌, ◌<◌, [], ◌∷◌, ◌++◌, OnOk, OnErr, IfOk, IfErr, IsTrue, min, length, is_some, Some, None};
 ghost use Rattle.nats_names.specs.declared.event.Event.TheVariants.{Connected};
 ghost use Rattle.nats_wire.specs.Commands.{one_piece};
 ghost use Rattle.nats_history.specs.declared.turn.Turn.TheVariants as turns;
-ghost use Rattle.nats_history.specs.History.{opened, fed, ticked, taken, took, all_again, is_flush};
+ghost use Rattle.nats_history.specs.History.{opened, fed, ticked, taken, took, all_again, waits_as, inbox_commands};
 ghost use Rattle.nats_history.specs.After.{after, write_all};
 ghost use Rattle.nats_history.specs.Schedule.{refusal, own_steps, due, due_chain, take_reply};
 ghost use Rattle.nats_session.specs.Handler.{LeadTo, TakesIn, Submits, Advances, can_play, seen_after, seen_all, with_buffers};
 
+use super::requests::push_inbox;
 use super::{ConnectionHandler, TICK_LIMIT};
-use nats_history::refusals::{interest_of, is_drained_with, is_flush, lets_go, shuts};
+use nats_history::refusals::{interest_of, is_drained_with, lets_go, shuts, waits_as};
+use nats_history::statistics::with_link;
 use nats_history::{
-    Bytes, Call, CallReply, Due, Event, LinkWord, NoMemory, Ping, ServerInfo, TakeReply,
+    Bytes, Call, CallReply, Config, Due, Event, LinkWord, NoMemory, Ping, ServerInfo, TakeReply,
+    Waits,
 };
 use nats_subs::{Alteration, Subscriptions};
 use nats_wire::{ClientOp, Connection};
 use std::alloc::Global;
 
-/// A new link's buffers, where the texts wait that subscribe again.
-fn subscribed_again(alloc: Global, subs: &Subscriptions) -> Result<Connection, NoMemory>
-    ensures { IfOk result
-        (λ connection. connection ≡ record { unread = []; waiting = write_all (all_again 1 subs.now.rows) [] }) }
+/// A new link's buffers, where the texts wait that subscribe again, those of the inbox where a request was handled.
+fn subscribed_again(
+    alloc: Global,
+    config: &Config,
+    requested: bool,
+    subs: &Subscriptions,
+) -> Result<Connection, NoMemory>
+    ensures { IfOk result (λ connection. connection ≡ record {
+      unread = [];
+      waiting = write_all (all_again 1 subs.now.rows ++ inbox_commands config.now requested) [];
+    }) }
 {
-    let ops = subs.again(alloc)?;
+    let mut ops = subs.again(alloc)?;
+    push_inbox(&mut ops, alloc, config, requested)?;
     let mut connection = Connection::new(alloc);
     connection.enqueue_write_ops(alloc, ops.as_slice())?;
     Ok(connection)
@@ -32,11 +43,15 @@ impl ConnectionHandler {
     /// What wants memory as a link comes up: its buffers, and its event.
     fn new_link(&mut self, alloc: Global) -> Result<Connection, NoMemory>
         ensures buffers { IfOk result
-            (λ connection. connection ≡ record { unread = []; waiting = write_all (all_again 1 self.old.parts.subs.rows) [] }) }
+            (λ connection. connection ≡ record {
+              unread = [];
+              waiting = write_all
+                  (all_again 1 self.old.parts.subs.rows ++ inbox_commands self.old.parts.config self.old.parts.requested) [];
+            }) }
         ensures ok { OnOk result (self.new ≡ record self.old { events = self.old.events ++ Connected ∷ [] }) }
         ensures err { OnErr result (self.new ≡ self.old) }
     {
-        let connection = subscribed_again(alloc, &self.subs)?;
+        let connection = subscribed_again(alloc, &self.config, self.requested, &self.subs)?;
         self.events.push(Event::Connected)?;
         Ok(connection)
     }
@@ -47,12 +62,13 @@ impl ConnectionHandler {
             ≡ with_buffers connection (record self.old { parts = after self.old.parts (opened info.value) }) }
     {
         self.link = self.link.saturating_add(1);
+        self.statistics = with_link(self.statistics);
         self.is_up = true;
         self.max_payload = info.max_payload;
         self.info = Some(info);
         self.pings.clear();
         self.connection = connection;
-        self.flushes.renew();
+        self.tickets.renew();
         self.subs.renew();
     }
 
@@ -67,7 +83,8 @@ impl ConnectionHandler {
     }
 
     /// A link came up, and its server said `info`. Each subscription that is open and not shut is subscribed again, by number,
-    /// with what is left of its limit; one that is shut ends. Its condition is `check` of that turn: no link is up, and the
+    /// with what is left of its limit; one that is shut ends. The replies to requests are asked for again where a request was
+    /// handled. Its condition is `check` of that turn: no link is up, and the
     /// session did not close. The crate's connector answers so.
     ///
     /// # Errors
@@ -109,7 +126,7 @@ impl ConnectionHandler {
     {
         let count = (n as usize).min(self.connection.pending());
         self.connection.written(count);
-        self.flushes.pass(count as u64);
+        self.tickets.pass(count as u64);
     }
 
     /// The link took the first `n` waiting bytes, or all where fewer wait; each flush that awaited no more of them settles. Its
@@ -223,17 +240,18 @@ impl ConnectionHandler {
         self.end_all(alloc)
     }
 
-    /// Takes in a flush: it is given a ticket, and with it all memory that settling it needs but for its place in the link's text.
-    fn take_flush(&mut self, call: Call) -> Result<CallReply, Call>
-        requires flush { IsTrue (is_flush call) }
+    /// Takes in a flush or a request: it is given a ticket, and with it all memory that settling it needs but for a flush's place
+    /// in the link's text and a request's among those that wait for a reply.
+    fn take_ticket(&mut self, call: Call, waits: Waits) -> Result<CallReply, Call>
+        requires ticket { waits_as call ≡ Some waits }
         requires free { refusal self.old.parts call ≡ None }
         ensures { TakesIn self.old call result self.new }
     {
         if let Err(refused) = self.calls.push(call) {
             return Err(refused.value);
         }
-        match self.flushes.give() {
-            Ok(()) => Ok(CallReply::Numbered(self.flushes.given())),
+        match self.tickets.give(waits) {
+            Ok(()) => Ok(CallReply::Numbered(self.tickets.given())),
             Err(NoMemory) => match self.calls.pop_back() {
                 Some(call) => Err(call),
                 None => unreachable!(),
@@ -248,8 +266,8 @@ impl ConnectionHandler {
         if let Some(refused) = self.refusal(&call) {
             return Ok(refused);
         }
-        if is_flush(&call) {
-            return self.take_flush(call);
+        if let Some(waits) = waits_as(&call) {
+            return self.take_ticket(call, waits);
         }
         let Ok(interest) = interest_of(alloc, &call) else {
             return Err(call);
@@ -286,12 +304,12 @@ impl ConnectionHandler {
         }
     }
 
-    /// Takes in a call, or refuses it by the first of these that holds. `InvalidSubject`: a publish whose subject, or
-    /// a reply that is there, is empty, or is not publishable and the settings don't skip that; a subscribe whose
-    /// subject is not valid. `InvalidQueueName`: a group that is not publishable. `MaxPayloadExceeded`: the payload
+    /// Takes in a call, or refuses it by the first of these that holds. `InvalidSubject`: a publish or a request whose
+    /// subject, or a reply that is there, is empty, or is not publishable and the settings don't skip that; a request, and the
+    /// inbox prefix is not publishable, whatever the settings skip; a subscribe whose subject is not valid. `InvalidQueueName`: a group that is not publishable. `MaxPayloadExceeded`: the payload
     /// with its header block is larger than the server of the newest link takes, 1,048,576 bytes before any.
-    /// `Closed`: the session closed, or a drain of the whole session was accepted. `NoNumber`: a subscribe or a flush,
-    /// and number or ticket 2^64 - 1 was given. `Full`: as many accepted calls wait as the client capacity. A refused call is
+    /// `Closed`: the session closed, or a drain of the whole session was accepted. `NoNumber`: a subscribe, a flush or a
+    /// request, and number or ticket 2^64 - 1 was given. `Full`: as many accepted calls wait as the client capacity. A refused call is
     /// dropped and changes nothing, but that a `DropSub` lets its subscription go whatever the reply. An accepted
     /// call is handled by `advance`, in the order of acceptance; an accepted `Unsubscribe` shuts its subscription at
     /// once, an accepted `DrainAll` the session to further calls. Its condition is `check` of that turn. The crate's
@@ -325,6 +343,23 @@ impl ConnectionHandler {
         ensures stands { LeadTo self.old (own_steps self.old.parts (turns.Take s)) self.new }
     {
         self.take_oldest(s)
+    }
+
+    fn time_out(&mut self, ticket: u64)
+        ensures { self.new ≡ seen_all self.old (own_steps self.old.parts (turns.Deadline ticket)) }
+    {
+        self.tickets.time_out(ticket);
+    }
+
+    /// The deadline of the request of ticket `t` came: where it is unsettled, it settles as `TimedOut`, and its token waits no
+    /// more. A request that waits to be handled is written all the same. Its condition is `check` of that turn: the ticket was
+    /// given to a request. It takes no memory. The crate's timeout of a request.
+    pub fn deadline(&mut self, t: u64)
+        requires { IsTrue (can_play self.old.parts (turns.Deadline t)) }
+        ensures seen { self.new ≡ seen_all self.old (own_steps self.old.parts (turns.Deadline t)) }
+        ensures stands { LeadTo self.old (own_steps self.old.parts (turns.Deadline t)) self.new }
+    {
+        self.time_out(t);
     }
 
     fn play_next(&mut self, alloc: Global) -> Result<Due, NoMemory>

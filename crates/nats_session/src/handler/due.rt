@@ -13,21 +13,26 @@ ghost use Rattle.nats_history.specs.Schedule.{due, due_chain, chain, read_end, p
 ghost use Rattle.nats_history.specs.After.{written, subs_after};
 ghost use Rattle.nats_subs.specs.Delivery.{with_rows, rows_with};
 ghost use Rattle.nats_tickets.specs.Kept.{kept_after};
-ghost use Rattle.nats_session.specs.Handler.{Advances, Sees, counted, read_past, command_end, seen_handled, is_nothing, handled_first, seen_all, name_of, delivery_of, delivery_name, unwanted_seen, after_message, pong_read, end_in, push_all};
+ghost use Rattle.nats_session.specs.Handler.{Advances, Sees, counted, read_past, message_past, command_end, seen_handled, is_nothing, handled_first, seen_all, name_of, delivery_of, delivery_name, unwanted_seen, after_message, arrived_seen, come_seen, pong_read, end_in, push_all};
 
 use super::ConnectionHandler;
 use super::drains::{
     drain, drain_all, forget_draining, note_draining, unsubscribe, write_unsubscribe,
 };
 use super::ends::note_end;
-use nats_history::refusals::{drains_all, ends_link};
+use super::requests::{ask, inbox_subject, request_ops};
+use nats_history::refusals::{drains_all, ends_link, is_requested_with};
+use nats_history::statistics::{with_call, with_message};
 use nats_history::{
     Call, Config, Due, Event, LinkWord, Message, NoMemory, OutboundMessage, Ping, Subject,
 };
 use nats_subs::{Alteration, Delivery, Pings, Subscriptions};
-use nats_tickets::Flushes;
+use nats_tickets::Tickets;
 use nats_wire::{ClientOp, Connection, Peeked, PeekedOp, WireError, copy_headers, copy_subject};
 use std::alloc::Global;
+
+/// The number under which replies to requests come. The crate's.
+const INBOX: u64 = 0;
 
 /// Which step is due.
 #[derive(Drop)]
@@ -97,22 +102,24 @@ fn handle_call(
     connection: &mut Connection,
     subs: &mut Subscriptions,
     pings: &mut Pings,
-    flushes: &mut Flushes,
+    tickets: &mut Tickets,
     alloc: Global,
-    _config: &Config,
+    config: &Config,
+    requested: bool,
     call: &Call,
 ) -> Result<(), NoMemory>
     ensures text { OnOk result (connection.new ≡ record connection.old {
-      waiting = written true (commands _config.now (at_with pings.old subs.old) subs.old.rows (handled call.now))
+      waiting
+          = written true (commands config.now requested (at_with pings.old subs.old) subs.old.rows (handled call.now))
           connection.old.waiting;
     }) }
-    ensures subs { OnOk result (subs.new ≡ subs_after _config.now pings.old (handled call.now) subs.old) }
+    ensures subs { OnOk result (subs.new ≡ subs_after config.now pings.old (handled call.now) subs.old) }
     ensures pings { OnOk result (pings.new ≡ pings_after (handled call.now) pings.old) }
-    ensures flushes { OnOk result
-        (flushes.new ≡ kept_after (length connection.old.waiting) (handled call.now) flushes.old) }
+    ensures tickets { OnOk result
+        (tickets.new ≡ kept_after config.now (length connection.old.waiting) (handled call.now) tickets.old) }
     ensures err { OnErr result
         ((connection.new ≡ connection.old) × (subs.new ≡ subs.old) × (pings.new ≡ pings.old)
-        × (flushes.new ≡ flushes.old)) }
+        × (tickets.new ≡ tickets.old)) }
 {
     match call {
         Call::Publish(message) => write_publish(connection, alloc, message),
@@ -132,7 +139,17 @@ fn handle_call(
         }
         Call::Drain(sid) => drain(connection, subs, pings, alloc, *sid),
         Call::DrainAll => drain_all(connection, subs, pings, alloc),
-        Call::Flush => flushes.handle(connection.pending() as u64),
+        Call::Flush => tickets.handle_flush(connection.pending() as u64),
+        Call::Request {
+            subject,
+            payload,
+            headers,
+            token,
+        } => {
+            let reply = inbox_subject(alloc, config, token)?;
+            let ops = request_ops(alloc, config, !requested, subject, payload, headers, &reply)?;
+            ask(connection, tickets, alloc, ops.as_slice(), &reply)
+        }
         Call::Reconnect => Ok(()),
         Call::Limit(sid, limit) => {
             let alteration = Alteration::Limit(*limit);
@@ -253,9 +270,10 @@ impl ConnectionHandler {
         let Peeked { op, len } = peeked;
         match op {
             PeekedOp::Message { sid, message } => {
+                let message_len = message.length;
                 let name = self.read_message(alloc, sid, message);
                 if name.is_ok() {
-                    self.read_past(len);
+                    self.message_past(len, message_len);
                 }
                 name
             }
@@ -339,6 +357,15 @@ impl ConnectionHandler {
         self.connection.consume(len);
     }
 
+    /// One more message was read, of such a length; it took so many bytes.
+    fn message_past(&mut self, len: usize, message_len: usize)
+        requires { len ≤ length self.old.parts.link.wire.unread }
+        ensures { self.new ≡ message_past len message_len self.old }
+    {
+        self.statistics = with_message(self.statistics, message_len);
+        self.read_past(len);
+    }
+
     fn note_info(&mut self, is_lame_duck: bool) -> Result<(), NoMemory>
         ensures ok { OnOk result
             (self.new ≡ record self.old { events = push_all (info_events is_lame_duck) self.old.events }) }
@@ -350,8 +377,32 @@ impl ConnectionHandler {
         Ok(())
     }
 
-    /// Brings a message to its subscription.
+    /// Brings a message to the request that waits for it, or to its subscription.
     fn read_message(
+        &mut self,
+        alloc: Global,
+        sid: u64,
+        message: Box<Message>,
+    ) -> Result<Due, NoMemory>
+        ensures ok { OnOk result (self.new ≡ come_seen sid message.value self.old) }
+        ensures name { IfOk result (λ name. name ≡ delivery_name sid message.value (delivery_of self.old.parts sid)) }
+        ensures err { OnErr result (self.new ≡ self.old) }
+    {
+        if sid == INBOX {
+            self.arrive(message);
+            return Ok(Due::Read);
+        }
+        self.bring_message(alloc, sid, message)
+    }
+
+    fn arrive(&mut self, message: Box<Message>)
+        ensures { self.new ≡ arrived_seen message.value self.old }
+    {
+        self.tickets.arrive(Box::into_inner(message));
+    }
+
+    /// Brings a message to its subscription.
+    fn bring_message(
         &mut self,
         alloc: Global,
         sid: u64,
@@ -435,18 +486,23 @@ impl ConnectionHandler {
             return Ok(());
         };
         let is_whole = drains_all(call);
+        let requested = is_requested_with(call, self.requested);
+        let statistics = with_call(self.statistics, &self.config, call);
         note_draining(&mut self.events, is_whole)?;
         match handle_call(
             &mut self.connection,
             &mut self.subs,
             &mut self.pings,
-            &mut self.flushes,
+            &mut self.tickets,
             alloc,
             &self.config,
+            self.requested,
             call,
         ) {
             Ok(()) => {
                 self.drain_handled = is_whole || self.drain_handled;
+                self.requested = requested;
+                self.statistics = statistics;
                 self.calls.discard();
                 Ok(())
             }

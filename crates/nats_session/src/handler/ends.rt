@@ -77,7 +77,7 @@ impl ConnectionHandler {
         self.is_up = false;
         self.pings.clear();
         self.connection = Connection::new(alloc);
-        self.flushes.fail();
+        self.tickets.fail();
         self.subs.end_link();
     }
 
@@ -87,7 +87,7 @@ impl ConnectionHandler {
     {
         self.is_closed = true;
         self.calls.clear();
-        self.flushes.drop_waiting();
+        self.tickets.drop_waiting();
         self.subs.close();
     }
 

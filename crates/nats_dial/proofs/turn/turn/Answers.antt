@@ -3,7 +3,7 @@ use Rattle.std.proofs.Common.{◌≡◌, subst, inr, take, Ok, Err}
 use Rattle.nats_pool.specs.Auths.{auth_value}
 use Rattle.nats_handshake.specs.Credentials.{SignerAnswers, AuthAnswers, Offers}
 use Rattle.nats_handshake.specs.Shaking.{Talk, Feeds}
-use Rattle.nats_dial.proofs.Taking.{fed_took, fed_refused_took}
+use Rattle.nats_dial.proofs.Taking.{fed_took, fed_refused_took, took_in}
 use Rattle.nats_dial.proofs.Turning.{line_fed, line_refused}
 use Rattle.nats_dial.proofs.turn.turn.Goals as goal
 

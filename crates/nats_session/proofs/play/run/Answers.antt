@@ -2,7 +2,7 @@
 use Rattle.std.proofs.Common.{sym, ◌∙◌, ap, subst, arith, add-one}
 use Rattle.nats_session.specs.Handler.{Seen}
 use Rattle.nats_session.specs.Machine.{quiet, turn_sheet}
-use Rattle.nats_session.proofs.Runs.{Running, stops_at, goes_on, ends_at}
+use Rattle.nats_session.proofs.Runs.{Running, stops_at, goes_on, ends_at, wanting}
 use Rattle.nats_session.proofs.play.run.Goals as goal
 
 pub returns-then-not-is_valid : goal.returns-then-not-is_valid
@@ -24,3 +24,9 @@ pub returns : goal.returns
 returns c =
     let done = ends_at c.args.config c.args.turns.now c.turns.index c.turns.handler.parts c.turns.draft c.turns.invariant.running (omega (arith, c.turns-test.false)) in
     (done.0, c.in_ok-finish.ensures ∙ done.1)
+
+pub returns-in_err-play_turn : goal.returns-in_err-play_turn
+returns-in_err-play_turn c = wanting c.args.config c.args.turns.now c.from_residual-in_err-play_turn.result c.from_residual-in_err-play_turn.ensures
+
+pub returns-in_err-finish : goal.returns-in_err-finish
+returns-in_err-finish c = wanting c.args.config c.args.turns.now c.from_residual-in_err-finish.result c.from_residual-in_err-finish.ensures

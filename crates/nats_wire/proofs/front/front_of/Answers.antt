@@ -1,36 +1,11 @@
 -- What stands at the front follows from what is seen there.
-use Rattle.std.proofs.Common.{ap, sym, ◌∙◌}
-use Rattle.std.specs.Option.{option_map}
-use Rattle.nats_wire.specs.Operations.{peeked_view, got, fault}
-use Rattle.nats_wire.specs.Decoder.{op_text_view}
-use Rattle.nats_wire.proofs.Sights.{got_whole, lost_whole, less_seen, bad_seen, got_fits, lost_fits}
+use Rattle.nats_wire.specs.Decoder.{sight_view}
+use Rattle.nats_wire.proofs.Sights.{ok_by_sight, ok_fits}
 use Rattle.nats_wire.proofs.front.front_of.Goals as goal
 
-pub returns-in-Unfinished-clause-front : goal.returns-in-Unfinished-clause-front
-returns-in-Unfinished-clause-front c = less_seen c.args.bytes.now c.in-Unfinished.ensures
+pub returns-clause-front : goal.returns-clause-front
+returns-clause-front c = ok_by_sight c.args.bytes.now (sight_view c.sight_of.result) c.front_by.result c.sight_of.ensures c.front_by.ensures.front
 
-pub returns-in-Fault-clause-front : goal.returns-in-Fault-clause-front
-returns-in-Fault-clause-front c = bad_seen c.args.bytes.now c.in-Fault.n c.in-Fault.ensures
-
-pub returns-in-Fault-clause-fits : goal.returns-in-Fault-clause-fits
-returns-in-Fault-clause-fits c = lost_fits c.args.bytes.now c.in-Fault.n (bad_seen c.args.bytes.now c.in-Fault.n c.in-Fault.ensures)
-
-pub returns-in-Some-clause-front : goal.returns-in-Some-clause-front
-returns-in-Some-clause-front c =
-    got_whole c.args.bytes.now (op_text_view c.in-Whole.text) c.in-Whole.len (peeked_view c.in-Some.op) c.in-Whole.ensures
-    (ap (option_map peeked_view) (sym c.in-Some.is) ∙ c.in_ok-op-in-Whole.ensures)
-
-pub returns-in-Some-clause-fits : goal.returns-in-Some-clause-fits
-returns-in-Some-clause-fits c =
-    got_fits c.args.bytes.now c.in-Whole.len (peeked_view c.in-Some.op)
-    (got_whole c.args.bytes.now (op_text_view c.in-Whole.text) c.in-Whole.len (peeked_view c.in-Some.op) c.in-Whole.ensures (ap (option_map peeked_view) (sym c.in-Some.is) ∙ c.in_ok-op-in-Whole.ensures))
-
-pub returns-in-None-clause-front : goal.returns-in-None-clause-front
-returns-in-None-clause-front c =
-    ap fault c.lost_at.ensures
-    ∙ lost_whole c.args.bytes.now (op_text_view c.in-Whole.text) c.in-Whole.len c.in-Whole.ensures (ap (option_map peeked_view) (sym c.in-None.is) ∙ c.in_ok-op-in-Whole.ensures)
-
-pub returns-in-None-clause-fits : goal.returns-in-None-clause-fits
-returns-in-None-clause-fits c =
-    lost_fits c.args.bytes.now c.lost_at.result
-    (ap fault c.lost_at.ensures ∙ lost_whole c.args.bytes.now (op_text_view c.in-Whole.text) c.in-Whole.len c.in-Whole.ensures (ap (option_map peeked_view) (sym c.in-None.is) ∙ c.in_ok-op-in-Whole.ensures))
+pub returns-clause-fits : goal.returns-clause-fits
+returns-clause-fits c =
+    ok_fits c.args.bytes.now c.front_by.result (ok_by_sight c.args.bytes.now (sight_view c.sight_of.result) c.front_by.result c.sight_of.ensures c.front_by.ensures.front)

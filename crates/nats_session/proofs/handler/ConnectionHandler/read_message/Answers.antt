@@ -1,18 +1,17 @@
--- What becomes of a message: it is put, dropped, ends its subscription, or is ignored.
-use Rattle.std.proofs.Common.{refl, sym, ◌∙◌}
-use Rattle.nats_subs.specs.declared.subs.subscription.Delivery.TheVariants.{Put, Ignored}
-use Rattle.nats_session.proofs.Messages.{delivered, dropped_one}
+-- A message comes to the inbox or to a subscription.
+use Rattle.std.proofs.Common.{◌∙◌}
+use Rattle.std.proofs.lemmas.Result.{on_ok_weaker}
+use Rattle.nats_session.proofs.Messages.{inbox_come, other_come, inbox_name}
 use Rattle.nats_session.proofs.handler.ConnectionHandler.read_message.Goals as goal
 
-pub returns-in_ok-deliver-in-Put-clause-ok : goal.returns-in_ok-deliver-in-Put-clause-ok
-returns-in_ok-deliver-in-Put-clause-ok c =
-    delivered _ c.args.self.now c.args.sid c.args.message.value c.deliver.new.self Put c.self.view_is c.in_ok-deliver-in-Put.ensures.ok (sym c.delivery.ensures ∙ c.in-Put.is) refl
+pub returns-then-sid-eq-INBOX-clause-ok : goal.returns-then-sid-eq-INBOX-clause-ok
+returns-then-sid-eq-INBOX-clause-ok c =
+    inbox_come c.arrive.new.self c.args.self.now c.args.sid c.args.message.value c.arrive.ensures c.if-sid-eq-INBOX.true
 
-pub returns-in_ok-deliver-in-Ignored-clause-ok : goal.returns-in_ok-deliver-in-Ignored-clause-ok
-returns-in_ok-deliver-in-Ignored-clause-ok c =
-    delivered _ c.args.self.now c.args.sid c.args.message.value c.deliver-in-Ignored.new.self Ignored c.self.view_is c.in_ok-deliver-in-Ignored.ensures.ok (sym c.delivery.ensures ∙ c.in-Ignored.is) refl
+pub returns-then-sid-eq-INBOX-clause-name : goal.returns-then-sid-eq-INBOX-clause-name
+returns-then-sid-eq-INBOX-clause-name c =
+    inbox_name c.args.self.now c.args.sid c.args.message.value c.if-sid-eq-INBOX.true
 
-pub returns-in_ok-push-in-Dropped-clause-ok : goal.returns-in_ok-push-in-Dropped-clause-ok
-returns-in_ok-push-in-Dropped-clause-ok c =
-    dropped_one _ c.args.self.now c.args.sid c.args.message.value c.push.new.self c.self.view_is
-    (sym c.delivery.ensures ∙ c.in-Dropped.is) c.in_ok-push-in-Dropped.ensures.ok
+pub returns-clause-ok : goal.returns-clause-ok
+returns-clause-ok c =
+    on_ok_weaker c.bring_message.result (λ e. e ∙ other_come c.args.self.now c.args.sid c.args.message.value c.if-sid-eq-INBOX.false) c.bring_message.ensures.ok

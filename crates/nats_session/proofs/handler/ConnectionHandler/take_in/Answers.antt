@@ -15,5 +15,5 @@ returns-in_default-interest c =
     let subs = c.self.inside.subs in
     let drained = c.is_drained_with-drained.ensures in
     shut_by _ c.args.self.now c.args.call c.is_drained_with-drained.result c.push.new.self c.alter_named.new.self c.self.view_is (sym c.in_default.ensures)
-    (sym c.is_flush.ensures ∙ c.if-is_flush.false) (sym c.in-Ok.ensures ∙ c.in_default-interest.is) drained c.in_default-push.ensures.ok
+    (sym c.in_default-waits_as.ensures) (sym c.in-Ok.ensures ∙ c.in_default-interest.is) drained c.in_default-push.ensures.ok
     (c.alter_named.ensures ∙ ap (λ name. with_rows (rows_named name alterations.Shut subs.rows) subs) c.shuts-shut.ensures)

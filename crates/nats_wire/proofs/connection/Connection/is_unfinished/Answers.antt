@@ -6,10 +6,10 @@ use Rattle.nats_wire.proofs.connection.Connection.is_unfinished.Goals as goal
 
 pub returns-in-Unfinished : goal.returns-in-Unfinished
 returns-in-Unfinished c =
-    let same : c.as_slice.result.now ≡ c.args.self.now.unread = search rules in
+    let same : c.self.inside.unread ≡ c.args.self.now.unread = search rules in
     ap is_unfinished (less_seen c.args.self.now.unread (c.in-Unfinished.ensures ∙ ap sight same))
 
 pub returns-in_default : goal.returns-in_default
 returns-in_default c =
-    let same : c.as_slice.result.now ≡ c.args.self.now.unread = search rules in
-    not_less c.sight_of-sight.result c.args.self.now.unread (c.sight_of-sight.ensures ∙ ap sight same) c.in_default.not-Unfinished
+    let same : c.self.inside.unread ≡ c.args.self.now.unread = search rules in
+    not_less c.sight-sight.result c.args.self.now.unread (c.sight-sight.ensures ∙ ap sight same) c.in_default.not-Unfinished

@@ -7,5 +7,5 @@ use Rattle.nats_wire.proofs.connection.Connection.try_read_op.Goals as goal
 
 pub returns-in-Err : goal.returns-in-Err
 returns-in-Err c =
-    let same : c.as_slice.result.now ≡ c.args.self.now.unread = search rules in
+    let same : c.self.inside.unread ≡ c.args.self.now.unread = search rules in
     reads_without_memory c.args.self.now.unread c.args.self.now (subst (λ bytes. IsTrue (takes_memory bytes)) same c.in-Err.ensures.memory)

@@ -1,0 +1,6 @@
+mod Names
+mod Sound
+mod Sendable
+mod Steps
+mod Carried
+mod Listed

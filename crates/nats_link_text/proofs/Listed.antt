@@ -1,0 +1,25 @@
+-- Lists whose items are told one by one.
+use Rattle.std.proofs.Common.{◌≡◌, ℕ, suc, ◌+◌, ◌<◌, List, ◌∷◌, length, get_or, drop, sym, ap, ◌∙◌, subst, add-one, drop-cons}
+use Rattle.nats_header.specs.Headers.{Field, Headers}
+use Rattle.nats_client_text.specs.Law.{AreTexts, HaveTexts}
+use Rattle.nats_history.specs.declared.turn.Turn.{Turn}
+use Rattle.nats_link_text.specs.Typed.{IsText, IsTypedTurn, AreTypedTurns}
+
+next_item : {A : Type 0} (xs : List A) (i : ℕ) (x : A) → i < length xs → x ≡ get_or xs i x → drop i xs ≡ x ∷ drop (i + 1) xs
+next_item xs i x less at =
+    drop-cons xs i x less ∙ (ap (λ y. y ∷ drop (suc i) xs) (sym at) ∙ ap (λ k. x ∷ drop k xs) (sym (add-one i)))
+
+-- the values up to one were told: so all are where those behind it are
+pub values_on : (values : List (List ℕ)) (i : ℕ) (value : List ℕ) → i < length values → value ≡ get_or values i value → IsText value
+    → (AreTexts (drop i values) → AreTexts values) → AreTexts (drop (i + 1) values) → AreTexts values
+values_on values i value less at is before rest =
+    before (subst AreTexts (sym (next_item values i value less at)) (is, rest))
+
+pub turns_on : (turns : List Turn) (i : ℕ) (turn : Turn) → i < length turns → turn ≡ get_or turns i turn → IsTypedTurn turn
+    → (AreTypedTurns (drop i turns) → AreTypedTurns turns) → AreTypedTurns (drop (i + 1) turns) → AreTypedTurns turns
+turns_on turns i turn less at is before rest =
+    before (subst AreTypedTurns (sym (next_item turns i turn less at)) (is, rest))
+
+pub fields_on : (headers left rest : Headers) (field : Field) → left ≡ field ∷ rest → AreTexts field.1
+    → (HaveTexts left → HaveTexts headers) → HaveTexts rest → HaveTexts headers
+fields_on headers left rest field same is before more = before (subst HaveTexts (sym same) (is, more))

@@ -1,0 +1,102 @@
+//! The delays before attempts, and what a pool of servers hands out and becomes.
+use nats_names::{NoMemory, Text};
+use nats_pool::{
+    AddrError, ConnectOptions, Next, Outcome, Pool, ServerAddr, ServerInfo, addrs_of_texts,
+    reconnect_delay_default,
+};
+use std::alloc::Global;
+use std::test::Fail;
+
+#[test]
+fn delays_are_those_of_their_rows(rt: HostRuntime) {
+    for (attempts, ms) in [(0, 0), (1, 0), (4, 8), (12, 2048), (13, 4000), (50, 4000)] {
+        assert!(rt; reconnect_delay_default(attempts) == ms);
+    }
+}
+
+/// A pool of a, b and c, whose first server failed twice.
+fn failed_pool(alloc: Global, mut options: ConnectOptions) -> Result<Pool, AddrError> {
+    let addrs = addrs_of_texts(alloc, &["a", "b", "c"])?;
+    let mut pool = Pool::new(alloc, addrs, options.take_pool_options(), 7)?;
+    let first = ServerAddr::parse(alloc, "a")?;
+    for _ in 0..2 {
+        pool.report(&first, Outcome::Failed(Text::from_text(alloc, "no")?));
+    }
+    Ok(pool)
+}
+
+fn tell_next(out: &mut String, next: &Next) -> Result<(), NoMemory> {
+    match next {
+        Next::Try(attempt) => out.push_str(attempt.addr.host())?,
+        Next::Over => out.push_str("over")?,
+        Next::MaxReconnects => out.push_str("most")?,
+    }
+    Ok(out.push(' ')?)
+}
+
+/// What four attempts of a round are answered, each behind a space.
+fn round(alloc: Global, pool: &mut Pool) -> Result<String, NoMemory> {
+    pool.begin_round(alloc, &ServerInfo::default(alloc))?;
+    let mut out = String::new(alloc);
+    for _ in 0..4 {
+        tell_next(&mut out, &pool.next_attempt())?;
+    }
+    Ok(out)
+}
+
+#[test]
+fn a_round_goes_by_the_failures_of_its_servers(rt: HostRuntime) -> Result<(), Fail> {
+    let alloc = rt.alloc();
+    let mut in_order = failed_pool(alloc, ConnectOptions::new().retain_servers_order())?;
+    assert_eq!(rt; round(alloc, &mut in_order)?.as_str(), "a b c over ");
+    let mut sorted = failed_pool(alloc, ConnectOptions::new())?;
+    assert!(rt; round(alloc, &mut sorted)?.as_str().ends_with(" a over "));
+    let mut limited = failed_pool(alloc, ConnectOptions::new().max_reconnects(Some(2)))?;
+    assert!(rt;
+        round(alloc, &mut limited)?
+            .as_str()
+            .ends_with(" most most ")
+    );
+    Ok(())
+}
+
+/// Addresses that take the place of a pool's servers, and behind a `=` the servers then, each with its failures, or the refusal.
+const SETS: &str = "=server pool cannot be empty\
+|ws://a nats://b=cannot mix websocket and non-websocket URLs in server pool\
+|a d=a 2 d 0 ";
+
+fn addrs_of(alloc: Global, texts: &str) -> Result<Vec<ServerAddr>, AddrError> {
+    let mut addrs = Vec::new(alloc);
+    for text in texts.split_whitespace() {
+        addrs
+            .push(ServerAddr::parse(alloc, text)?)
+            .map_err(|_| AddrError::NoMemory)?;
+    }
+    Ok(addrs)
+}
+
+fn told_servers(alloc: Global, pool: &Pool) -> Result<String, NoMemory> {
+    let mut out = String::new(alloc);
+    for server in pool.server_pool(alloc)?.as_slice() {
+        let (host, failed) = (server.addr.host(), server.failed_attempts);
+        out.push_str(format!(in alloc; "{host} {failed} ")?.as_str())?;
+    }
+    Ok(out)
+}
+
+fn set(alloc: Global, texts: &str) -> Result<String, AddrError> {
+    let mut pool = failed_pool(alloc, ConnectOptions::new())?;
+    match pool.set_server_pool(alloc, addrs_of(alloc, texts)?) {
+        Ok(()) => Ok(told_servers(alloc, &pool)?),
+        Err(refusal) => refusal.to_string(alloc).map_err(|_| AddrError::NoMemory),
+    }
+}
+
+#[test]
+fn a_pool_is_replaced_as_its_rows_say(rt: HostRuntime) -> Result<(), Fail> {
+    for row in SETS.split('|') {
+        let (texts, want) = row.split_once('=').ok_or("no answer")?;
+        assert_eq!(rt; set(rt.alloc(), texts)?.as_str(), want);
+    }
+    Ok(())
+}

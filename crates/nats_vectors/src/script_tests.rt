@@ -1,0 +1,172 @@
+use nats_header::HeaderMap;
+use nats_history::{
+    Call, CallReply, Event, LinkRow, LinkWord, Message, SubRow, TakeReply, Transcript,
+};
+use nats_names::{Bytes, StatusCode, Subject, Text};
+use nats_script::{NoMemory, Script, Seq, Turn, print_transcript, read_script};
+use std::alloc::Global;
+use std::test::Fail;
+
+/// The number of the first line that cannot be read, 0 where each can.
+fn bad_line(alloc: Global, text: &str) -> Result<u64, NoMemory> {
+    match read_script(alloc, text.as_bytes())? {
+        Script::Good { .. } => Ok(0),
+        Script::Bad(line) => Ok(line),
+    }
+}
+
+/// The last turn of a script whose lines can all be read.
+fn last_turn(alloc: Global, line: &str) -> Result<Option<Turn>, NoMemory> {
+    let mut text = String::from_str(alloc, "config 1 1 check P X\n")?;
+    text.push_str(line)?;
+    match read_script(alloc, text.as_bytes())? {
+        Script::Good { turns, .. } => match turns.as_slice() {
+            [turn] => Ok(Some(turn.copy(alloc)?)),
+            _ => Ok(None),
+        },
+        Script::Bad(_) => Ok(None),
+    }
+}
+
+#[test]
+fn the_first_line_in_no_form_is_found(rt: HostRuntime) -> Result<(), Fail> {
+    let table = [
+        ("", 1),
+        ("\n", 1),
+        ("up 1\n", 1),
+        ("config 2048 check _INBOX MUX1\n", 1),
+        ("config 2048 65536 none _INBOX MUX1\n", 1),
+        ("config 2048 65536 check %FF MUX1\n", 1),
+        ("config 2048 65536 check _INBOX MUX-1\n", 1),
+        ("config 0 18446744073709551615 skip _INBOX MUX1", 0),
+        (
+            "config 1 1 check P X\ntake 7\nwrite 0\npiece %\nup 0\nup 7\nsub a..b ~\n",
+            0,
+        ),
+        ("config 1 1 check P X\nup 01\n", 2),
+        ("config 1 1 check P X\nup 1\n\nup 1\n", 3),
+        ("config 1 1 check P X\nopen {\n", 2),
+        ("config 1 1 check P X\npiece %0d\n", 2),
+        ("config 1 1 check P X\npiece %41\n", 2),
+        ("config 1 1 check P X\npiece\n", 2),
+        ("config 1 1 check P X\nwrite  1\n", 2),
+        ("config 1 1 check P X\nwrite 18446744073709551616\n", 2),
+        ("config 1 1 check P X\ntake 1 \n", 2),
+        ("config 1 1 check P X\nsub %FF ~\n", 2),
+        ("config 1 1 check P X\nlimit 1\n", 2),
+        ("config 1 1 check P X\ndrain 1\ndrainall\ndrain\n", 4),
+        ("config 1 1 check P X\nflush\nflush 1\n", 3),
+        ("config 1 1 check P X\npub a ~ x y\n", 2),
+        ("config 1 1 check P X\nhpub a ~ x K\n", 2),
+        ("config 1 1 check P X\nhpub a ~ x K v%0D%0Aw\n", 2),
+        ("config 1 1 check P X\nhpub a ~ x K: v\n", 2),
+    ];
+    for (text, want) in table {
+        assert_eq!(rt; bad_line(rt.alloc(), text)?, want, "{text:?}");
+    }
+    Ok(())
+}
+
+/// How many values some headers have under `K`.
+fn under_k(headers: &Option<HeaderMap>) -> Option<usize> {
+    let headers = headers.as_ref()?;
+    let mut count = 0usize;
+    for _value in headers.get_all("K") {
+        count = count.saturating_add(1);
+    }
+    Some(count)
+}
+
+/// The same of the headers of a line's publish, where it is one.
+fn values_under_k(alloc: Global, line: &str) -> Result<Option<usize>, NoMemory> {
+    match last_turn(alloc, line)? {
+        Some(Turn::Do(Call::Publish(message))) => Ok(under_k(&message.headers)),
+        _ => Ok(None),
+    }
+}
+
+#[test]
+fn headers_are_read_in_pairs(rt: HostRuntime) -> Result<(), Fail> {
+    assert_eq!(rt;
+        values_under_k(rt.alloc(), "hpub a r x K v L w K %20")?,
+        Some(2)
+    );
+    assert_eq!(rt; values_under_k(rt.alloc(), "hpub a ~ x")?, Some(0));
+    assert_eq!(rt; values_under_k(rt.alloc(), "pub a ~ x")?, None);
+    Ok(())
+}
+
+fn is_limit(alloc: Global, line: &str) -> Result<bool, NoMemory> {
+    Ok(matches!(last_turn(alloc, line)?, Some(Turn::Do(Call::Limit(3, 5)))))
+}
+
+/// The greatest size of a message that a link's server takes.
+fn max_payload(alloc: Global, line: &str) -> Result<Option<u64>, NoMemory> {
+    match last_turn(alloc, line)? {
+        Some(Turn::Up(info)) => Ok(Some(info.max_payload)),
+        _ => Ok(None),
+    }
+}
+
+#[test]
+fn turns_are_read(rt: HostRuntime) -> Result<(), Fail> {
+    assert!(rt; is_limit(rt.alloc(), "limit 3 5")?);
+    assert_eq!(rt; max_payload(rt.alloc(), "up 33")?, Some(33));
+    assert_eq!(rt;
+        max_payload(rt.alloc(), "open {\"max_payload\":34}")?,
+        Some(34)
+    );
+    Ok(())
+}
+
+fn only<T: Drop>(alloc: Global, item: T) -> Result<Seq<T>, NoMemory> {
+    let mut items = Seq::new(alloc);
+    items.push(alloc, item)?;
+    Ok(items)
+}
+
+fn dropped(alloc: Global) -> Result<Message, NoMemory> {
+    let mut headers = HeaderMap::new(alloc);
+    if headers.append(alloc, "K", "v w").is_err() || headers.append(alloc, "K", "").is_err() {
+        return Err(NoMemory);
+    }
+    Ok(Message {
+        subject: Subject::from_text(alloc, "a")?,
+        reply: Some(Subject::from_text(alloc, "r\u{e9} ")?),
+        payload: Bytes::copy_from_slice(alloc, &[0, b'%', b'~', b'}'])?,
+        headers: Some(headers),
+        status: Some(StatusCode::NOT_FOUND),
+        description: Some(Text::from_text(alloc, "No Messages")?),
+        length: 9,
+    })
+}
+
+fn rows(alloc: Global) -> Result<Transcript, NoMemory> {
+    let link = LinkRow {
+        end: LinkWord::Fault,
+        taken: Seq::new(alloc),
+        left: only(alloc, b'\n')?,
+    };
+    let sub = SubRow {
+        puts: Seq::new(alloc),
+        drops: only(alloc, (5, dropped(alloc)?))?,
+        takes: only(alloc, (6, TakeReply::Empty))?,
+    };
+    Ok(Transcript {
+        links: only(alloc, link)?,
+        subs: only(alloc, sub)?,
+        events: only(alloc, (5, Event::SlowConsumer(1)))?,
+        calls: only(alloc, (2, CallReply::Full))?,
+        tickets: only(alloc, Some((7, CallReply::FlushFailed)))?,
+    })
+}
+
+#[test]
+fn rows_of_every_kind_are_printed(rt: HostRuntime) -> Result<(), Fail> {
+    let want = "link 1 fault\nout %\nleft %0A\nsub 1\n\
+drop 5 a r%C3%A9%20 %00%25%7E} 404 No%20Messages 9 2 K v%20w K %\ntake 6 empty\n\
+event 5 slow%20consumers%20for%20subscription%201\ncall 2 full\nticket 1 7 flush-failed\n";
+    let text = print_transcript(rt.alloc(), &rows(rt.alloc())?)?;
+    assert_eq!(rt; text.as_slice(), want.as_bytes());
+    Ok(())
+}

@@ -1,0 +1,159 @@
+//! A small table of counters, of which one that is stopped is over, and one that is done rests.
+ghost use Rattle.std.specs.Prelude.{◌≡◌, ◌||◌, true, false};
+ghost use Rattle.std.proofs.lemmas.Bool.{or_left, or_right};
+ghost use Rattle.std.proofs.Common.{refl};
+
+use nats_tables::{Change, NoMemory, Row, Table, TryChange};
+use std::test::Fail;
+
+#[derive(Clone, Copy, PartialEq, Eq, Debug, Drop)]
+struct Counter {
+    count: u64,
+    is_done: bool,
+    is_stopped: bool,
+}
+
+impl Row for Counter {
+    ghost forgotten = { record { count = 0; is_done = true; is_stopped = true } };
+
+    ghost over = { λ c. c.is_stopped };
+
+    fn is_over(&self) -> bool {
+        self.is_stopped
+    }
+
+    ghost forgotten_is_over = { λ row over. refl };
+
+    ghost rests = { λ c. c.is_stopped || c.is_done };
+
+    fn is_resting(&self) -> bool {
+        self.is_stopped || self.is_done
+    }
+
+    ghost over_rests = { λ row over. or_left row.is_stopped row.is_done over };
+}
+
+/// Has a counter rest, and answers whether it is stopped.
+#[derive(Clone, Copy, Drop)]
+struct Finish;
+
+impl Change<Counter> for Finish {
+    type Answer = bool;
+
+    ghost changes = { λ _ c. record c { is_done = true } };
+
+    ghost answers = { λ _ c. c.is_stopped };
+
+    fn change(&self, row: &mut Counter) -> bool {
+        row.is_done = true;
+        row.is_stopped
+    }
+
+    fn refuse(&self) -> bool {
+        true
+    }
+
+    ghost leaves_forgotten = { λ c over. refl };
+
+    ghost leaves_resting = { λ c row rests. or_right row.is_stopped true refl };
+}
+
+#[derive(Clone, Copy, Drop)]
+struct Stop;
+
+impl Change<Counter> for Stop {
+    type Answer = bool;
+
+    ghost changes = { λ _ c. record c { is_stopped = true } };
+
+    ghost answers = { λ _ c. c.is_stopped };
+
+    fn change(&self, row: &mut Counter) -> bool {
+        let was = row.is_stopped;
+        row.is_stopped = true;
+        was
+    }
+
+    fn refuse(&self) -> bool {
+        true
+    }
+
+    ghost leaves_forgotten = { λ c over. refl };
+
+    ghost leaves_resting = { λ c row rests. refl };
+}
+
+/// Sets a counter, and answers what it was.
+#[derive(Clone, Copy, Drop)]
+struct Set {
+    count: u64,
+}
+
+impl TryChange<Counter> for Set {
+    type Answer = u64;
+
+    ghost changes = { λ s c. record c { count = s.count } };
+
+    ghost answers = { λ _ c. c.count };
+
+    fn try_change(self, row: &mut Counter) -> Result<u64, NoMemory> {
+        let was = row.count;
+        row.count = self.count;
+        Ok(was)
+    }
+
+    fn refuse(self) -> u64 {
+        0
+    }
+
+    ghost leaves_forgotten = { λ c over. refl };
+
+    ghost leaves_resting = { λ c row rests. rests };
+}
+
+fn started() -> Counter
+    ensures { result.is_stopped ≡ false }
+{
+    Counter {
+        count: 7,
+        is_done: false,
+        is_stopped: false,
+    }
+}
+
+/// Two counters are given, one is set and stopped: its number stays given, and its row is gone.
+#[test]
+fn a_row_that_is_over_is_forgotten(rt: HostRuntime) -> Result<(), Fail> {
+    let mut table = Table::new(rt.alloc());
+    table.give(started())?;
+    table.give(started())?;
+    assert_eq!(rt; table.try_alter(2, Set { count: 9 })?, 7);
+    assert_eq!(rt; table.item(2).map(|row| row.count), Some(9));
+    assert!(rt; !table.alter(2, &Stop));
+    assert!(rt; table.item(2).is_none());
+    assert!(rt; table.item(1).is_some());
+    assert!(rt; table.item(3).is_none());
+    assert_eq!(rt; table.try_alter(2, Set { count: 1 })?, 0);
+    assert!(rt; table.alter(2, &Stop));
+    assert_eq!(rt; table.len(), 2);
+    assert_eq!(rt; table.next_after(0), Some(1));
+    assert_eq!(rt; table.next_after(1), None);
+    Ok(())
+}
+
+/// Three counters are given, and the second one rests: going through them passes over it, and it is still there.
+#[test]
+fn a_row_that_rests_is_passed_over(rt: HostRuntime) -> Result<(), Fail> {
+    let mut table = Table::new(rt.alloc());
+    table.give(started())?;
+    table.give(started())?;
+    table.give(started())?;
+    assert!(rt; !table.alter(2, &Finish));
+    assert_eq!(rt; table.next_after(1), Some(3));
+    assert_eq!(rt; table.try_alter(2, Set { count: 9 })?, 7);
+    assert_eq!(rt; table.item(2).map(|row| row.count), Some(9));
+    assert!(rt; !table.alter(2, &Stop));
+    assert!(rt; table.item(2).is_none());
+    assert_eq!(rt; table.next_after(3), None);
+    Ok(())
+}

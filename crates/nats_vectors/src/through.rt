@@ -1,0 +1,88 @@
+//! What the links of a script carry, from outside: played by `replay`, and read out of what that prints.
+
+use crate::sent::say_read;
+use crate::words::say;
+use nats_client_text::read_client_text;
+use nats_names::NoMemory;
+use nats_replay::{MemorySink, MemorySource, replay};
+use percent_encoding::percent_decode;
+use std::alloc::Global;
+
+/// The most bytes that the source gives, and the sink takes, at a time.
+const AT_ONCE: usize = 65_536;
+
+/// The text of no bytes, as a word.
+const NOTHING: &str = "%";
+
+/// Appends the bytes that a word spells.
+fn push_spelled(out: &mut Vec<u8>, word: &str) -> Result<(), NoMemory> {
+    if word == NOTHING {
+        return Ok(());
+    }
+    for byte in percent_decode(word.as_bytes()) {
+        out.push(byte)?;
+    }
+    Ok(())
+}
+
+/// Says the commands that a link's bytes are read as.
+fn say_text(alloc: Global, out: &mut Vec<u8>, text: &[u8]) -> Result<(), NoMemory> {
+    let read = read_client_text(alloc, text)?;
+    say_read(out, &read)
+}
+
+/// Says what a printed line tells: the reply of a call, or, where the line ends a link, the commands of all that it carries.
+fn say_line(
+    alloc: Global,
+    out: &mut Vec<u8>,
+    carried: &mut Vec<u8>,
+    line: &str,
+) -> Result<(), NoMemory> {
+    if let Some(word) = line.strip_prefix("out ") {
+        carried.clear();
+        push_spelled(carried, word)?;
+    } else if let Some(word) = line.strip_prefix("left ") {
+        push_spelled(carried, word)?;
+        say_text(alloc, out, carried.as_slice())?;
+    }
+    Ok(())
+}
+
+fn say_call(out: &mut Vec<u8>, line: &str) -> Result<(), NoMemory> {
+    let Some(call) = line.strip_prefix("call ") else {
+        return Ok(());
+    };
+    if let Some((_, reply)) = call.split_once(' ') {
+        say(out, reply)?;
+        say(out, "\n")?;
+    }
+    Ok(())
+}
+
+fn say_printed(alloc: Global, out: &mut Vec<u8>, printed: &str) -> Result<(), NoMemory> {
+    for line in printed.lines() {
+        say_call(out, line)?;
+    }
+    let mut carried = Vec::new(alloc);
+    for line in printed.lines() {
+        say_line(alloc, out, &mut carried, line)?;
+    }
+    Ok(())
+}
+
+/// The same as `carried`, played by `replay` from the bytes of a script, and read out of the bytes that it writes alone: the
+/// replies to calls, then the commands of each link. Where it does not end with 0, what it writes.
+pub fn carried_through(alloc: Global, script: &str) -> Result<Vec<u8>, NoMemory> {
+    let mut words = Vec::new(alloc);
+    words.push(String::from_str(alloc, "run")?)?;
+    let bytes = Vec::from_slice(alloc, script.as_bytes())?;
+    let mut source = MemorySource::new(bytes, AT_ONCE);
+    let mut sink = MemorySink::new(alloc, AT_ONCE);
+    let status = replay(alloc, words.as_slice(), &mut source, &mut sink);
+    let mut out = Vec::new(alloc);
+    match str::from_utf8(sink.bytes()) {
+        Ok(printed) if status == 0 => say_printed(alloc, &mut out, printed)?,
+        Ok(_) | Err(_) => out.extend_from_slice(sink.bytes())?,
+    }
+    Ok(out)
+}
