@@ -1,0 +1,5 @@
+pub mod Cores
+pub mod Dues
+pub mod Journals
+pub mod Lent
+pub mod Plain
