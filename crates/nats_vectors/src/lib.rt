@@ -17,6 +17,8 @@ mod bulk_tests;
 #[cfg(test)]
 mod json_rows;
 #[cfg(test)]
+mod live_rows;
+#[cfg(test)]
 mod name_rows;
 #[cfg(test)]
 mod pool_rows;

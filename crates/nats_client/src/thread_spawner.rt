@@ -1,0 +1,71 @@
+//! A spawner of threads.
+ghost use Rattle.std.specs.Prelude.{◌≡◌};
+ghost use Rattle.nats_addr.specs.Resolving.{risen};
+
+use crate::{Job, Spawner};
+use nats_names::Failed;
+use std::alloc::Global;
+use std::thread;
+use std::thread::{JoinHandle, Threads};
+
+/// A spawner that starts a thread for each job. It keeps the threads, so that they can be waited for. A start
+/// for which there is no thread or no memory fails.
+#[derive(Drop)]
+pub struct ThreadSpawner<R> {
+    rt: R,
+    threads: Vec<JoinHandle<()>>,
+    faults: u64,
+}
+
+impl<R> ThreadSpawner<R> {
+    /// It started nothing yet.
+    pub fn new(alloc: Global, rt: R) -> ThreadSpawner<R>
+        ensures { result.faults ≡ 0 }
+    {
+        ThreadSpawner {
+            rt,
+            threads: Vec::new(alloc),
+            faults: 0,
+        }
+    }
+
+    // A job is not started.
+    fn refuse(&mut self) -> Failed
+        ensures { self.new ≡ record (self.old) { faults = risen 1 self.old.faults } }
+    {
+        self.faults = self.faults.saturating_add(1);
+        Failed
+    }
+}
+
+impl<R: Threads> ThreadSpawner<R> {
+    /// Waits until each job that it started is done. Own call.
+    pub fn join_all(&mut self)
+        ensures { self.new.faults ≡ self.old.faults }
+    {
+        'threads: while let Some(thread) = self.threads.pop() {
+            thread.join(&self.rt);
+        }
+    }
+}
+
+impl<R: Threads> Spawner for ThreadSpawner<R> {
+    ghost spawn_faults = { λ s. s.faults };
+
+    ghost BesideSpawner = { Unit {0} };
+
+    ghost beside_spawner = { λ _. tt };
+
+    fn start<J: Job + 'static>(&mut self, job: J) -> Result<(), Failed> {
+        if self.threads.reserve(1).is_err() {
+            return Err(self.refuse());
+        }
+        match thread::spawn(&self.rt, move || job.run()) {
+            Ok(thread) => {
+                self.threads.push_reserved(thread);
+                Ok(())
+            }
+            Err(_) => Err(self.refuse()),
+        }
+    }
+}
