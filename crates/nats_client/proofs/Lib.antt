@@ -1,1 +1,2 @@
 mod Letters
+mod Pieces

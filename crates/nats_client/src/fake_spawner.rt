@@ -43,7 +43,7 @@ impl Spawner for FakeSpawner {
 
     ghost beside_spawner = { λ _. tt };
 
-    fn start<J: Job + 'static>(&mut self, job: J) -> Result<(), Failed> {
+    fn start<J: Job>(&mut self, job: J) -> Result<(), Failed> {
         self.starts = self.starts.saturating_add(1);
         if self.failing.as_slice().contains(&self.starts) {
             self.faults = self.faults.saturating_add(1);

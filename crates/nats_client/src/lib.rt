@@ -6,7 +6,7 @@
 mod errors;
 mod fake_spawner;
 mod id;
-mod memory_world;
+mod memory;
 mod net_dialer;
 mod net_link;
 mod net_resolver;
@@ -23,7 +23,7 @@ mod world;
 pub use errors::{PublishError, PublishErrorKind, SubscribeError, SubscribeErrorKind};
 pub use fake_spawner::FakeSpawner;
 pub use id::{ID_LENGTH, id_text, id_token};
-pub use memory_world::{MemoryWorld, memory_world};
+pub use memory::{MemoryWorld, memory_world};
 pub use nats_names::{Cause, Failed, NoMemory, Token};
 pub use nats_outside::{Clock, Dialer, Draw, LinkRead, LinkWrite, Reach, Resolver};
 pub use net_dialer::NetDialer;

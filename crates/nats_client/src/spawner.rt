@@ -6,7 +6,7 @@ use nats_names::Failed;
 
 /// What may run beside its maker: it owns all that it uses, may move between threads, and can be dropped. Own
 /// trait: the Rust hands its runtime a future.
-pub trait Job: Drop + Send + Sized {
+pub trait Job: Drop + Send + Sized + 'static {
     /// Does the job, to its end.
     fn run(self);
 }
@@ -23,7 +23,7 @@ pub trait Spawner {
     ghost beside_spawner: { Self → BesideSpawner };
 
     /// Starts a job. One that is not started is dropped, and counted.
-    fn start<J: Job + 'static>(&mut self, job: J) -> Result<(), Failed>
+    fn start<J: Job>(&mut self, job: J) -> Result<(), Failed>
         ensures told { spawn_faults self.new ≡ spawned result (spawn_faults self.old) }
         ensures beside { beside_spawner self.new ≡ beside_spawner self.old };
 }

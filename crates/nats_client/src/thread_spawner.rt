@@ -56,7 +56,7 @@ impl<R: Threads> Spawner for ThreadSpawner<R> {
 
     ghost beside_spawner = { λ _. tt };
 
-    fn start<J: Job + 'static>(&mut self, job: J) -> Result<(), Failed> {
+    fn start<J: Job>(&mut self, job: J) -> Result<(), Failed> {
         if self.threads.reserve(1).is_err() {
             return Err(self.refuse());
         }

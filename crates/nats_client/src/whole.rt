@@ -117,7 +117,7 @@ impl<W, S: Spawner, C> Spawner for Whole<W, S, C> {
 
     ghost beside_spawner = { λ w. w.reach };
 
-    fn start<J: Job + 'static>(&mut self, job: J) -> Result<(), Failed> {
+    fn start<J: Job>(&mut self, job: J) -> Result<(), Failed> {
         self.spawner.start(job)
     }
 }

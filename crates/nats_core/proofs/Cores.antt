@@ -19,7 +19,7 @@ use Rattle.nats_core.specs.declared.entry.Entry.{Entry}
 use Rattle.nats_core.specs.declared.entry.StepReply.{StepReply}
 use Rattle.nats_core.specs.declared.entry.StepReply.TheVariants as replies
 use Rattle.nats_core.specs.Journal.{turns_of, reply_to, IsRight, StandsForTurns, Logged, core_of, config_of, journal_turns, IsSound, new_core, due_rounds, with_session, caught_up, entries_with, entry_of, played}
-use Rattle.nats_core.specs.Calls.{parts_in, PlaysDue, Plays, Steps, is_on, up_number, StepsOn, Submits}
+use Rattle.nats_core.specs.Calls.{parts_in, PlaysDue, Plays, Steps, is_on, up_number, PlaysOn, StepsOn, Submits}
 use Rattle.nats_core.proofs.Dues.{config_all, config_rounds, rounds_enough, none_after_all}
 use Rattle.nats_core.proofs.Journals.{right_more, stands_rounds, parts_are, stands_entry}
 
@@ -193,19 +193,31 @@ pub steps_wanting : (old new : Logged) (t : Turn) (r : Result StepReply StepErro
 steps_wanting old new t (Ok reply) is plays behind = absurd is.1
 steps_wanting old new t (Err e) is plays behind = subst (λ x. Steps old t (Err x) new) (sym is.1) (steps_behind old new t plays behind)
 
-pub steps_on_by : (link : ℕ) (old mid new : Logged) (t : Turn) (r : Result StepReply StepError) → PlaysDue old mid → mid ≡ caught_up old → is_on link (parts_in mid) ≡ true → Plays mid t r new → StepsOn link old t r new
-steps_on_by link old mid new t (Ok reply) due is on plays = (
-  steps_by old mid new t (Ok reply) due is plays,
-  ap (λ core. is_on link (parts_in core)) (sym is) ∙ on,
+pub plays_on : (link : ℕ) (old new : Logged) (t : Turn) (r : Result StepReply StepError) → is_on link (parts_in old) ≡ true
+    → Plays old t r new → PlaysOn link old t r new
+plays_on link old new t (Ok reply) on plays = (plays, on)
+plays_on link old new t (Err OutOfTurn) on plays = (plays, on)
+plays_on link old new t (Err (LinkGone current)) on plays = absurd plays
+plays_on link old new t (Err NoMemory) on plays = (plays, on)
+
+pub steps_on_by : (link : ℕ) (old mid new : Logged) (t : Turn) (r : Result StepReply StepError) → PlaysDue old mid
+    → mid ≡ caught_up old → PlaysOn link mid t r new → StepsOn link old t r new
+steps_on_by link old mid new t (Ok reply) due is plays = (
+  steps_by old mid new t (Ok reply) due is plays.0,
+  ap (λ core. is_on link (parts_in core)) (sym is) ∙ plays.1,
 )
-steps_on_by link old mid new t (Err OutOfTurn) due is on plays = (
-  steps_by old mid new t (Err OutOfTurn) due is plays,
-  ap (λ core. is_on link (parts_in core)) (sym is) ∙ on,
+steps_on_by link old mid new t (Err OutOfTurn) due is plays = (
+  steps_by old mid new t (Err OutOfTurn) due is plays.0,
+  ap (λ core. is_on link (parts_in core)) (sym is) ∙ plays.1,
 )
-steps_on_by link old mid new t (Err (LinkGone current)) due is on plays = absurd plays
-steps_on_by link old mid new t (Err NoMemory) due is on plays = (
-  steps_by old mid new t (Err NoMemory) due is plays,
-  λ none. ap (λ core. is_on link (parts_in core)) (sym is) ∙ on,
+steps_on_by link old mid new t (Err (LinkGone current)) due is plays = (
+  ap (λ core. is_on link (parts_in core)) (sym is) ∙ plays.0,
+  plays.1 ∙ ap (λ core. up_number (parts_in core)) is,
+  plays.2 ∙ is,
+)
+steps_on_by link old mid new t (Err NoMemory) due is plays = (
+  steps_by old mid new t (Err NoMemory) due is plays.0,
+  λ none. ap (λ core. is_on link (parts_in core)) (sym is) ∙ plays.1,
 )
 
 pub steps_on_behind : (link : ℕ) (old new : Logged) (t : Turn) → PlaysDue old new → is_some (due (parts_in new)) ≡ true → StepsOn link old t (Err NoMemory) new
@@ -218,12 +230,6 @@ pub steps_on_wanting : (link : ℕ) (old new : Logged) (t : Turn) (r : Result St
 steps_on_wanting link old new t (Ok reply) is plays behind = absurd is.1
 steps_on_wanting link old new t (Err e) is plays behind = subst (λ x. StepsOn link old t (Err x) new) (sym is.1) (steps_on_behind link old new t plays behind)
 
-pub steps_on_gone : (link current : ℕ) (old new : Logged) (t : Turn) → new ≡ caught_up old → is_on link (parts_in new) ≡ false → current ≡ up_number (parts_in new) → StepsOn link old t (Err (LinkGone current)) new
-steps_on_gone link current old new t is gone number = (
-  ap (λ core. is_on link (parts_in core)) (sym is) ∙ gone,
-  number ∙ ap (λ core. up_number (parts_in core)) is,
-  is,
-)
 
 -- a call that may come once no step is due
 pub may_caught_up : (old mid : Logged) (t : Turn) → mid ≡ caught_up old → is_valid_turn (parts_in (caught_up old)) t ≡ true → can_play (parts_in mid) t ≡ true

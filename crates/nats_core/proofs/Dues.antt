@@ -1,5 +1,5 @@
 -- Laws on due steps as a session is seen.
-use Rattle.std.proofs.Common.{◌≡◌, ℕ, zero, suc, ◌<◌, Bool, true, false, cond, List, [], ◌∷◌, ◌++◌, length, nat_lt, Option, Some, None, refl, sym, ◌∙◌, ap, subst}
+use Rattle.std.proofs.Common.{◌≡◌, ℕ, zero, suc, ◌<◌, Bool, true, false, not, is_some, cond, List, [], ◌∷◌, ◌++◌, length, nat_lt, Option, Some, None, refl, sym, ◌∙◌, ap, subst}
 use Rattle.std.proofs.lemmas.Bool.{false≢true}
 use Rattle.std.proofs.lemmas.Option.{none-some, same_Some}
 use Rattle.nats_wire.specs.declared.message.Message.{Message}
@@ -127,17 +127,25 @@ advances_round old new name plays = by (due old.parts) refl plays
     by None is plays = plays.1 ∙ sym (none_round old is)
     by (Some step) is plays = plays.1 ∙ ap (λ next. seen_all old (due_chain old.parts next)) (sym is)
 
-pub nothing_left : (old new : Seen) (name : Due) → Advances (due old.parts) old name new → is_nothing name ≡ true → due new.parts ≡ None
-nothing_left old new name plays nothing = by (due old.parts) refl plays
+pub tells_some : (old new : Seen) (name : Due) → Advances (due old.parts) old name new → not (is_nothing name) ≡ is_some (due old.parts)
+tells_some old new name plays = by (due old.parts) refl plays
   where
-    by : (next : Option Step) → due old.parts ≡ next → Advances next old name new → due new.parts ≡ None
-    by None is plays = ap (λ (s : Seen). due s.parts) plays.1 ∙ is
-    by (Some step) is plays = absurd (false≢true (sym (ap is_nothing plays.0 ∙ named old.parts step is) ∙ nothing))
-
-pub nearer : (old new : Seen) (name : Due) → Advances (due old.parts) old name new → is_nothing name ≡ false → most_due new.parts < most_due old.parts
-nearer old new name plays something = by (due old.parts) refl plays
-  where
-    by : (next : Option Step) → due old.parts ≡ next → Advances next old name new → most_due new.parts < most_due old.parts
-    by None is plays = absurd (false≢true (sym something ∙ ap is_nothing plays.0))
+    by : (next : Option Step) → due old.parts ≡ next → Advances next old name new → not (is_nothing name) ≡ is_some (due old.parts)
+    by None is plays = ap (λ n. not (is_nothing n)) plays.0 ∙ sym (ap is_some is)
     by (Some step) is plays =
-        subst (λ (s : Seen). most_due s.parts < most_due old.parts) (sym (advances_round old new name (subst (λ next. Advances next old name new) (sym is) plays))) (round_falls old step is)
+        ap (λ n. not (is_nothing n)) plays.0 ∙ (ap not (named old.parts step is) ∙ sym (ap is_some is))
+
+-- a round where something was due brings the end nearer, and one where nothing was is the end
+pub round_nearer : (old new : Seen) → new ≡ due_round old → is_some (due old.parts) ≡ true → most_due new.parts < most_due old.parts
+round_nearer old new round some = by (due old.parts) refl
+  where
+    by : (next : Option Step) → due old.parts ≡ next → most_due new.parts < most_due old.parts
+    by None is = absurd (false≢true (sym (ap is_some is) ∙ some))
+    by (Some step) is = subst (λ (s : Seen). most_due s.parts < most_due old.parts) (sym round) (round_falls old step is)
+
+pub round_ends : (old new : Seen) → new ≡ due_round old → is_some (due old.parts) ≡ false → due new.parts ≡ None
+round_ends old new round none = by (due old.parts) refl
+  where
+    by : (next : Option Step) → due old.parts ≡ next → due new.parts ≡ None
+    by None is = ap (λ (s : Seen). due s.parts) (round ∙ none_round old is) ∙ is
+    by (Some step) is = absurd (false≢true (sym none ∙ ap is_some is))

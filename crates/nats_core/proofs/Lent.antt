@@ -3,6 +3,7 @@ use Rattle.std.proofs.Common.{◌≡◌, ℕ, zero, suc, ◌+◌, ◌-◌, ◌^�
 use Rattle.std.specs.List.{concat}
 use Rattle.std.specs.Io.KnownBytes.{append_known, Consumes}
 use Rattle.std.proofs.Math.Nat.{max-eq_left, min-le_left}
+use Rattle.std.proofs.lemmas.Bool.{false≢true}
 use Rattle.std.proofs.lemmas.List.{length-append, take-append-le, take-append-drop}
 use Rattle.std.proofs.lemmas.List.Elements.{All-head}
 use Rattle.nats_addr.specs.Resolving.{risen}
@@ -79,11 +80,11 @@ writes_took old mid new pieces n before after front some fits told own due = (
 -- ---- want of memory
 
 pub reads_wanting : (old new : Logged) (buf : List ℕ) (before after : ReadTold) (r : Result ReadOnce NoMemory) → IsErr r → new ≡ old → Reads old buf before after r new
-reads_wanting old new buf before after (Ok answer) is same = absurd is
+reads_wanting old new buf before after (Ok answer) is same = absurd (false≢true is)
 reads_wanting old new buf before after (Err e) is same = same
 
 pub writes_wanting : (old new : Logged) (before after : WriteTold) (r : Result WriteOnce NoMemory) → IsErr r → 0 < length (waiting_in old) → new ≡ old → Writes old before after r new
-writes_wanting old new before after (Ok answer) is some same = absurd is
+writes_wanting old new before after (Ok answer) is some same = absurd (false≢true is)
 writes_wanting old new before after (Err e) is some same = (some, same)
 
 -- ---- the turns of a link that is up

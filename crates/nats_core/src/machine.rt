@@ -5,9 +5,10 @@ ghost use Rattle.nats_history.specs.Queue.{first};
 ghost use Rattle.nats_history.specs.Schedule.{due, is_valid_turn, call_reply};
 ghost use Rattle.nats_tickets.specs.Kept.{reply_in, without};
 ghost use Rattle.nats_session.specs.Handler.{can_play, HandsOut, HandsReply};
+ghost use Rattle.nats_core.specs.declared.answers.StepError.TheVariants as refused;
 ghost use Rattle.nats_core.specs.declared.entry.StepReply.TheVariants as replies;
 ghost use Rattle.nats_core.specs.Journal.{IsRight, StandsForTurns, StandsForAll, config_of, journal_turns, new_core, reply_to, entries_with, with_session, caught_up, played};
-ghost use Rattle.nats_core.specs.Calls.{parts_in, PlaysDue, Plays, Steps, StepsOn, Submits, is_on, up_number};
+ghost use Rattle.nats_core.specs.Calls.{parts_in, PlaysDue, Plays, Steps, PlaysOn, StepsOn, Submits, is_on, up_number};
 
 mod links;
 
@@ -248,15 +249,31 @@ impl Core {
         self.handler.is_up() && self.handler.link() == link
     }
 
+    /// The refusal of a link that is not up.
+    fn gone(&self) -> StepError
+        ensures { result ≡ refused.LinkGone (up_number (parts_in self.now)) }
+    {
+        StepError::LinkGone {
+            current: self.up_number(),
+        }
+    }
+
+    /// Plays a turn where no step is due, if the link of this number is up and the turn may come.
+    fn play_on(&mut self, alloc: Global, link: u64, turn: Turn) -> Result<StepReply, StepError>
+        requires { due (parts_in self.old) ≡ None }
+        ensures { PlaysOn link self.old turn result self.new }
+    {
+        if !self.is_on(link) {
+            return Err(self.gone());
+        }
+        self.play(alloc, turn)
+    }
+
     fn step_once_on(&mut self, alloc: Global, link: u64, turn: Turn) -> Result<StepReply, StepError>
         ensures { StepsOn link self.old turn result self.new }
     {
         self.catch_up(alloc)?;
-        if !self.is_on(link) {
-            let current = self.up_number();
-            return Err(StepError::LinkGone { current });
-        }
-        self.play(alloc, turn)
+        self.play_on(alloc, link, turn)
     }
 
     /// Plays a turn as `step` does, on the link of this number, if that is the one that is up once no step is due.

@@ -1,9 +1,9 @@
 //! What is played on a session: the own steps of a turn, and the steps that are due.
-ghost use Rattle.std.specs.Prelude.{◌≡◌, ℕ, OnOk, OnErr, IfOk, IfErr, IsTrue, is_some, None};
+ghost use Rattle.std.specs.Prelude.{◌≡◌, ℕ, not, OnOk, OnErr, IfOk, IfErr, IsTrue, is_some, None};
 ghost use Rattle.nats_history.specs.declared.turn.Turn.TheVariants as turns;
 ghost use Rattle.nats_history.specs.Schedule.{due, own_steps, call_reply};
 ghost use Rattle.nats_session.specs.Handler.{can_play, seen_all};
-ghost use Rattle.nats_core.specs.Journal.{reply_to, is_nothing, due_rounds};
+ghost use Rattle.nats_core.specs.Journal.{reply_to, is_nothing, due_round, due_rounds};
 
 use crate::entry::StepReply;
 use nats_history::Due;
@@ -100,14 +100,21 @@ pub(crate) fn play_turn(
     }
 }
 
-/// Whether a due step is none.
-fn is_nothing(due: &Due) -> bool
-    ensures { result ≡ is_nothing due.now }
+/// Whether a step was played.
+fn is_step(due: Due) -> bool
+    ensures { result ≡ not (is_nothing due) }
 {
-    match due {
-        Due::Nothing => true,
-        Due::Read | Due::Put(_) | Due::Dropped(_, _) | Due::Handled | Due::Ended => false,
-    }
+    !matches!(due, Due::Nothing)
+}
+
+/// Plays the step that is due, with what follows it at once. Whether one was due.
+fn play_one(alloc: Global, handler: &mut ConnectionHandler) -> Result<bool, NoMemory>
+    ensures one { OnOk result (handler.new ≡ due_round handler.old) }
+    ensures some { IfOk result (λ some. some ≡ is_some (due handler.old.parts)) }
+    ensures wants { OnErr result (IsTrue (is_some (due handler.old.parts))) }
+    ensures same { OnErr result (handler.new ≡ handler.old) }
+{
+    Ok(is_step(handler.advance(alloc)?))
 }
 
 /// Plays the steps that are due, one after another, until none is.
@@ -116,10 +123,6 @@ pub(crate) fn play_due(alloc: Global, handler: &mut ConnectionHandler) -> Result
     ensures ok { OnOk result (due handler.new.parts ≡ None) }
     ensures err { OnErr result (IsTrue (is_some (due handler.new.parts))) }
 {
-    'due: loop {
-        let played = handler.advance(alloc)?;
-        if is_nothing(&played) {
-            return Ok(());
-        }
-    }
+    'due: while play_one(alloc, handler)? {}
+    Ok(())
 }

@@ -1,12 +1,13 @@
 //! A core beside a link that is lent to it.
 ghost use Rattle.std.specs.Prelude.{◌≡◌, ◌<◌, length, OnOk, OnErr, IfOk, IsTrue, None};
+ghost use Rattle.std.specs.List.{concat};
 ghost use Rattle.nats_history.specs.declared.turn.Turn.TheVariants as turns;
 ghost use Rattle.nats_history.specs.Schedule.{due};
 ghost use Rattle.nats_outbuf.specs.Buffers.{IsFront};
 ghost use Rattle.nats_session.specs.Handler.{can_play};
 ghost use Rattle.nats_core.specs.Journal.{played};
 ghost use Rattle.nats_core.specs.Calls.{parts_in, PlaysDue};
-ghost use Rattle.nats_core.specs.Links.{Gives, Reads, Writes, waiting_in};
+ghost use Rattle.nats_core.specs.Links.{Gives, Reads, TakesSome, Writes, waiting_in};
 
 use super::Core;
 use crate::answers::{ReadOnce, WriteOnce};
@@ -24,6 +25,17 @@ fn read_some<L: LinkRead>(from: &mut L, buf: &mut [u8]) -> usize
     match from.read(buf) {
         Ok(count) => count,
         Err(Failed) => 0,
+    }
+}
+
+/// One write of pieces: how many of their bytes the link took; none where it failed.
+fn write_some<L: LinkWrite>(out: &mut L, pieces: &[Bytes]) -> Option<usize>
+    requires { 0 < length (concat pieces.now) }
+    ensures { TakesSome result (concat pieces.now) (L.write_told out.old) (L.write_told out.new) }
+{
+    match out.write_pieces(pieces) {
+        Ok(count) => Some(count),
+        Err(Failed) => None,
     }
 }
 
@@ -52,6 +64,17 @@ impl Core {
             &mut self.entries,
             bytes,
         )
+    }
+
+    /// Plays that the link took so many bytes, and then due steps, as memory allows.
+    fn wrote(&mut self, alloc: Global, count: usize) -> Result<(), NoMemory>
+        requires { IsTrue (can_play (parts_in self.old) (turns.Write count)) }
+        ensures ok { OnOk result (PlaysDue (played (turns.Write count) self.old) self.new) }
+        ensures err { OnErr result (self.new ≡ self.old) }
+    {
+        self.note_turn(alloc, Turn::Write(count as u64))?;
+        self.settle(alloc);
+        Ok(())
     }
 
     /// Reads once from a link, at most as many bytes as `buf` holds, and plays them as one piece: `Played` tells how
@@ -106,13 +129,12 @@ impl Core {
         if pieces.is_empty() {
             return Ok(WriteOnce::Idle);
         }
-        match out.write_pieces(pieces.as_slice()) {
-            Ok(count) => {
-                self.note_turn(alloc, Turn::Write(count as u64))?;
-                self.settle(alloc);
+        match write_some(out, pieces.as_slice()) {
+            Some(count) => {
+                self.wrote(alloc, count)?;
                 Ok(WriteOnce::Wrote(count as u64))
             }
-            Err(Failed) => {
+            None => {
                 self.lose(alloc)?;
                 Ok(WriteOnce::Lost)
             }
