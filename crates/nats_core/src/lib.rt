@@ -9,8 +9,6 @@ mod entry;
 mod machine;
 mod notes;
 mod plays;
-#[cfg(test)]
-mod tests;
 
 pub use answers::{ReadOnce, StepError, WriteOnce};
 pub use entry::{Entry, StepReply};
