@@ -1,5 +1,4 @@
 pub mod Cores
 pub mod Dues
 pub mod Journals
-pub mod Lent
 pub mod Plain

@@ -221,6 +221,6 @@ reading_fed most bytes seen b up =
       done = [];
       is = ap (λ (u : Bool). seen_after (state b.mux b.noise (begun u b.unread b.waiting)) (fed bytes)) is_up;
       limit = b.limit;
-      ups = λ yes. (goes_fed [] [] b.unread bytes facts.0, facts.1);
+      ups = λ it_is. (goes_fed [] [] b.unread bytes facts.0, facts.1);
       downs = λ down. absurd (true≢false down);
     })

@@ -149,13 +149,13 @@ flushed_all : (text head : List ℕ) (up : Bool) (seen : Seen) (w : WriteTold) �
 flushed_all text head up seen w on reply = by seen.parts.link.is_up refl
   where
     by : (b : Bool) → seen.parts.link.is_up ≡ b → Took (head ++ text) w
-    by true yes =
-        let g = going_flushes text on.took seen on.flushes yes in
+    by true it_is =
+        let g = going_flushes text on.took seen on.flushes it_is in
         subst (λ (t : List ℕ). Took (head ++ t) w)
         (all_taken text on.took g.waiting g.phase (ap (λ (s : Seen). reply_in 1 s.ready) (sym g.is) ∙ reply) g.fits
             (g.ups refl).1)
         on.wrote
-    by false no = absurd (on.flushes.2.downs no reply)
+    by false it_is_not = absurd (on.flushes.2.downs it_is_not reply)
 
 over_by : (text head : List ℕ) (up : Bool) (seen : Seen) (w : WriteTold) → FlushesOn text head up seen w
     → ((reply_in 1 seen.ready ≡ Some replies.Flushed) → ⊥) →
@@ -166,14 +166,14 @@ over_by text head up seen w on unflushed gone = by seen.parts.link.is_up refl
     by_reply : (g : Going text on.took true true seen)
         → (reply_in 1 (ready_at g.phase) ≡ None) ⊎ (reply_in 1 (ready_at g.phase) ≡ Some replies.Flushed)
         → seen.parts.link.is_up ≡ true → (up ≡ false) ⊎ (1 ≤ w.faults)
-    by_reply g (inl none) yes = on.over (gone (ap (λ (s : Seen). reply_in 1 s.ready) g.is ∙ none))
-    by_reply g (inr flushed) yes = absurd (unflushed (ap (λ (s : Seen). reply_in 1 s.ready) g.is ∙ flushed))
+    by_reply g (inl none) it_is = on.over (gone (ap (λ (s : Seen). reply_in 1 s.ready) g.is ∙ none))
+    by_reply g (inr flushed) it_is = absurd (unflushed (ap (λ (s : Seen). reply_in 1 s.ready) g.is ∙ flushed))
 
     by : (b : Bool) → seen.parts.link.is_up ≡ b → (up ≡ false) ⊎ (1 ≤ w.faults)
-    by true yes =
-        let g = going_flushes text on.took seen on.flushes yes in
-        by_reply g (reply_at g.phase) yes
-    by false no = on.over no
+    by true it_is =
+        let g = going_flushes text on.took seen on.flushes it_is in
+        by_reply g (reply_at g.phase) it_is
+    by false it_is_not = on.over it_is_not
 
 -- it is settled
 pub flush_ends : (text head : List ℕ) (up : Bool) (old new : Logged) (w : WriteTold)

@@ -271,7 +271,7 @@ hearing_got subject joined first was took taken seen h op n e up =
               (receiving true true subject step.1 q (drop n h.unread) (h.waiting ++ pong op))) grown);
       fits = omega (arith, h.fits, ap length (messages_more 1 h.since (op ∷ [])), length-append (messages 1 h.since)
           (messages 1 (op ∷ [])));
-      ups = λ yes. (
+      ups = λ it_is. (
         subst (λ (ops : List Operation). GoesOn joined ops (drop n h.unread)) (append_assoc first h.since (op ∷ []))
             (goes_read joined (first ++ h.since) h.unread op n e facts.0),
         text_one subject took h.waiting first h.since op facts.1,
@@ -306,7 +306,7 @@ hearing_front subject joined first was took taken seen h (fault n) e up = record
   waiting = [];
   is = hears_fault h.mux h.noise subject h.puts (drop taken (messages 1 h.since)) h.unread h.waiting n;
   fits = h.fits;
-  ups = λ yes. absurd (false≢true yes);
+  ups = λ it_is. absurd (false≢true it_is);
   downs = λ down. (
     goes_over joined (first ++ h.since) h.unread (h.ups up).0 (not_got_fault (front h.unread) n e),
     goes_fault joined (first ++ h.since) h.unread (h.ups up).0 (not_got_fault (front h.unread) n e) ∙ ap is_fault e,
@@ -367,7 +367,7 @@ hearing_receives subject joined first was took taken seen h none = record {
   all = by h.up refl;
   fits = h.fits;
   fresh = λ closed. absurd (true≢false closed);
-  ups = λ yes. ((h.ups yes).0, ap (λ (w : List ℕ). took ++ w) (append-nil h.waiting) ∙ (h.ups yes).1);
+  ups = λ it_is. ((h.ups it_is).0, ap (λ (w : List ℕ). took ++ w) (append-nil h.waiting) ∙ (h.ups it_is).1);
   left = h.left;
   text = h.text;
 }
@@ -426,7 +426,7 @@ hearing_fed subject joined bytes first since took taken seen r up open all_taken
           (r.is ∙ (ap (λ (b : Bool). state r.mux r.noise (receiving b r.opened subject r.puts queue r.unread r.waiting)) up
           ∙ ap (λ (b : Bool). state r.mux r.noise (receiving true b subject r.puts queue r.unread r.waiting)) open));
       fits = r.fits;
-      ups = λ yes. (
+      ups = λ it_is. (
         goes_fed joined (first ++ since) r.unread bytes facts.0,
         sym (ap (λ (w : List ℕ). took ++ w) (append-nil r.waiting))
             ∙ (ap (λ (b : Bool). took ++ (r.waiting ++ unasked b subject)) (sym open) ∙ facts.1),

@@ -138,7 +138,7 @@ quiet_receives subject joined first since took taken up seen q none = record {
   all = q.all;
   fits = q.fits;
   fresh = q.fresh;
-  ups = λ yes. ((q.ups yes).1, (q.ups yes).2);
+  ups = λ it_is. ((q.ups it_is).1, (q.ups it_is).2);
   left = q.left;
   text = q.text;
 }
@@ -158,11 +158,11 @@ receives_quiet subject joined first since took taken seen r =
       all = r.all;
       fits = r.fits;
       fresh = r.fresh;
-      ups = λ yes. (
-        nothing_there (front r.unread) r.mux r.noise k yes (ap (λ (s : Seen). due s.parts) (sym r.is) ∙ r.settled)
+      ups = λ it_is. (
+        nothing_there (front r.unread) r.mux r.noise k it_is (ap (λ (s : Seen). due s.parts) (sym r.is) ∙ r.settled)
             refl,
-        (r.ups yes).0,
-        (r.ups yes).1,
+        (r.ups it_is).0,
+        (r.ups it_is).1,
       );
       left = r.left;
       text = r.text;
@@ -199,7 +199,7 @@ quiet_write subject joined first since took_so taken_so n seen q le =
           all = q.all;
           fits = q.fits;
           fresh = q.fresh;
-          ups = λ yes. (facts.0, facts.1, split);
+          ups = λ it_is. (facts.0, facts.1, split);
           left = drop n q.waiting ++ unasked q.opened subject;
           text = split;
         }))

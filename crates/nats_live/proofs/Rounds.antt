@@ -240,7 +240,7 @@ writes_idle subject joined first since had taken head was old new before w after
     subst (λ (x : WriteTold). IsWritten subject joined first since had taken head was (Ok tt) new.session before x)
         (sym wrote.2)
     (subst (λ (s : Seen). IsWritten subject joined first since had taken head was (Ok tt) s before w) (sym is)
-        (on.more, on.receives, on.wrote, on.faults, (λ yes. all.1), on.over))
+        (on.more, on.receives, on.wrote, on.faults, (λ it_is. all.1), on.over))
 
 pub writes_lost : (subject joined : List ℕ) (first since : List Operation) (had : List ℕ) (taken : ℕ) (head : List ℕ)
     (was : Bool)
@@ -265,8 +265,8 @@ writes_lost subject joined first since had taken head was old new before w after
       quiet_receives subject joined first since (had ++ on.more) taken false (all_due next) far (none_after_all next),
       took_failed (head ++ (had ++ on.more)) w after on.wrote wrote.1,
       omega (arith, on.faults, failed.1),
-      (λ yes. absurd (false≢true (sym down ∙ yes))),
-      (λ no. inr failed.0),
+      (λ it_is. absurd (false≢true (sym down ∙ it_is))),
+      (λ it_is_not. inr failed.0),
     )
 
 pub writes_gone : (subject joined : List ℕ) (first since : List Operation) (had : List ℕ) (taken : ℕ) (head : List ℕ)
@@ -282,7 +282,7 @@ writes_gone subject joined first since had taken head was old new before w after
     subst (λ (x : WriteTold). IsWritten subject joined first since had taken head was (Ok tt) new.session before x)
         (sym wrote.1)
     (subst (λ (s : Seen). IsWritten subject joined first since had taken head was (Ok tt) s before w) (sym is)
-        (on.more, on.receives, on.wrote, on.faults, (λ yes. absurd (false≢true (sym down ∙ yes))), on.over))
+        (on.more, on.receives, on.wrote, on.faults, (λ it_is. absurd (false≢true (sym down ∙ it_is))), on.over))
 
 -- a write that is the last of them
 pub writes_done : (subject joined : List ℕ) (first since : List Operation) (had : List ℕ) (taken : ℕ) (head : List ℕ)

@@ -320,8 +320,8 @@ flushes_going text took up seen g none =
     let here = going_up text took true up seen g in
     (g.phase, has g.phase g.kind, record {
       settled = none;
-      ups = λ yes.
-          let is_up : up ≡ true = sym here ∙ yes in (
+      ups = λ it_is.
+          let is_up : up ≡ true = sym here ∙ it_is in (
             g.mux,
             g.noise,
             g.unread,
@@ -354,7 +354,7 @@ going_flushes text took seen (phase, flush, s) up =
       is = u.4;
       kind = had phase flush;
       fits = u.5;
-      ups = λ yes. (
+      ups = λ it_is. (
         nothing_there (front u.2) u.0 u.1 k refl (ap (λ (x : Seen). due x.parts) (sym u.4) ∙ s.settled) refl,
         u.6,
       );

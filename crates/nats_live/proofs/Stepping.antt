@@ -1,5 +1,6 @@
 -- One turn, one write, one read, each with all that it makes due.
 use Rattle.std.proofs.Common.{◌≡◌, refl, ◌∙◌, sym, ap, subst, ℕ, Bool, true, false, List, take, Result, Ok, Err, IsErr}
+use Rattle.std.proofs.lemmas.Bool.{false≢true}
 use Rattle.nats_names.specs.declared.failed.NoMemory.{NoMemory}
 use Rattle.nats_outside.specs.Told.{ReadTold, WriteTold}
 use Rattle.nats_history.specs.declared.turn.Turn.{Turn}
@@ -52,25 +53,25 @@ pub writes_once : (old core mid new : Logged) (before after : WriteTold) (up : B
     → core ≡ caught_up old
     → up ≡ (parts_in core).link.is_up → up ≡ true → Writes core before after (Ok once) mid → new ≡ caught_up mid
     → WritesWhole old before after (Ok once) new
-writes_once old core mid new before after up (writes.Wrote n) is told yes wrote caught =
+writes_once old core mid new before after up (writes.Wrote n) is told it_is wrote caught =
     subst (λ (c : Logged). Writes c before after (Ok (writes.Wrote n)) mid → WritesWhole old before after
         (Ok (writes.Wrote n)) new) (sym is)
-    (λ w. (up_of old core up is told ∙ yes, w.0, w.1, w.2, caught ∙ caught_due
+    (λ w. (up_of old core up is told ∙ it_is, w.0, w.1, w.2, caught ∙ caught_due
         (played (turns.Write n) (caught_up old)) mid w.3)) wrote
-writes_once old core mid new before after up writes.Idle is told yes wrote caught =
+writes_once old core mid new before after up writes.Idle is told it_is wrote caught =
     subst (λ (c : Logged). Writes c before after (Ok writes.Idle) mid → WritesWhole old before after (Ok writes.Idle)
         new) (sym is)
-    (λ w. (up_of old core up is told ∙ yes, w.0, w.1, caught ∙ (ap caught_up w.2 ∙ caught_twice old))) wrote
-writes_once old core mid new before after up writes.Lost is told yes wrote caught =
+    (λ w. (up_of old core up is told ∙ it_is, w.0, w.1, caught ∙ (ap caught_up w.2 ∙ caught_twice old))) wrote
+writes_once old core mid new before after up writes.Lost is told it_is wrote caught =
     subst (λ (c : Logged). Writes c before after (Ok writes.Lost) mid → WritesWhole old before after (Ok writes.Lost)
         new) (sym is)
-    (λ w. (up_of old core up is told ∙ yes, w.1, caught ∙ caught_due (played turns.Lost (caught_up old)) mid w.2))
+    (λ w. (up_of old core up is told ∙ it_is, w.1, caught ∙ caught_due (played turns.Lost (caught_up old)) mid w.2))
         wrote
-writes_once old core mid new before after up writes.Gone is told yes wrote caught = absurd wrote
+writes_once old core mid new before after up writes.Gone is told it_is wrote caught = absurd wrote
 
 pub writes_wanting : (old new : Logged) (before after : WriteTold) (r : Result WriteOnce NoMemory) → IsErr r
     → WritesWhole old before after r new
-writes_wanting old new before after (Ok once) is = absurd is
+writes_wanting old new before after (Ok once) is = absurd (false≢true is)
 writes_wanting old new before after (Err e) is = tt
 
 pub reads_gone : (old core : Logged) (buf : List ℕ) (r : ReadTold) (up : Bool) → core ≡ caught_up old
@@ -82,19 +83,19 @@ pub reads_once : (old core mid new : Logged) (buf : List ℕ) (before after : Re
     → core ≡ caught_up old
     → up ≡ (parts_in core).link.is_up → up ≡ true → Reads core buf before after (Ok once) mid → new ≡ caught_up mid
     → ReadsWhole old buf before after (Ok once) new
-reads_once old core mid new buf before after up (reads.Played n) is told yes read caught =
+reads_once old core mid new buf before after up (reads.Played n) is told it_is read caught =
     subst (λ (c : Logged). Reads c buf before after (Ok (reads.Played n)) mid → ReadsWhole old buf before after
         (Ok (reads.Played n)) new) (sym is)
-    (λ r. (up_of old core up is told ∙ yes, r.0, r.1, r.2, caught ∙ caught_due
+    (λ r. (up_of old core up is told ∙ it_is, r.0, r.1, r.2, caught ∙ caught_due
         (played (turns.Piece (take n buf)) (caught_up old)) mid r.4)) read
-reads_once old core mid new buf before after up reads.Lost is told yes read caught =
+reads_once old core mid new buf before after up reads.Lost is told it_is read caught =
     subst (λ (c : Logged). Reads c buf before after (Ok reads.Lost) mid → ReadsWhole old buf before after
         (Ok reads.Lost) new) (sym is)
-    (λ r. (up_of old core up is told ∙ yes, r.0, caught ∙ caught_due (played turns.Lost (caught_up old)) mid r.1)) read
-reads_once old core mid new buf before after up reads.Gone is told yes read caught = absurd read
+    (λ r. (up_of old core up is told ∙ it_is, r.0, caught ∙ caught_due (played turns.Lost (caught_up old)) mid r.1)) read
+reads_once old core mid new buf before after up reads.Gone is told it_is read caught = absurd read
 
 pub reads_wanting : (old new : Logged) (buf : List ℕ) (before after : ReadTold) (r : Result ReadOnce NoMemory)
     → IsErr r
     → ReadsWhole old buf before after r new
-reads_wanting old new buf before after (Ok once) is = absurd is
+reads_wanting old new buf before after (Ok once) is = absurd (false≢true is)
 reads_wanting old new buf before after (Err e) is = tt
