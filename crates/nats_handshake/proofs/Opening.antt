@@ -86,16 +86,18 @@ later_at (greeting.Refuses r) text later more o is = cc
 pub opened_later : (heard : List ℕ) (pieces more : List (List ℕ)) (o : Opened) → opened_from heard pieces ≡ Some o
     → opened_from heard (pieces ++ more) ≡ Some (with_later more o)
 opened_later heard [] more o is = cc
-opened_later heard (first ∷ pieces) more o is = by (opened_in (heard ++ first) pieces) refl
+opened_later heard (first ∷ pieces) more o is =
+    by (λ later. opened_later (heard ++ first) pieces more o later) (opened_in (heard ++ first) pieces) refl
   where
-    by : (x : Option Opened) → opened_in (heard ++ first) pieces ≡ x
+    by : (opened_from (heard ++ first) pieces ≡ Some o
+        → opened_from (heard ++ first) (pieces ++ more) ≡ Some (with_later more o))
+        → (x : Option Opened) → opened_in (heard ++ first) pieces ≡ x
         → option_or (opened_in (heard ++ first) (pieces ++ more)) (opened_from (heard ++ first) (pieces ++ more)) ≡ Some (with_later more o)
-    by None same =
+    by behind None same =
         or_right (opened_in (heard ++ first) (pieces ++ more)) (opened_from (heard ++ first) (pieces ++ more))
             (none_in (heard ++ first) pieces (pieces ++ more) same)
-        ∙ opened_later (heard ++ first) pieces more o
-            (sym (or_right (opened_in (heard ++ first) pieces) (opened_from (heard ++ first) pieces) same) ∙ is)
-    by (Some x) same =
+        ∙ behind (sym (or_right (opened_in (heard ++ first) pieces) (opened_from (heard ++ first) pieces) same) ∙ is)
+    by behind (Some x) same =
         ap (λ (y : Option Opened). option_or y (opened_from (heard ++ first) (pieces ++ more)))
             (later_at (greeting_at (front (heard ++ first))) (heard ++ first) pieces more x same)
         ∙ ap (lifted more) (sym (ap (λ (y : Option Opened). option_or y (opened_from (heard ++ first) pieces)) same) ∙ is)
