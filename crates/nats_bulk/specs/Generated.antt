@@ -1,4 +1,5 @@
--- A list of turns made by a rule: a link comes up, two subscriptions are made, and then eight kinds of turns come round and round.
+-- A list of turns made by a rule: a link comes up, two subscriptions are made, and then eight kinds of turns come
+-- round and round.
 use Rattle.std.specs.Prelude.{ℕ, zero, suc, ◌==◌, ◌%◌, false, List, [], ◌∷◌, ◌++◌, length, None, codes, decimal, if◌then◌else◌}
 use Rattle.nats_info.specs.Info.{default_info}
 use Rattle.nats_history.specs.declared.config.Config.{Config}

@@ -129,14 +129,16 @@ Notes Counts addr f p e q =
     ((e ≡ wanting) × (q ≡ p)) ⊎ ((e ≡ f) × Counts addr (outcome.Failed (failure_text f)) p q)
 
 -- ---- tries: `Takes`, `Begins`, `Hands` and `Counts` say what becomes of a pool; `Offers` what the client authenticates by; it wants
--- TLS by an option, or doesn't; it has this name; it wants no echo; a handshake may take so long; `read_of` and `write_of` say what its halves told
+-- TLS by an option, or doesn't; it has this name; it wants no echo; a handshake may take so long; `read_of` and
+-- `write_of` say what its halves told
 module _ {P R T : Type 0} (Takes : P → P → List (List ℕ) → Result (Unit {0}) AddrError → Type 0)
     (Counts : Parts → Outcome → P → P → Type 0) (Hands : P → P → Next → Type 0) (Begins : ServerInfo → P → P → Choice → Type 0)
     (told : P → RoundTold)
     (Offers : List ℕ → Result AuthValue (List ℕ) → Type 0) (by_option : Bool) (name : Option (List ℕ)) (no_echo : Bool)
     (timeout : ℕ) (read_of : R → ReadTold) (write_of : T → WriteTold)
   where
-    -- one address was dialed, once the clock was started, and gave no link: the dial failed, or its link was handed back
+    -- one address was dialed, once the clock was started, and gave no link: the dial failed, or its link was handed
+    -- back
     abbrev pub Unreached : Parts → SocketAddr → Seen → Failure → Seen → Type 0
     Unreached addr to a e b = ((start : ℕ) × (e ≡ io cause.Fault) × (b ≡ undialed to start a))
         ⊎ ((start : ℕ) × (look : ℕ) × (r : ReadTold) × (w : WriteTold) × (b ≡ returned to start look r w a)
@@ -158,7 +160,8 @@ module _ {P R T : Type 0} (Takes : P → P → List (List ℕ) → Result (Unit 
     Ends (Ok l) = Unit {0}
     Ends (Err e) = ends_round e.0 ≡ true
 
-    -- these addresses are tried in order, until one gives a link or ends the round; where none does, the last error is the answer
+    -- these addresses are tried in order, until one gives a link or ends the round; where none does, the last error
+    -- is the answer
     abbrev pub TriesEach : Parts → List SocketAddr → Failure → Seen → P → Result (Linked R T) Failure → Seen → P → Type 0
     TriesEach addr [] last a p result b q = (result ≡ Err last) × (b ≡ a) × (q ≡ p)
     TriesEach addr (to ∷ more) last a p result b q = (Tries addr to a p result b q × Ends result)
@@ -184,8 +187,8 @@ module _ {P R T : Type 0} (Takes : P → P → List (List ℕ) → Result (Unit 
     abbrev pub Visits : Parts → ℕ → Seen → P → Result (Linked R T) Failure → Seen → P → Type 0
     Visits addr delay a p result b q = VisitsWhere (is_websocket addr) addr (rested delay a) p result b q
 
-    -- the servers of a round are tried in order, each once it was handed out, until one gives a link or ends the round; where none
-    -- does, the last error is the answer
+    -- the servers of a round are tried in order, each once it was handed out, until one gives a link or ends the
+    -- round; where none does, the last error is the answer
     abbrev pub GoesThrough : List Planned → Failure → Seen → P → Result (Linked R T) Failure → Seen → P → Type 0
     GoesThrough [] last a p result b q = Hands p q next.Over × (result ≡ Err last) × (b ≡ a)
     GoesThrough (planned ∷ more) last a p result b q = (Hands p q next.MaxReconnects × (result ≡ Err too_many) × (b ≡ a))

@@ -98,19 +98,21 @@ fn connect<P: Rounds, W: Reach>(
     }
 }
 
-/// Makes one round of connecting over `world`: begins a round of `pool`, whose last INFO was `last`, and tries its servers in order, each
-/// once its delay was slept: asks for its addresses and dials each in order, until the handshake of a link succeeds. A link whose
-/// handshake fails is handed back. The pool is told of each address that was dialed, and takes in the servers that an INFO tells of. A
-/// refusal of what the client authenticates by ends the round. Times are milliseconds. The crate's steps.
+/// Makes one round of connecting over `world`: begins a round of `pool`, whose last INFO was `last`, and tries its
+/// servers in order, each once its delay was slept: asks for its addresses and dials each in order, until the
+/// handshake of a link succeeds. A link whose handshake fails is handed back. The pool is told of each address that
+/// was dialed, and takes in the servers that an INFO tells of. A refusal of what the client authenticates by ends
+/// the round. Times are milliseconds. The crate's steps.
 ///
 /// # Errors
 ///
-/// Where the round is used up, the last error: `Dns` where the resolver failed or gave no address; `Io` where a dial or a link failed or
-/// ended, the server said what is not due, or the round has no servers; `TimedOut` where the clock gave the start of the dial plus the
-/// options' time, or later; `Tls` where TLS is wanted; `ServerParse` where the address is of `ws` or `wss`, or one that the INFO tells of
-/// does not parse. At once: `AuthorizationViolation` where the server says so; `Authentication` where the signer or the
-/// authentication callback refuses; `MaxReconnects` where the pool's attempts pass their limit; `NoMemory`, after which the pool is as
-/// the round left it.
+/// Where the round is used up, the last error: `Dns` where the resolver failed or gave no address; `Io` where a
+/// dial or a link failed or ended, the server said what is not due, or the round has no servers; `TimedOut` where
+/// the clock gave the start of the dial plus the options' time, or later; `Tls` where TLS is wanted; `ServerParse`
+/// where the address is of `ws` or `wss`, or one that the INFO tells of does not parse. At once:
+/// `AuthorizationViolation` where the server says so; `Authentication` where the signer or the authentication
+/// callback refuses; `MaxReconnects` where the pool's attempts pass their limit; `NoMemory`, after which the pool
+/// is as the round left it.
 pub fn try_connect<P: Rounds, W: Reach>(
     alloc: Global,
     pool: &mut P,

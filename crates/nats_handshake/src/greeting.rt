@@ -48,8 +48,8 @@ fn signature_text(alloc: Global, signature: &Option<Vec<u8>>) -> Result<Option<T
     }
 }
 
-/// What a client with these options tells of itself where it authenticates by `auth`: the signature goes as base64 of the
-/// alphabet for URLs without padding. The crate's rule.
+/// What a client with these options tells of itself where it authenticates by `auth`: the signature goes as base64
+/// of the alphabet for URLs without padding. The crate's rule.
 pub fn connect_info(
     alloc: Global,
     options: &ConnectOptions,

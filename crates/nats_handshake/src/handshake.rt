@@ -26,8 +26,8 @@ use std::mem;
 /// What asks for the PONG that ends a handshake.
 const PING: &[u8] = b"PING\r\n";
 
-/// The handshake of a link: it is fed what the server sends and says what is to be written. It reads and writes nothing itself.
-/// Own type of this library: the crate does these steps on its socket.
+/// The handshake of a link: it is fed what the server sends and says what is to be written. It reads and writes
+/// nothing itself. Own type of this library: the crate does these steps on its socket.
 #[derive(Drop)]
 pub struct Handshake {
     stage: Stage,
@@ -158,8 +158,8 @@ impl Verdict {
 }
 
 impl Handshake {
-    /// The handshake of a link to this address, which began at `start` and may take the options' time, both in milliseconds. It
-    /// takes no memory.
+    /// The handshake of a link to this address, which began at `start` and may take the options' time, both in
+    /// milliseconds. It takes no memory.
     ///
     /// # Errors
     ///
@@ -306,8 +306,8 @@ impl Handshake {
         }
     }
 
-    // A refusal is kept, but for want of memory, after which the handshake is as it was before the bytes behind the first
-    // `before` came.
+    // A refusal is kept, but for want of memory, after which the handshake is as it was before the bytes behind the
+    // first `before` came.
     fn leave(&mut self, kind: ConnectErrorKind, before: usize)
         ensures { self.new ≡ left_by kind (record self.old { unread = take before self.old.unread }) self.old }
     {
@@ -320,17 +320,19 @@ impl Handshake {
 
     /// Takes what the server sent, cut anywhere, and answers whether more is due. `out` then has what is to be written.
     ///
-    /// The server's first operation is its INFO. Then CONNECT and PING are to be written, and the server's operations are read
-    /// until its PONG comes, 16 at most: `+OK` and a further INFO are skipped, a PING is answered. What comes behind the PONG
-    /// is the rest. The addresses that the INFO tells of are put into the pool, as `Pool::discover` does.
+    /// The server's first operation is its INFO. Then CONNECT and PING are to be written, and the server's
+    /// operations are read until its PONG comes, 16 at most: `+OK` and a further INFO are skipped, a PING is
+    /// answered. What comes behind the PONG is the rest. The addresses that the INFO tells of are put into the
+    /// pool, as `Pool::discover` does.
     ///
     /// # Errors
     ///
-    /// `Io` where the first operation is another, where a message or what is no operation comes, where the server sends an
-    /// error, or no PONG; the cause says which. `AuthorizationViolation` where the server says so. `Tls` where TLS is wanted
-    /// by an option, the scheme of the address or the INFO. `ServerParse` where an address that the INFO tells of does not
-    /// parse. `Authentication` where the signer or the authentication callback refuses. After each of these the handshake
-    /// refuses with the same kind. `NoMemory` leaves the handshake as it was; the pool may have the INFO's addresses.
+    /// `Io` where the first operation is another, where a message or what is no operation comes, where the server
+    /// sends an error, or no PONG; the cause says which. `AuthorizationViolation` where the server says so. `Tls`
+    /// where TLS is wanted by an option, the scheme of the address or the INFO. `ServerParse` where an address that
+    /// the INFO tells of does not parse. `Authentication` where the signer or the authentication callback refuses.
+    /// After each of these the handshake refuses with the same kind. `NoMemory` leaves the handshake as it was; the
+    /// pool may have the INFO's addresses.
     pub fn feed<P: ServerList>(
         &mut self,
         alloc: Global,
@@ -434,8 +436,8 @@ impl Handshake {
         self.stage = stage.closed(kind);
     }
 
-    /// Looks at the clock: `TimedOut` exactly where `now` is the options' time past the start or later, and the handshake did
-    /// not end before. It refuses with the kind that it has where it was refused. Milliseconds.
+    /// Looks at the clock: `TimedOut` exactly where `now` is the options' time past the start or later, and the
+    /// handshake did not end before. It refuses with the kind that it has where it was refused. Milliseconds.
     pub fn expire(&mut self, now: u64) -> Result<(), ConnectError>
         ensures { Expires now self.old result self.new }
     {

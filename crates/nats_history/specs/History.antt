@@ -105,8 +105,8 @@ abbrev pub max_payload_after : Step → ℕ → ℕ
 max_payload_after (opened info) n = info.max_payload
 max_payload_after step n = n
 
--- the limit of a payload's size with its header block, in bytes: that of the newest link's server, a million and more before
--- any
+-- the limit of a payload's size with its header block, in bytes: that of the newest link's server, a million and
+-- more before any
 abbrev pub max_payload : History → ℕ
 max_payload [] = 1048576
 max_payload ((place, step) ∷ h) = max_payload_after step (max_payload h)
@@ -321,9 +321,9 @@ drained_by None = nobody
 drained_by (Some (pinged.Drain s)) = only s
 drained_by (Some ping) = nobody
 
--- whom a step is about: an accepted subscribe is of the number that it is given, a handled one of the next number that was
--- given; other calls and a message name their own; a PONG is about whom it drains; a new link, a link's end and the close are
--- about all
+-- whom a step is about: an accepted subscribe is of the number that it is given, a handled one of the next number
+-- that was given; other calls and a message name their own; a PONG is about whom it drains; a new link, a link's
+-- end and the close are about all
 abbrev pub about_read : List Ping → Operation → About
 about_read pings (message sid m) = only sid
 about_read pings pong_op = drained_by (first pings)
@@ -433,7 +433,8 @@ abbrev pub reached : Option ℕ → ℕ → Bool
 reached None n = false
 reached (Some limit) n = nat_le limit n
 
--- a subscription opens when its subscribe is handled; at the close one that did not open yet waits no more for that, and ends
+-- a subscription opens when its subscribe is handled; at the close one that did not open yet waits no more for
+-- that, and ends
 abbrev pub opens : Step → Bool
 opens (handled call) = subscribes call
 opens closed = true
@@ -446,9 +447,9 @@ call_ends (DropSub s) sub = true
 call_ends (Limit s n) sub = nat_le n sub.puts
 call_ends call sub = false
 
--- the ways for an open subscription to end: such a call is handled, or a message comes while it is shut, or one is put that
--- reaches its limit, or a new link comes up while it is shut, or the PONG of its drain comes, or the link ends while it is
--- drained, or the session closes
+-- the ways for an open subscription to end: such a call is handled, or a message comes while it is shut, or one is
+-- put that reaches its limit, or a new link comes up while it is shut, or the PONG of its drain comes, or the link
+-- ends while it is drained, or the session closes
 abbrev pub ends : Config → Sub → Step → Bool
 ends c sub (handled call) = call_ends call sub
 ends c sub (read (message sid m)) = sub.is_shut || (has_room c sub && reached sub.limit (cut (suc sub.puts)))
@@ -625,8 +626,8 @@ again s sub = if listens sub then subscribed_again s sub sub.interest else []
 abbrev pub all_again : ℕ → List Sub → List ClientOp
 all_again s subs = commands_from again s subs
 
--- the commands that a step writes, where these are the subscriptions before it and a request was handled before or was not: a
--- new link asks for the replies again where one was
+-- the commands that a step writes, where these are the subscriptions before it and a request was handled before or
+-- was not: a new link asks for the replies again where one was
 abbrev pub commands : Config → Bool → At → List Sub → Step → List ClientOp
 commands c asked at subs (opened info) = all_again 1 subs ++ inbox_commands c asked
 commands c asked at subs (handled call) = call_commands c asked at subs call
@@ -740,8 +741,8 @@ abbrev pub requests_but : ℕ → List (ℕ × List ℕ) → List (ℕ × List �
 requests_but ticket [] = []
 requests_but ticket (request ∷ more) = if ticket == request.0 then more else request ∷ requests_but ticket more
 
--- the oldest ticket whose call waits is of a request, which is handled: it waits for its reply, but where its deadline came
--- before; an older one that waits for a reply to the same subject waits no more
+-- the oldest ticket whose call waits is of a request, which is handled: it waits for its reply, but where its
+-- deadline came before; an older one that waits for a reply to the same subject waits no more
 abbrev pub request_handled : List ℕ → Option Waits → Tickets → Tickets
 request_handled subject (Some waits.Request) t = record t {
   handled = suc t.handled;
@@ -849,10 +850,10 @@ handled_settles c waiting (Request subject payload headers token) t =
     replied_if Dropped (displaced (inbox_of c token) (first t.queued) t)
 handled_settles c waiting call t = []
 
--- the tickets that a step settles, where these are the waiting bytes and the tickets before it: a flush is flushed where it is
--- handled and no byte waits, or else by the bytes that are taken; it fails as its link ends, and at the close. A request
--- settles by a message to number 0 whose subject is that of its reply, by its deadline, or it is dropped by a later one that
--- waits for a reply to the same subject, and at the close
+-- the tickets that a step settles, where these are the waiting bytes and the tickets before it: a flush is flushed
+-- where it is handled and no byte waits, or else by the bytes that are taken; it fails as its link ends, and at the
+-- close. A request settles by a message to number 0 whose subject is that of its reply, by its deadline, or it is
+-- dropped by a later one that waits for a reply to the same subject, and at the close
 abbrev pub settles : Config → ℕ → Step → Tickets → List (ℕ × CallReply)
 settles c waiting (handled call) t = handled_settles c waiting call t
 settles c waiting (read operation) t = settled_by operation t.asking

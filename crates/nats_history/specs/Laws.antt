@@ -36,15 +36,15 @@ NoLimit s [] = Unit {0}
 NoLimit s ((place, handled (Limit k n)) ∷ later) = (s ≡ k → ⊥) × NoLimit s later
 NoLimit s (e ∷ later) = NoLimit s later
 
--- once a limit n is handled for a subscription that is open, its puts never pass the greater of n and the puts then, over any
--- links, until another limit is handled for it
+-- once a limit n is handled for a subscription that is open, its puts never pass the greater of n and the puts
+-- then, over any links, until another limit is handled for it
 abbrev pub LimitHolds : Type 0
 LimitHolds =
     (c : Config) (h : History) (place s n : ℕ) (later : History) → is_open (told c s h).stage ≡ true → n < 2 ^ 64 → NoLimit s later
     → length (told c s (later ++ (place, handled (Limit s n)) ∷ h)).puts ≤ max n (length (told c s h).puts)
 
--- a step by which a drained subscription s goes on: it is no PONG of its drain, its link stays, and the step is no end of s of
--- another kind
+-- a step by which a drained subscription s goes on: it is no PONG of its drain, its link stays, and the step is no
+-- end of s of another kind
 abbrev pub GoesOn : Config → ℕ → History → Step → Type 0
 GoesOn c s h (opened info) = ⊥
 GoesOn c s h (link_end end) = ⊥
@@ -60,8 +60,8 @@ abbrev pub AllGoOn : Config → ℕ → History → History → Type 0
 AllGoOn c s h [] = Unit {0}
 AllGoOn c s h ((place, step) ∷ later) = GoesOn c s (later ++ h) step × AllGoOn c s h later
 
--- a subscription that is open is put each message of its number that is read on its link before the PONG of its drain, also
--- after its drain was handled, where its queue has room, it is not shut and it has no earlier end
+-- a subscription that is open is put each message of its number that is read on its link before the PONG of its
+-- drain, also after its drain was handled, where its queue has room, it is not shut and it has no earlier end
 abbrev pub DrainPuts : Type 0
 DrainPuts =
     (c : Config) (h : History) (s place : ℕ) (m : Message) (later : History) → is_open (told c s h).stage ≡ true → AllGoOn c s h later
@@ -97,7 +97,8 @@ abbrev pub unfed : History → List Step
 unfed [] = []
 unfed ((place, step) ∷ h) = onto_unfed step (unfed h)
 
--- two valid lists of turns that differ only in how pieces that stand side by side cut the same bytes make the same happen
+-- two valid lists of turns that differ only in how pieces that stand side by side cut the same bytes make the same
+-- happen
 abbrev pub CutAnyhow : Type 0
 CutAnyhow =
     (c : Config) (turns others : List Turn) → out_of_turn c turns ≡ None → out_of_turn c others ≡ None → CutAlike turns others

@@ -37,8 +37,8 @@ abbrev pub passes : (List ℕ → Bool) → Option (List ℕ) → Bool
 passes test None = true
 passes test (Some text) = test text
 
--- the subjects of a call may stand there; those of replies to requests begin with a prefix that is publishable, whatever the
--- settings skip
+-- the subjects of a call may stand there; those of replies to requests begin with a prefix that is publishable,
+-- whatever the settings skip
 abbrev pub has_subjects : Config → Call → Bool
 has_subjects c (Publish m) = may_publish_to c m.subject && passes (may_publish_to c) m.reply
 has_subjects c (Request subject payload headers token) = may_publish_to c subject && is_publishable c.inbox_prefix

@@ -18,7 +18,8 @@ use Rattle.nats_history.specs.Schedule.{call_reply, take_reply, after_turn, step
 
 -- ---- links
 
--- the row of the newest link, with this word at its end: the first bytes of its text, as many as were taken, and the rest
+-- the row of the newest link, with this word at its end: the first bytes of its text, as many as were taken, and
+-- the rest
 abbrev pub link_row : Config → LinkWord → History → LinkRow
 link_row c end h = record { end = end; taken = take (taken_count c h) (link_text c h); left = drop (taken_count c h) (link_text c h) }
 

@@ -27,8 +27,8 @@ pub struct FakeLink {
     ghost has_most: { 0 < most },
 }
 
-/// The reading half of a link in memory: it gives its bytes in pieces, fails at the reads that it was told to fail at and
-/// where memory is wanting, and tells all.
+/// The reading half of a link in memory: it gives its bytes in pieces, fails at the reads that it was told to fail
+/// at and where memory is wanting, and tells all.
 #[derive(Drop)]
 pub struct FakeRead {
     pub(crate) bytes: Bytes,
@@ -42,8 +42,8 @@ pub struct FakeRead {
     ghost has_most: { 0 < most },
 }
 
-/// The writing half of a link in memory: it keeps what it takes, fails at the writes that it was told to fail at and where
-/// memory is wanting, and tells all.
+/// The writing half of a link in memory: it keeps what it takes, fails at the writes that it was told to fail at
+/// and where memory is wanting, and tells all.
 #[derive(Drop)]
 pub struct FakeWrite {
     pub(crate) alloc: Global,

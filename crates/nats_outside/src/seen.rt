@@ -1,5 +1,5 @@
-//! Each call of the outside, over all that its parts tell. Own functions: a caller that goes by them alone knows what every
-//! part tells after each call.
+//! Each call of the outside, over all that its parts tell. Own functions: a caller that goes by them alone knows
+//! what every part tells after each call.
 ghost use Rattle.std.specs.Prelude.{◌≡◌, IfOk};
 ghost use Rattle.nats_addr.specs.Resolving.{resolved};
 ghost use Rattle.nats_outside.specs.Told.{IsFresh, dialed, hung_up, started, looked, slept};

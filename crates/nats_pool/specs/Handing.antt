@@ -12,8 +12,8 @@ use Rattle.nats_pool.specs.declared.server.Server.{Server}
 use Rattle.nats_pool.specs.declared.server.ReconnectToServer.{ReconnectToServer}
 use Rattle.nats_pool.specs.Pools.{passes, one_more, attempts_after, round_of, handed_of, attempts_of, options_of}
 
--- the servers of the last round, how many of them were handed out, how many attempts were made since the last success, and how
--- many may be made
+-- the servers of the last round, how many of them were handed out, how many attempts were made since the last
+-- success, and how many may be made
 pub record RoundTold : Type 0 where
   pub round : List Planned
   pub handed : ℕ

@@ -263,22 +263,22 @@ fn answer_others<K: Sink>(alloc: Global, words: &[String], sink: &mut K) -> u8
     }
 }
 
-/// What the program does: where the words are the one word `run`, it reads the source whole as a script, plays its turns
-/// and prints their transcript into the sink; where they are `bulk N`, N from 1 to 1,000,000 in decimal, it plays a list of N
-/// turns that is made by a rule, behind the opening of that list, and prints what its transcript comes to in eight lines. It
-/// answers the status to exit with: 0, the transcript or the lines are printed; 2, other words, which are called unknown; 3,
-/// the source failed; 4, the sink failed; 5, a line of the script cannot be read, and `script line k` says which is the first;
-/// 6, a turn of the script may not come where it stands, and `turn k out of turn` says which is the first; 7, want of memory;
-/// 8, more than 16,777,216 bytes. With 3, 7 and 8 nothing is printed. The words, the statuses and their order are our own
-/// choice.
+/// What the program does: where the words are the one word `run`, it reads the source whole as a script, plays its
+/// turns and prints their transcript into the sink; where they are `bulk N`, N from 1 to 1,000,000 in decimal, it
+/// plays a list of N turns that is made by a rule, behind the opening of that list, and prints what its transcript
+/// comes to in eight lines. It answers the status to exit with: 0, the transcript or the lines are printed; 2,
+/// other words, which are called unknown; 3, the source failed; 4, the sink failed; 5, a line of the script cannot
+/// be read, and `script line k` says which is the first; 6, a turn of the script may not come where it stands, and
+/// `turn k out of turn` says which is the first; 7, want of memory; 8, more than 16,777,216 bytes. With 3, 7 and 8
+/// nothing is printed. The words, the statuses and their order are our own choice.
 pub fn replay<S: Source, K: Sink>(
     alloc: Global,
     words: &[String],
     source: &mut S,
     sink: &mut K,
 ) -> u8
-    // 0 to `run`: what was written is the printed transcript of the turns that the bytes held at entry spell, and they may
-    // come where they stand.
+    // 0 to `run`: what was written is the printed transcript of the turns that the bytes held at entry spell, and
+    // they may come where they stand.
     ensures transcript { result ≡ 0 → map string_bytes words.now ≡ run_words → IfSome (S.left source.old) (λ bytes.
         (config : Config) × (turns : List Turn) × (script bytes ≡ Good config turns) × (out_of_turn config turns ≡ None)
         × Appends (K.written sink.old) (K.written sink.new) (printed (transcript config turns))) }

@@ -1,5 +1,5 @@
-//! Scripts and transcripts as text: reading the settings and turns that bytes spell, and printing a transcript. It is our own
-//! format: a line for each turn, and a line for each entry.
+//! Scripts and transcripts as text: reading the settings and turns that bytes spell, and printing a transcript. It
+//! is our own format: a line for each turn, and a line for each entry.
 #![tactic(auto)]
 
 mod cut;

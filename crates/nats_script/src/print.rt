@@ -353,8 +353,8 @@ fn push_tickets(out: &mut Vec<u8>, tickets: &[Option<(u64, CallReply)>]) -> Resu
     Ok(())
 }
 
-/// The printed form of a transcript: its links, its subscriptions, its events, its calls and its tickets, a line for each entry.
-/// It is our own format.
+/// The printed form of a transcript: its links, its subscriptions, its events, its calls and its tickets, a line
+/// for each entry. It is our own format.
 pub fn print_transcript(alloc: Global, transcript: &Transcript) -> Result<Vec<u8>, NoMemory>
     ensures { IfOk result (λ text. text.items ≡ printed transcript.now) }
 {

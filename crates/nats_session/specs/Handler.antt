@@ -149,8 +149,8 @@ message_past n len seen =
 abbrev pub can_play : Parts → Turn → Bool
 can_play p turn = is_valid_turn p turn && not (is_some (due p))
 
--- the steps lead from one to the other: whatever history the old one stands for, the new one stands for that history with
--- the steps
+-- the steps lead from one to the other: whatever history the old one stands for, the new one stands for that
+-- history with the steps
 abbrev pub LeadTo : Seen → List Step → Seen → Type 0
 LeadTo old steps new =
     (c : Config) (out : HandedOut) (h : History) (place : ℕ) → StandsFor c out h old
@@ -206,8 +206,8 @@ arrived_seen m old = record old {
 abbrev pub come_seen : ℕ → Message → Seen → Seen
 come_seen sid m old = if sid == 0 then arrived_seen m old else after_message sid m (delivery_of old.parts sid) old
 
--- what is seen after a PONG by which the link stays up, but for its bytes: its PING is answered, and the subscription that it
--- drained ends
+-- what is seen after a PONG by which the link stays up, but for its bytes: its PING is answered, and the
+-- subscription that it drained ends
 abbrev pub pong_read : Seen → Seen
 pong_read old = record old {
   parts = record old.parts {
@@ -296,8 +296,8 @@ abbrev pub handed : Option Event → HandedOut → HandedOut
 handed None out = out
 handed (Some event) out = record out { events = suc out.events }
 
--- the oldest event that waits is handed out: whatever history the old one stands for, it is that history's next, and the new
--- one stands for the history with one more handed out
+-- the oldest event that waits is handed out: whatever history the old one stands for, it is that history's next,
+-- and the new one stands for the history with one more handed out
 abbrev pub HandsOut : Seen → Option Event → Seen → Type 0
 HandsOut old event new =
     (c : Config) (out : HandedOut) (h : History) → StandsFor c out h old
@@ -309,8 +309,8 @@ abbrev pub handed_reply : ℕ → Option CallReply → HandedOut → HandedOut
 handed_reply ticket None out = out
 handed_reply ticket (Some reply) out = record out { tickets = ticket ∷ out.tickets }
 
--- the reply of a ticket is handed out, where it settled and was not handed out: whatever history the old one stands for, it is
--- that history's, and the new one stands for the history with this one more handed out
+-- the reply of a ticket is handed out, where it settled and was not handed out: whatever history the old one stands
+-- for, it is that history's, and the new one stands for the history with this one more handed out
 abbrev pub HandsReply : ℕ → Seen → Option CallReply → Seen → Type 0
 HandsReply ticket old reply new =
     (c : Config) (out : HandedOut) (h : History) → StandsFor c out h old

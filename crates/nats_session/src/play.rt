@@ -52,6 +52,7 @@ fn play_piece(
 }
 
 fn play_write(
+    alloc: Global,
     handler: &mut ConnectionHandler,
     draft: &mut Draft,
     place: u64,
@@ -63,9 +64,8 @@ fn play_write(
     ensures parts { OnOk result (handler.new ≡ quiet (own_parts (turns.Write n) handler.old.parts)) }
     ensures sheet { OnOk result (draft.new ≡ own_sheet place (turns.Write n) handler.old.parts draft.old) }
 {
-    let waiting = handler.waiting();
-    let count = (n as usize).min(waiting.len());
-    draft.note_taken(&waiting[..count])?;
+    let took = handler.copy_waiting(alloc, n)?;
+    draft.note_taken(took.as_slice())?;
     handler.written(n);
     note_news(handler, draft, place)
 }
@@ -210,7 +210,7 @@ fn play_own(
     match turn {
         Turn::Up(info) => play_up(alloc, handler, draft, place, info),
         Turn::Piece(bytes) => play_piece(alloc, handler, draft, place, bytes.as_slice()),
-        Turn::Write(n) => play_write(handler, draft, place, *n),
+        Turn::Write(n) => play_write(alloc, handler, draft, place, *n),
         Turn::Tick => play_tick(alloc, handler, draft, place),
         Turn::Lost => play_lost(alloc, handler, draft, place),
         Turn::GiveUp => play_give_up(alloc, handler, draft, place),
@@ -267,7 +267,10 @@ fn note_end(
     ensures { OnOk result (draft.new ≡ write_end end handler.now.parts draft.old) }
 {
     match end {
-        Some(word) => draft.end_link(alloc, word, handler.waiting()),
+        Some(word) => {
+            let left = handler.copy_left(alloc)?;
+            draft.end_link(alloc, word, left.as_slice())
+        }
         None => Ok(()),
     }
 }
@@ -362,13 +365,15 @@ fn finish(
     ensures { IfOk result (λ t. t ≡ finished handler.now.parts draft) }
 {
     if handler.is_up() {
-        draft.end_link(alloc, LinkWord::Up, handler.waiting())?;
+        let left = handler.copy_left(alloc)?;
+        draft.end_link(alloc, LinkWord::Up, left.as_slice())?;
     }
     Ok(draft.finish())
 }
 
-/// Plays the turns in order, each with all its due steps, and answers their transcript. A turn that may not come where it
-/// stands is answered with its place, and none is played from it on. It plays them by the calls of `ConnectionHandler`.
+/// Plays the turns in order, each with all its due steps, and answers their transcript. A turn that may not come
+/// where it stands is answered with its place, and none is played from it on. It plays them by the calls of
+/// `ConnectionHandler`.
 pub fn run(alloc: Global, config: Config, turns: &[Turn]) -> Result<Transcript, RunError>
     ensures { Plays config turns.now result }
 {

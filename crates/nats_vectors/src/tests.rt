@@ -412,7 +412,8 @@ fn lists_are_played_to_their_transcripts(rt: HostRuntime) -> Result<(), Fail> {
     Ok(())
 }
 
-/// Scripts of calls that would carry other commands, and behind a `=` what is answered and what the links carry, read back.
+/// Scripts of calls that would carry other commands, and behind a `=` what is answered and what the links carry,
+/// read back.
 const HOSTILE: &str = "config 2048 65536 check _INBOX MUX1
 up 1048576
 pub a%0D%0APUB%20b%201%0D%0Ax ~ hi

@@ -31,7 +31,8 @@ fn say_text(alloc: Global, out: &mut Vec<u8>, text: &[u8]) -> Result<(), NoMemor
     say_read(out, &read)
 }
 
-/// Says what a printed line tells: the reply of a call, or, where the line ends a link, the commands of all that it carries.
+/// Says what a printed line tells: the reply of a call, or, where the line ends a link, the commands of all that it
+/// carries.
 fn say_line(
     alloc: Global,
     out: &mut Vec<u8>,
@@ -70,8 +71,8 @@ fn say_printed(alloc: Global, out: &mut Vec<u8>, printed: &str) -> Result<(), No
     Ok(())
 }
 
-/// The same as `carried`, played by `replay` from the bytes of a script, and read out of the bytes that it writes alone: the
-/// replies to calls, then the commands of each link. Where it does not end with 0, what it writes.
+/// The same as `carried`, played by `replay` from the bytes of a script, and read out of the bytes that it writes
+/// alone: the replies to calls, then the commands of each link. Where it does not end with 0, what it writes.
 pub fn carried_through(alloc: Global, script: &str) -> Result<Vec<u8>, NoMemory> {
     let mut words = Vec::new(alloc);
     words.push(String::from_str(alloc, "run")?)?;

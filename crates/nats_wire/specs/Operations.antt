@@ -121,7 +121,8 @@ abbrev pub length_or_0 : Option (List ℕ) → ℕ
 length_or_0 None = 0
 length_or_0 (Some text) = length text
 
--- the message of a line and the payload after it; its length counts the bytes that follow the line, the reply and the subject
+-- the message of a line and the payload after it; its length counts the bytes that follow the line, the reply and
+-- the subject
 abbrev pub message_of : Head → List ℕ → Message
 message_of head payload = record {
   subject = head.subject;
@@ -194,14 +195,15 @@ error_of line = if nat_lt (length line) 5 then None else error_of_text (drop 5 l
 
 -- ---- what stands at the front
 
--- the text of an operation that is there whole: read, or still to be read into memory, an INFO or the block of a message
+-- the text of an operation that is there whole: read, or still to be read into memory, an INFO or the block of a
+-- message
 pub data OpText : Type 0 where
   plain : Operation → OpText
   info_text : List ℕ → OpText
   headed : ℕ → Message → List ℕ → OpText
 
--- what stands at the front of a text before that is read: less than an operation, the text of one in the first n bytes, or a
--- fault that takes the first n bytes
+-- what stands at the front of a text before that is read: less than an operation, the text of one in the first n
+-- bytes, or a fault that takes the first n bytes
 pub data Sight : Type 0 where
   less : Sight
   whole : OpText → ℕ → Sight
@@ -272,8 +274,14 @@ front_of_sight (whole text n) = got_or_fault n (lost_at text n) (op_of text)
 unfoldable pub front : List ℕ → Front
 front bytes = front_of_sight (sight bytes)
 
--- whether memory is taken to read what stands at the front: the text of an operation is there whole. Where that turns out to
--- be none, it is an INFO or a header block
+-- how many bytes what stands at the front takes
+abbrev pub size_of : Front → ℕ
+size_of unfinished = 0
+size_of (got operation n) = n
+size_of (fault n) = n
+
+-- whether memory is taken to read what stands at the front: the text of an operation is there whole. Where that
+-- turns out to be none, it is an INFO or a header block
 abbrev pub is_whole : Sight → Bool
 is_whole (whole text n) = true
 is_whole less = false

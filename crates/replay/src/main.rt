@@ -1,6 +1,6 @@
-//! `replay run` reads a script of turns from standard input and prints their transcript; `replay bulk N` plays N turns that are
-//! made by a rule and prints what they came to. `replay --help` and
-//! `replay --version` tell of the program.
+//! `replay run` reads a script of turns from standard input and prints their transcript; `replay bulk N` plays N
+//! turns that are made by a rule and prints what they came to. `replay --help` and `replay --version` tell of the
+//! program.
 #![tactic(auto)]
 
 use nats_replay::{NO_MEMORY, Reading, WRITE_FAULT, Writing, replay};
