@@ -16,6 +16,7 @@ use Rattle.nats_handshake.specs.Course.{io}
 use Rattle.nats_handshake.specs.Errors.{Failure}
 use Rattle.nats_handshake.specs.Shaking.{Talk, wanting, end_cause}
 use Rattle.nats_handshake.specs.Heard.{IsOpen, Heard, RefusesText}
+use Rattle.nats_handshake.specs.Opened.{opened, opened_in}
 
 -- a clock was looked at, some times
 abbrev pub Looked : ClockTold → ClockTold → Type 0
@@ -51,6 +52,10 @@ ReadsInTime buf old (Err e) new before after c = IsOpen old.stage → NoBytes e 
 abbrev pub Gave : List ℕ → ReadTold → Type 0
 Gave text r = IfSome r.pieces (λ (pieces : List (List ℕ)). concat pieces ≡ text)
 
+-- the pieces open the link as this text does: no fewer of them hold the success of the handshake
+abbrev pub Opens : List ℕ → ReadTold → Type 0
+Opens text r = IfSome r.pieces (λ (pieces : List (List ℕ)). opened pieces ≡ opened_in text [])
+
 -- what was taken is this text, where it is known
 abbrev pub Took : List ℕ → WriteTold → Type 0
 Took text w = IfSome w.taken (λ (bytes : List ℕ). bytes ≡ text)
@@ -64,6 +69,8 @@ pub record Line (Offers : List ℕ → Result AuthValue (List ℕ) → Type 0) (
   pub time : t.timeout ≡ timeout
   pub is_tls : t.is_tls ≡ by_scheme
   pub gave : Gave text r
+  pub opens : Opens text r
+  pub waits : IsOpen t.stage → opened_in text [] ≡ None
   pub took : Took wrote w
   pub no_ends : r.ends ≡ 0
   pub no_faults : r.faults ≡ 0

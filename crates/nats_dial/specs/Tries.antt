@@ -26,13 +26,14 @@ use Rattle.nats_handshake.specs.Errors.{Failure, kind_text}
 use Rattle.nats_handshake.specs.Shaking.{wanting}
 use Rattle.nats_handshake.specs.Heard.{Wrote, Succeeds}
 use Rattle.nats_dial.specs.declared.linked.Linked.{Linked}
-use Rattle.nats_dial.specs.Lines.{Gave, Took, Broke}
+use Rattle.nats_dial.specs.Lines.{Gave, Opens, Took, Broke}
 use Rattle.nats_dial.specs.Taking.{TookIn}
 use Rattle.nats_pool.specs.Handing.{RoundTold, left_of}
 
 -- ---- a link
 
--- a link that is up: what its halves gave and took is a handshake that succeeds with this INFO and leaves this rest
+-- a link that is up: what its halves gave and took is a handshake that succeeds with this INFO and leaves this rest, and no
+-- fewer of its pieces hold that success
 pub record IsUp (Offers : List ℕ → Result AuthValue (List ℕ) → Type 0) (name : Option (List ℕ)) (no_echo : Bool)
     (info : ServerInfo) (rest : List ℕ) (r : ReadTold) (w : WriteTold) : Type 0 where
   pub text : List ℕ
@@ -41,6 +42,7 @@ pub record IsUp (Offers : List ℕ → Result AuthValue (List ℕ) → Type 0) (
   pub offers : Wrote Offers name no_echo info said wrote
   pub succeeds : Succeeds info rest said text
   pub gave : Gave text r
+  pub opens : Opens text r
   pub took : Took wrote w
   pub no_ends : r.ends ≡ 0
   pub no_faults : r.faults ≡ 0

@@ -16,11 +16,13 @@ pub struct Past {
     pub(crate) before: Option<Box<Past>>,
 }
 
-/// A link in memory that waits to be dialed: what it will give, at most how much at a call, and which calls fail.
+/// A link in memory that waits to be dialed: what it will give, at most how much at a call, how much at its first reads, and which
+/// calls fail.
 #[derive(Drop)]
 pub struct FakeLink {
     pub(crate) bytes: Bytes,
     pub(crate) most: usize,
+    pub(crate) cuts: Vec<usize>,
     pub(crate) failing_reads: Vec<u64>,
     pub(crate) failing_writes: Vec<u64>,
     pub(crate) room: Box<Past>,
@@ -33,6 +35,7 @@ pub struct FakeLink {
 pub struct FakeRead {
     pub(crate) bytes: Bytes,
     pub(crate) most: usize,
+    pub(crate) cuts: vec::IntoIter<usize>,
     pub(crate) failing: Vec<u64>,
     pub(crate) reads: u64,
     pub(crate) pieces: Vec<Bytes>,

@@ -65,3 +65,11 @@ pub fn sleep_ms<W: Reach>(world: &mut W, ms: u64)
 {
     world.sleep_ms(ms)
 }
+
+/// A number.
+pub fn draw<W: Reach>(world: &mut W) -> u64
+    ensures told { W.seen world.new ≡ W.seen world.old }
+    ensures beside { W.beside_reach world.new ≡ W.beside_reach world.old }
+{
+    world.draw()
+}

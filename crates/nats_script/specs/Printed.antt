@@ -55,6 +55,10 @@ answer_text m = number_or_absent m.status ++ space ++ spelled_or_absent m.descri
 abbrev pub message_text : Message → List ℕ
 message_text m = content_text m ++ answer_text m ++ headers_text m.headers
 
+-- a message as a line of its own
+abbrev pub message_line : Message → List ℕ
+message_line m = codes "message " ++ message_text m ++ lf
+
 -- a word and a number, as a line begins
 abbrev pub opening : List ℕ → ℕ → List ℕ
 opening word n = word ++ space ++ decimal n ++ space

@@ -13,7 +13,7 @@ mod turn_lines;
 
 pub use fields::field_number;
 pub use nats_history::{Config, NoMemory, Seq, Transcript, Turn};
-pub use print::print_transcript;
+pub use print::{print_transcript, push_message_line};
 pub use read::read_script;
 pub use script::Script;
 pub use spelling::push_number;

@@ -19,6 +19,8 @@ mod core_rows;
 #[cfg(test)]
 mod json_rows;
 #[cfg(test)]
+mod live_rows;
+#[cfg(test)]
 mod name_rows;
 #[cfg(test)]
 mod pool_rows;

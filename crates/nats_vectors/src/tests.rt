@@ -548,7 +548,7 @@ fn links_carry_the_accepted_commands_alone(rt: HostRuntime) -> Result<(), Fail> 
         let (script, want) = row.split_once('=').ok_or("no commands")?;
         for carried in [
             carried(rt.alloc(), script)?,
-            carried_through(rt.alloc(), script)?,
+            carried_through(&rt, rt.alloc(), script)?,
         ] {
             assert_eq!(rt; carried.as_slice(), want.as_bytes(), "{script}");
         }

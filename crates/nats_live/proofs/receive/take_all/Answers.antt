@@ -1,0 +1,36 @@
+-- Each message that is taken is printed.
+use Rattle.std.proofs.Common.{arith}
+use Rattle.nats_core.specs.Calls.{parts_in}
+use Rattle.nats_live.proofs.Rounds.{takes_begin, takes_done, takes_end, takes_step}
+use Rattle.nats_live.proofs.receive.take_all.Goals as goal
+
+pub takes-init : goal.takes-init
+takes-init c = record {
+  far = λ subject joined took first since taken receives.
+      takes_begin subject joined first since took taken c.args.wanted c.args.text.now.items c.args.core.now.session
+          receives;
+}
+
+pub takes-preserved : goal.takes-preserved
+takes-preserved c = record {
+  far = λ subject joined took first since taken receives.
+      let far = c.takes.invariant.far subject joined took first since taken receives in
+      takes_step subject joined first since took taken (parts_in c.args.core.now).link.is_up c.args.wanted
+          c.takes.left _
+      c.args.text.now.items c.takes.text.items _ c.takes.core.session c.take_one.new.core.session c.in-Some.message
+          (omega arith) far
+      (c.in-Some.ensures subject joined took first since _ far.2) c.in_ok-push_message_line-in-Some.ensures;
+}
+
+pub returns-in-None : goal.returns-in-None
+returns-in-None c = λ subject joined took first since taken receives.
+    let far = c.takes.invariant.far subject joined took first since taken receives in
+    takes_end subject joined first since took taken (parts_in c.args.core.now).link.is_up c.args.wanted c.takes.left
+    c.args.text.now.items c.takes.text.items c.takes.core.session c.take_one.new.core.session far
+    (c.in-None.ensures subject joined took first since _ far.2)
+
+pub returns : goal.returns
+returns c = λ subject joined took first since taken receives.
+    takes_done subject joined first since took taken (parts_in c.args.core.now).link.is_up c.args.wanted c.takes.left
+    c.args.text.now.items c.takes.text.items c.takes.core.session (omega arith)
+    (c.takes.invariant.far subject joined took first since taken receives)
