@@ -46,7 +46,9 @@ abbrev pub turn_at : ℕ → Turn
 turn_at k = turn_by (k % 8) k
 
 abbrev pub opening : List Turn
-opening = Up (record default_info { max_payload = 1048576 }) ∷ subscribing_to (codes "bulk.a") ∷ subscribing_to (codes "bulk.b") ∷ []
+opening =
+    Up (record default_info { max_payload = 1048576 }) ∷ subscribing_to (codes "bulk.a")
+        ∷ subscribing_to (codes "bulk.b") ∷ []
 
 -- the opening, and a turn of each number up to this
 abbrev pub generated : ℕ → List Turn

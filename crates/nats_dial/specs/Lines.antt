@@ -61,7 +61,8 @@ abbrev pub Took : List ℕ → WriteTold → Type 0
 Took text w = IfSome w.taken (λ (bytes : List ℕ). bytes ≡ text)
 
 -- the halves of a link gave this text and took that one, all that its handshake heard and wrote
-pub record Line (Offers : List ℕ → Result AuthValue (List ℕ) → Type 0) (name : Option (List ℕ)) (no_echo by_scheme : Bool)
+pub record Line (Offers : List ℕ → Result AuthValue (List ℕ) → Type 0) (name : Option (List ℕ))
+    (no_echo by_scheme : Bool)
     (start timeout : ℕ) (text wrote : List ℕ) (t : Talk) (r : ReadTold) (w : WriteTold) : Type 0 where
   pub heard : Heard Offers name no_echo t.stage t.unread wrote text
   pub out : t.out ≡ []
@@ -101,7 +102,9 @@ module _ {P : Type 0} (Takes : P → P → List (List ℕ) → Result (Unit {0})
 
     -- what one read and its answer come to
     abbrev pub Turned : Result Shake Failure → Talk → ReadTold → WriteTold → ClockTold → Type 0
-    Turned (Ok s) new r w c = IsAt s new.stage × ((text : List ℕ) × (wrote : List ℕ) × Line Offers name no_echo by_scheme start timeout text wrote new r w)
+    Turned (Ok s) new r w c =
+        IsAt s new.stage × ((text : List ℕ) × (wrote : List ℕ)
+            × Line Offers name no_echo by_scheme start timeout text wrote new r w)
     Turned (Err e) new r w c = Broke e r w c
 
     -- what a handshake comes to at its end

@@ -18,7 +18,8 @@ use Rattle.nats_handshake.specs.Shaking.{Talk, Declines, StopsOrWants, wanting, 
 pub record Knows (info : ServerInfo) (left : ℕ) (unread said text : List ℕ) : Type 0 where
   pub len : ℕ
   pub first : front text ≡ got (info_op info) len
-  pub alike : (more : List ℕ) → course operations_most (drop len (text ++ more)) ≡ behind_out said (course left (unread ++ more))
+  pub alike : (more : List ℕ) → course operations_most (drop len (text ++ more))
+      ≡ behind_out said (course left (unread ++ more))
 
 -- the text begins with this INFO, the operations behind it come to success with these answers, and this is left
 pub record Succeeds (info : ServerInfo) (rest said text : List ℕ) : Type 0 where

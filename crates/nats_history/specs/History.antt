@@ -293,11 +293,16 @@ given_after (accepted call) at = if subscribes call then suc at.given else at.gi
 given_after step at = at.given
 
 abbrev pub subscribed_after : Step → At → ℕ
-subscribed_after (handled call) at = if subscribes call && nat_lt at.subscribed at.given then suc at.subscribed else at.subscribed
+subscribed_after (handled call) at =
+    if subscribes call && nat_lt at.subscribed at.given then suc at.subscribed else at.subscribed
 subscribed_after step at = at.subscribed
 
 abbrev pub at_after : Step → At → At
-at_after step at = record { given = given_after step at; subscribed = subscribed_after step at; pings = pings_after step at.pings }
+at_after step at = record {
+  given = given_after step at;
+  subscribed = subscribed_after step at;
+  pings = pings_after step at.pings;
+}
 
 abbrev pub at_of : History → At
 at_of [] = record { given = 0; subscribed = 0; pings = [] }
@@ -371,7 +376,17 @@ pub record Told : Type 0 where
 
 -- before anything happened to it
 abbrev pub nothing_told : Told
-nothing_told = record { interest = None; stage = Asked; is_shut = false; is_gone = false; is_draining = false; limit = None; puts = []; drops = []; takes = 0 }
+nothing_told = record {
+  interest = None;
+  stage = Asked;
+  is_shut = false;
+  is_gone = false;
+  is_draining = false;
+  limit = None;
+  puts = [];
+  drops = [];
+  takes = 0;
+}
 
 -- a subscription as it stands
 pub record Sub : Type 0 where
@@ -543,7 +558,16 @@ is_over sub = sub.is_gone && is_ended sub.stage
 
 -- so all of these are told alike
 abbrev pub forgotten : Sub
-forgotten = record { interest = None; stage = Ended; is_shut = true; is_gone = true; is_draining = false; limit = None; puts = 0; waiting = [] }
+forgotten = record {
+  interest = None;
+  stage = Ended;
+  is_shut = true;
+  is_gone = true;
+  is_draining = false;
+  limit = None;
+  puts = 0;
+  waiting = [];
+}
 
 abbrev pub kept : Sub → Sub
 kept sub = tidied is_over forgotten sub
@@ -616,7 +640,8 @@ limit_commands s puts (Some limit) = client.Unsubscribe s (Some (limit - puts)) 
 
 abbrev pub subscribed_again : ℕ → Sub → Option Interest → List ClientOp
 subscribed_again s sub None = []
-subscribed_again s sub (Some asked) = client.Subscribe s asked.subject asked.queue_group ∷ limit_commands s sub.puts sub.limit
+subscribed_again s sub (Some asked) =
+    client.Subscribe s asked.subject asked.queue_group ∷ limit_commands s sub.puts sub.limit
 
 -- the commands that subscribe one again on a new link: where it is open and not shut, with what is left of its limit
 abbrev pub again : ℕ → Sub → List ClientOp
@@ -712,7 +737,11 @@ flushed_at_once ticket (suc n) = []
 -- the oldest ticket whose call waits is of a flush, which is handled while so many bytes wait
 abbrev pub flush_handled : ℕ → Option Waits → Tickets → Tickets
 flush_handled waiting (Some waits.Flush) t =
-    record t { handled = suc t.handled; queued = drop 1 t.queued; flushing = t.flushing ++ awaiting (suc t.handled) waiting }
+    record t {
+      handled = suc t.handled;
+      queued = drop 1 t.queued;
+      flushing = t.flushing ++ awaiting (suc t.handled) waiting;
+    }
 flush_handled waiting next t = t
 
 abbrev pub flush_settled : ℕ → Option Waits → Tickets → List ℕ
@@ -729,7 +758,8 @@ request_at subject (request ∷ more) = if bytes_eq subject request.1 then Some 
 -- the other requests
 abbrev pub requests_elsewhere : List ℕ → List (ℕ × List ℕ) → List (ℕ × List ℕ)
 requests_elsewhere subject [] = []
-requests_elsewhere subject (request ∷ more) = if bytes_eq subject request.1 then more else request ∷ requests_elsewhere subject more
+requests_elsewhere subject (request ∷ more) =
+    if bytes_eq subject request.1 then more else request ∷ requests_elsewhere subject more
 
 -- the request of a ticket waits for its reply
 abbrev pub waits_for_reply : ℕ → List (ℕ × List ℕ) → Bool
@@ -798,7 +828,8 @@ queued_with (Some next) queued = queued ++ next ∷ []
 
 abbrev pub ticket_handled : Config → ℕ → Call → Tickets → Tickets
 ticket_handled c waiting Flush t = flush_handled waiting (first t.queued) t
-ticket_handled c waiting (Request subject payload headers token) t = request_handled (inbox_of c token) (first t.queued) t
+ticket_handled c waiting (Request subject payload headers token) t =
+    request_handled (inbox_of c token) (first t.queued) t
 ticket_handled c waiting call t = t
 
 -- a message to number 0 is the reply to the request that waits for it
@@ -885,7 +916,8 @@ settle_once reply (Some earlier) = Some earlier
 
 abbrev pub settle_rows : ℕ → List (ℕ × CallReply) → List (Option (ℕ × CallReply)) → List (Option (ℕ × CallReply))
 settle_rows place [] rows = rows
-settle_rows place ((ticket, reply) ∷ more) rows = settle_rows place more (at_number ticket (settle_once (place, reply)) rows)
+settle_rows place ((ticket, reply) ∷ more) rows =
+    settle_rows place more (at_number ticket (settle_once (place, reply)) rows)
 
 -- the tickets by their numbers, each with the place at which it settled and its reply, if it did
 abbrev pub ticket_rows : Config → History → List (Option (ℕ × CallReply))

@@ -38,7 +38,8 @@ handed_on t = record t { attempts = one_more t.attempts; handed = t.handed + 1 }
 -- what is handed out next: the next server, while the attempts do not pass their limit
 abbrev pub HandsNext : RoundTold → Next → RoundTold → Type 0
 HandsNext before (next.Try attempt) after = (planned : Planned) × (left_of before ≡ planned ∷ left_of after)
-    × (attempt.addr ≡ planned.addr) × (passes before.limit (one_more before.attempts) ≡ false) × (after ≡ handed_on before)
+    × (attempt.addr ≡ planned.addr) × (passes before.limit (one_more before.attempts) ≡ false)
+        × (after ≡ handed_on before)
 HandsNext before next.Over after = (length before.round ≤ before.handed) × (after ≡ before)
 HandsNext before next.MaxReconnects after = (1 + before.handed ≤ length before.round)
     × (passes before.limit (one_more before.attempts) ≡ true) × (after ≡ counted before)

@@ -32,7 +32,8 @@ receives_by addr subject None = others
 abbrev pub live_of : List (List ℕ) → LiveWords
 live_of (word ∷ addr ∷ subject ∷ last ∷ []) =
     if bytes_eq word (codes "pub") then publishes addr subject last else
-    (if bytes_eq word (codes "sub") then receives_by addr subject (option_and_then in_sub (field_number last)) else others)
+    (if bytes_eq word (codes "sub") then receives_by addr subject (option_and_then in_sub (field_number last))
+        else others)
 live_of words = others
 
 -- ---- texts
@@ -55,7 +56,8 @@ IsToldOf e = e ≢ refused.NoMemory
 abbrev pub LastShows : (EndedLink → Type 0) → Seen → Type 0
 LastShows Is b = IfSome b.dialer.ended (LastLink Is)
 
--- a status with the text that is printed for it: 0 or 9 with all of it, 4 with a first part of it as the sink failed, 7 with none of it
+-- a status with the text that is printed for it: 0 or 9 with all of it, 4 with a first part of it as the sink
+-- failed, 7 with none of it
 abbrev pub PrintsAt : ℕ → ℕ → List ℕ → ℕ → ℕ → Option (List ℕ) → Option (List ℕ) → Type 0
 PrintsAt whole status text faults faults_now before now = ((status ≡ whole) × Appends before now text)
     ⊎ ((status ≡ 4) × Rose faults faults_now × AppendsFront before now text)
@@ -75,7 +77,8 @@ PubAnswers addr subject payload a status b faults faults_now before now = (statu
 -- what receiving comes to
 abbrev pub SubAnswers : List ℕ → List ℕ → ℕ → Seen → ℕ → Seen → ℕ → ℕ → Option (List ℕ) → Option (List ℕ) → Type 0
 SubAnswers addr subject n a status b faults faults_now before now = (status ≡ 7)
-    ⊎ (((text : List ℕ) × LastShows (WasReceived subject n text) b × PrintsAt 0 status text faults faults_now before now)
+    ⊎ (((text : List ℕ) × LastShows (WasReceived subject n text) b
+        × PrintsAt 0 status text faults faults_now before now)
     ⊎ ((e : LiveError) × IsToldOf e × WhyNotReceived addr subject n a e b
     × PrintsAt 9 status (error_line e) faults faults_now before now))
 

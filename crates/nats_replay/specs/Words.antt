@@ -30,7 +30,8 @@ in_bulk n = if nat_le 1 n && nat_le n bulk_limit then Some n else None
 
 -- how many turns the words ask for that are made by a rule: those of `bulk N`, N from 1 to a million
 abbrev pub bulk_count : List (List ℕ) → Option ℕ
-bulk_count (word ∷ number ∷ []) = if bytes_eq word (codes "bulk") then option_and_then in_bulk (field_number number) else None
+bulk_count (word ∷ number ∷ []) =
+    if bytes_eq word (codes "bulk") then option_and_then in_bulk (field_number number) else None
 bulk_count words = None
 
 -- the words are no command
@@ -49,7 +50,8 @@ unknown_command = codes "unknown command\n"
 abbrev pub is_status : ℕ → Bool
 is_status n = list_any (λ status. status == n) (0 ∷ 2 ∷ 3 ∷ 4 ∷ 5 ∷ 6 ∷ 7 ∷ 8 ∷ 9 ∷ [])
 
--- those that come to scripts alone, those that come to lists that are made by a rule, those to commands on a live link, and those
+-- those that come to scripts alone, those that come to lists that are made by a rule, those to commands on a
+-- live link, and those
 -- to words but `run`
 abbrev pub is_status_of_run : ℕ → Bool
 is_status_of_run n = list_any (λ status. status == n) (3 ∷ 5 ∷ 6 ∷ 8 ∷ [])
@@ -74,7 +76,8 @@ out_of_turn_text k = codes "turn " ++ decimal k ++ codes " out of turn" ++ lf
 -- bytes spell settings and turns that may come where they stand, and the text is their printed transcript
 abbrev pub IsTranscript : List ℕ → List ℕ → Type 0
 IsTranscript bytes text = (config : Config) × (turns : List Turn)
-    × (script bytes ≡ Good config turns) × (out_of_turn config turns ≡ None) × (text ≡ printed (transcript config turns))
+    × (script bytes ≡ Good config turns) × (out_of_turn config turns ≡ None)
+        × (text ≡ printed (transcript config turns))
 
 -- bytes have a first line that cannot be read, and the text names it
 abbrev pub IsUnreadable : List ℕ → List ℕ → Type 0

@@ -67,7 +67,8 @@ without_all (ticket ∷ earlier) settled = without ticket (without_all earlier s
 -- each of these stood there when it was handed out
 abbrev pub StoodThere : List ℕ → List (ℕ × CallReply) → Type 0
 StoodThere [] settled = Unit {0}
-StoodThere (ticket ∷ earlier) settled = (is_some (reply_in ticket (without_all earlier settled)) ≡ true) × StoodThere earlier settled
+StoodThere (ticket ∷ earlier) settled =
+    (is_some (reply_in ticket (without_all earlier settled)) ≡ true) × StoodThere earlier settled
 
 -- a handler stands for a history, of which this was handed out
 pub record StandsFor (c : Config) (out : HandedOut) (h : History) (seen : Seen) : Type 0 where
@@ -109,7 +110,8 @@ close_events true = Closed ∷ []
 
 -- how a session stands
 abbrev pub state_of : Parts → State
-state_of p = if p.link.is_up then states.Connected else (if p.link.number == 0 then states.Pending else states.Disconnected)
+state_of p =
+    if p.link.is_up then states.Connected else (if p.link.number == 0 then states.Pending else states.Disconnected)
 
 -- the events that some steps give out
 abbrev pub all_events : Parts → List Step → List Event
@@ -127,7 +129,9 @@ with_buffers wire seen = record seen { parts = record seen.parts { link = record
 
 -- one more operation was read
 abbrev pub counted : Seen → Seen
-counted seen = record seen { parts = record seen.parts { link = record seen.parts.link { reads = cut (suc seen.parts.link.reads) } } }
+counted seen =
+    record seen { parts = record seen.parts
+        { link = record seen.parts.link { reads = cut (suc seen.parts.link.reads) } } }
 
 -- the first unread bytes are taken away, as one more operation was read
 abbrev pub read_past : ℕ → Seen → Seen
@@ -212,7 +216,9 @@ abbrev pub pong_read : Seen → Seen
 pong_read old = record old {
   parts = record old.parts {
     link = record old.parts.link { pings = drop 1 old.parts.link.pings };
-    subs = with_rows (change (drained_by (first old.parts.link.pings)) (λ sub. kept (altered alterations.End sub)) old.parts.subs.rows)
+    subs =
+        with_rows (change (drained_by (first old.parts.link.pings))
+            (λ sub. kept (altered alterations.End sub)) old.parts.subs.rows)
         old.parts.subs;
   };
 }
@@ -314,4 +320,5 @@ handed_reply ticket (Some reply) out = record out { tickets = ticket ∷ out.tic
 abbrev pub HandsReply : ℕ → Seen → Option CallReply → Seen → Type 0
 HandsReply ticket old reply new =
     (c : Config) (out : HandedOut) (h : History) → StandsFor c out h old
-    → (reply ≡ reply_in ticket (without_all out.tickets (settled_tickets c h))) × StandsFor c (handed_reply ticket reply out) h new
+    → (reply ≡ reply_in ticket (without_all out.tickets (settled_tickets c h)))
+        × StandsFor c (handed_reply ticket reply out) h new

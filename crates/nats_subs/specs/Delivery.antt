@@ -121,7 +121,8 @@ with_rows rows subs = record subs { rows = rows }
 
 -- one more number is given, to a subscription that asks for this
 abbrev pub given_one : Interest → Subs → Subs
-given_one asked subs = record subs { given = suc subs.given; rows = at_number (suc subs.given) (asking asked) (subs.rows ++ new_sub ∷ []) }
+given_one asked subs =
+    record subs { given = suc subs.given; rows = at_number (suc subs.given) (asking asked) (subs.rows ++ new_sub ∷ []) }
 
 -- the next number that was given is subscribed: its subscription opens
 abbrev pub subscribed_one : Subs → Subs

@@ -154,4 +154,5 @@ without ticket (settled ∷ more) = if ticket == settled.0 then more else settle
 abbrev pub IsPlaceIn : ℕ → List (ℕ × CallReply) → Option ℕ → Type 0
 IsPlaceIn ticket settled None = (reply_in ticket settled ≡ None) × (without ticket settled ≡ settled)
 IsPlaceIn ticket settled (Some place) = (place < length settled)
-    × (((x : ℕ × CallReply) → x ≡ slice_index_or settled place x → reply_in ticket settled ≡ Some x.1) × (without ticket settled ≡ remove settled place))
+    × (((x : ℕ × CallReply) → x ≡ slice_index_or settled place x → reply_in ticket settled ≡ Some x.1)
+        × (without ticket settled ≡ remove settled place))

@@ -40,7 +40,8 @@ sent_block (Some (field ∷ fields)) = Some (block_text (field ∷ fields))
 -- block and the payload, which have t bytes together
 abbrev pub publication_text : List ℕ → Option (List ℕ) → Option (List ℕ) → List ℕ → List ℕ
 publication_text subject respond None payload =
-    codes "PUB " ++ subject ++ codes " " ++ word_and_space respond ++ decimal (length payload) ++ crlf ++ payload ++ crlf
+    codes "PUB " ++ subject ++ codes " " ++ word_and_space respond ++ decimal (length payload) ++ crlf ++ payload
+        ++ crlf
 publication_text subject respond (Some block) payload =
     codes "HPUB " ++ subject ++ codes " " ++ word_and_space respond ++ decimal (length block) ++ codes " "
     ++ decimal (length block + length payload) ++ crlf ++ block ++ payload ++ crlf

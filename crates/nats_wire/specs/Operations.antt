@@ -68,7 +68,8 @@ abbrev pub cut_line : List ℕ → Option Cut
 cut_line [] = None
 cut_line (a ∷ []) = None
 cut_line (a ∷ b ∷ more) =
-    if a == 13 && b == 10 then Some (record { line = []; rest = more }) else option_map (onto_line a) (cut_line (b ∷ more))
+    if a == 13 && b == 10 then Some (record { line = []; rest = more })
+        else option_map (onto_line a) (cut_line (b ∷ more))
 
 -- what a line begins with, tested in this order
 abbrev pub word_of : List ℕ → Word
@@ -85,7 +86,8 @@ word_of line =
 abbrev pub number_of : List ℕ → Option ℕ
 number_of text =
     let digits = without_leading_plus text in
-    if not (length digits == 0) && all_ascii_digits digits && nat_lt (digits_value 10 digits) (2 ^ 64) then Some (digits_value 10 digits) else None
+    if not (length digits == 0) && all_ascii_digits digits && nat_lt (digits_value 10 digits) (2 ^ 64) then Some
+        (digits_value 10 digits) else None
 
 -- ---- the line of a message
 
@@ -184,7 +186,8 @@ without_quotes text = reverse (without_first_quotes (reverse (without_first_quot
 -- the error of a text, which is compared whatever the case of its ASCII letters, and else kept as it is
 abbrev pub error_by : List ℕ → ServerError
 error_by text =
-    if bytes_eq (map to_ascii_lowercase text) (codes "authorization violation") then AuthorizationViolation else Other text
+    if bytes_eq (map to_ascii_lowercase text) (codes "authorization violation") then AuthorizationViolation
+        else Other text
 
 abbrev pub error_of_text : List ℕ → Option ServerError
 error_of_text text = if is_utf8 text then Some (error_by (without_quotes text)) else None

@@ -37,7 +37,8 @@ with_fed bytes channel = record channel {
 
 -- with other unread bytes, of which so many were not tested
 abbrev pub with_unread : List ℕ → ℕ → Channel → Channel
-with_unread bytes untested channel = record channel { wire = record channel.wire { unread = bytes }; untested = untested }
+with_unread bytes untested channel =
+    record channel { wire = record channel.wire { unread = bytes }; untested = untested }
 
 -- with other waiting bytes
 abbrev pub with_waiting : List ℕ → Channel → Channel
