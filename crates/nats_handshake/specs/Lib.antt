@@ -5,3 +5,4 @@ pub mod Credentials
 pub mod Shaking
 pub mod Heard
 pub mod Opened
+pub mod Following

@@ -6,6 +6,7 @@ ghost use Rattle.nats_handshake.specs.declared.error.ConnectErrorKind.TheVariant
 ghost use Rattle.nats_handshake.specs.Course.{greeting_at, greeted_within, course, behind_out};
 ghost use Rattle.nats_handshake.specs.Credentials.{SignerAnswers, AuthAnswers, Offers};
 ghost use Rattle.nats_handshake.specs.Shaking.{IsNew, Discovered, Opens, Welcomes, opening, Shakes, Took, WentOn, Follows, Hears, operations_most, Heeds, Settles, FedOpen, Feeds, Expires, ExpiresOpen, advanced, closed, is_late, is_wanting, end_cause, finished, by_content, left_by, refused_of, with_bytes};
+ghost use Rattle.nats_handshake.specs.Following.{Followed};
 ghost use Rattle.nats_wire.specs.Operations.{front};
 
 use crate::course::{
@@ -21,7 +22,6 @@ use nats_pool::{Auth, ConnectOptions, ServerAddr, ServerList};
 use nats_wire::ServerInfo;
 use std::alloc::Global;
 use std::marker::Model;
-use std::mem;
 
 /// What asks for the PONG that ends a handshake.
 const PING: &[u8] = b"PING\r\n";
@@ -206,8 +206,7 @@ impl Handshake {
     fn advance(&mut self, left: usize, shake: Shake)
         ensures { self.new ≡ record self.old { stage = advanced self.old.stage left shake } }
     {
-        let stage = mem::replace(&mut self.stage, Stage::Greets);
-        self.stage = stage.advanced(left, shake);
+        self.stage.advance(left, shake);
     }
 
     // The answer of one that knows the INFO, with so many operations to come.
@@ -221,7 +220,26 @@ impl Handshake {
         Ok(shake)
     }
 
-    // What the text behind an INFO of `len` bytes comes to, where `out` is what opens. A refusal changes nothing.
+    // What the text behind an INFO of `len` bytes comes to, where `out` is what opens: with how many operations to
+    // come. A refusal changes nothing.
+    fn follow(
+        &mut self,
+        alloc: Global,
+        len: usize,
+        out: Vec<u8>,
+    ) -> Result<(usize, Shake), Refusal>
+        requires { len ≤ length self.old.unread }
+        ensures { Followed (behind_out out.items (course operations_most (drop len self.old.unread)))
+            self.old result self.new }
+    {
+        let text = behind(self.unread.as_slice(), len);
+        let course = read_course(alloc, text, HANDSHAKE_OPERATIONS, out)?;
+        let left = course.left;
+        let shake = self.take(begun(len, course))?;
+        Ok((left, shake))
+    }
+
+    // The same, and the INFO is known from now on.
     fn enter(
         &mut self,
         alloc: Global,
@@ -233,11 +251,8 @@ impl Handshake {
         ensures { Follows info (behind_out out.items (course operations_most (drop len self.old.unread)))
             self.old result self.new }
     {
-        let text = behind(self.unread.as_slice(), len);
-        let course = read_course(alloc, text, HANDSHAKE_OPERATIONS, out)?;
-        let left = course.left;
-        let shake = self.take(begun(len, course))?;
-        self.stage = staged(info, left, shake);
+        let (left, shake) = self.follow(alloc, len, out)?;
+        self.stage.put(staged(info, left, shake));
         Ok(shake)
     }
 
@@ -314,7 +329,7 @@ impl Handshake {
         if is_wanting(kind) {
             self.unread.truncate(before);
         } else {
-            self.stage = Stage::Refused(kind);
+            self.stage.put(Stage::Refused(kind));
         }
     }
 
@@ -432,8 +447,7 @@ impl Handshake {
     fn close(&mut self, kind: ConnectErrorKind)
         ensures { self.new ≡ record self.old { stage = closed self.old.stage kind } }
     {
-        let stage = mem::replace(&mut self.stage, Stage::Greets);
-        self.stage = stage.closed(kind);
+        self.stage.close(kind);
     }
 
     /// Looks at the clock: `TimedOut` exactly where `now` is the options' time past the start or later, and the
@@ -456,7 +470,7 @@ impl Handshake {
         if !self.is_late(now) {
             return Ok(());
         }
-        self.stage = Stage::Refused(ConnectErrorKind::TimedOut);
+        self.stage.put(Stage::Refused(ConnectErrorKind::TimedOut));
         Err(ConnectError::new(ConnectErrorKind::TimedOut))
     }
 

@@ -176,7 +176,7 @@ has_begun most joined seen r none = record {
 pub reading_up : (mux : List ℕ) (info : ServerInfo) → Reading info.max_payload []
     (seen_after (record { parts = idle (default_config mux); events = []; ready = [] }) (opened info))
 reading_up mux info =
-    let old = record { parts = idle (default_config mux); events = []; ready = [] } in
+    let old : Seen = record { parts = idle (default_config mux); events = []; ready = [] } in
     let new = seen_after old (opened info) in
     record {
       mux = mux;

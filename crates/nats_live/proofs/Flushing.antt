@@ -55,11 +55,12 @@ pub record FlushesOn (text head : List ℕ) (up : Bool) (seen : Seen) (w : Write
 -- a reply that isn't there is not handed out
 none_without : (t : ℕ) (xs : List (ℕ × CallReply)) → reply_in t xs ≡ None → without t xs ≡ xs
 none_without t [] none = refl
-none_without t (x ∷ xs) none = by (t == x.0) none
+none_without t (x ∷ xs) none = by (t == x.0) (none_without t xs) none
   where
-    by : (b : Bool) → (if b then Some x.1 else reply_in t xs) ≡ None → (if b then xs else x ∷ without t xs) ≡ x ∷ xs
-    by true is = absurd (none-some x.1 (sym is))
-    by false is = ap (λ (l : List (ℕ × CallReply)). x ∷ l) (none_without t xs is)
+    by : (b : Bool) → (reply_in t xs ≡ None → without t xs ≡ xs) → (if b then Some x.1 else reply_in t xs) ≡ None
+        → (if b then xs else x ∷ without t xs) ≡ x ∷ xs
+    by true rest is = absurd (none-some x.1 (sym is))
+    by false rest is = ap (λ (l : List (ℕ × CallReply)). x ∷ l) (rest is)
 
 -- a session whose flush is not settled, once nothing is due, is as it was
 unsettled : (old mid : Logged) → due old.session.parts ≡ None → IsSettled 1 old None mid
@@ -182,7 +183,7 @@ pub flush_ends : (text head : List ℕ) (up : Bool) (old new : Logged) (w : Writ
 flush_ends text head up old new w (Ok done) settled on = flushed_all text head up old.session w on settled
 flush_ends text head up old new w (Err e) settled on =
     subst (λ (x : LiveError). FlushEnds up (head ++ text) (Err x) w) (sym settled.0)
-    (over_by text head up old.session w on settled.1 settled.2)
+    (over_by text head up old.session w on settled.1.0 settled.1.1)
 
 -- how it begins
 pub flush_begins : (text took head : List ℕ) (seen : Seen) (w : WriteTold) → Flushes text took seen

@@ -6,6 +6,8 @@ use Rattle.nats_info.specs.declared.info.ServerInfo.{ServerInfo}
 use Rattle.nats_pool.specs.Auths.{AuthValue}
 use Rattle.nats_outside.specs.Told.{Seen, ReadTold, WriteTold, ended_more, word_of}
 use Rattle.nats_outside.specs.declared.dialer.DialWord.TheVariants as word
+use Rattle.nats_wire.specs.declared.op.ClientOp.TheVariants as client
+use Rattle.nats_wire.specs.Commands.{command_text}
 use Rattle.nats_wire.specs.Operations.{Operation, operations}
 use Rattle.nats_handshake.specs.Opened.{Opened, opened, opened_in}
 use Rattle.nats_handshake.specs.Shaking.{opening}
@@ -16,7 +18,7 @@ use Rattle.nats_dial.specs.Tries.{IsUp}
 use Rattle.nats_script.specs.Printed.{message_line}
 use Rattle.nats_live.specs.Back.{IsBack}
 use Rattle.nats_live.specs.Causes.{OffersNothing, LinkBroke, LinkBrokeOrEnded, FaultInRest, FaultLater, FewerCame, TooLarge}
-use Rattle.nats_live.specs.Ended.{EndedLink, LastLink, after, behind_handshake, messages, pongs, ends_in_fault, nothing, handshake_text, WasPublished, WasReceived}
+use Rattle.nats_live.specs.Ended.{EndedLink, LastLink, after, before, behind_handshake, messages, pongs, ends_in_fault, nothing, handshake_text, WasPublished, WasReceived}
 use Rattle.nats_live.specs.Flow.{GaveLater, CameSoFar, published_text, sub_text, subscribed_text}
 
 -- ---- the link as it opened
@@ -177,7 +179,9 @@ was_published info rest subject payload r0 w0 w pieces bytes up took gave wrote 
       opens = o.opens;
       took = took_is (up.wrote ++ published_text rest subject payload) bytes w.taken took wrote
           ∙ (ap (λ (h : List ℕ). h ++ published_text rest subject payload) (head_is info rest [] r0 w0 pieces up o)
-          ∙ ap (λ (t : List ℕ). handshake_text o.shaken ++ published_text t subject payload) (sym o.rest_is));
+          ∙ (ap (λ (t : List ℕ). handshake_text o.shaken ++ published_text t subject payload) (sym o.rest_is)
+          ∙ sym (append_assoc (handshake_text o.shaken) (pongs (before o.shaken))
+              (command_text (client.Publish subject payload None None)))));
     }
 
 -- what came with the handshake ends in no operation
@@ -226,13 +230,14 @@ was_received info rest subject text n r0 r w0 w pieces bytes up far enough print
     let ops = operations rest in
     let since_is = after_is rest far.bytes far.since o.shaken o.rest_is o.bytes_are far.all in
     let shape : subscribed_text subject ops [] ++ answered ≡ pongs ops ++ (sub_text subject ++ answered) =
-        append_assoc (pongs ops) (sub_text subject ++ []) answered
-        ∙ ap (λ (t : List ℕ). pongs ops ++ (t ++ answered)) (append-nil (sub_text subject)) in
+        ap (λ (t : List ℕ). t ++ answered) (append-nil (pongs ops ++ sub_text subject))
+        ∙ append_assoc (pongs ops) (sub_text subject) answered in
     let both : pongs ops ++ (sub_text subject ++ (answered ++ far.left)) ≡ pongs ops ++
         (sub_text subject ++ pongs far.since) =
         sym (append_assoc (pongs ops) (sub_text subject ++ answered) far.left
             ∙ ap (λ (t : List ℕ). pongs ops ++ t) (append_assoc (sub_text subject) answered far.left))
-        ∙ (ap (λ (t : List ℕ). t ++ far.left) (sym (took ∙ shape)) ∙ far.text) in
+        ∙ (ap (λ (t : List ℕ). t ++ far.left) (sym (took ∙ shape))
+        ∙ (far.text ∙ append_assoc (pongs ops) (sub_text subject) (pongs far.since))) in
     record {
       shaken = o.shaken;
       opens = o.opens;
@@ -248,8 +253,10 @@ was_received info rest subject text n r0 r w0 w pieces bytes up far enough print
       took = took_is (up.wrote ++ far.took) bytes w.taken far.wrote wrote
           ∙ (ap (λ (h : List ℕ). h ++ far.took) (head_is info rest far.bytes r0 w0 pieces up o)
           ∙ (ap (λ (t : List ℕ). handshake_text o.shaken ++ t) (took ∙ shape)
-          ∙ ap (λ (r : List ℕ). handshake_text o.shaken ++ (pongs (operations r) ++ (sub_text subject ++ answered)))
-              (sym o.rest_is)));
+          ∙ (ap (λ (r : List ℕ). handshake_text o.shaken ++ (pongs (operations r) ++ (sub_text subject ++ answered)))
+              (sym o.rest_is)
+          ∙ sym (append_assoc (handshake_text o.shaken ++ pongs (before o.shaken)) (sub_text subject) answered
+              ∙ append_assoc (handshake_text o.shaken) (pongs (before o.shaken)) (sub_text subject ++ answered)))));
     }
 
 -- fewer came

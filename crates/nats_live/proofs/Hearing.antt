@@ -405,7 +405,7 @@ pub hearing_fed : (subject joined bytes : List ℕ) (first since : List Operatio
     → length bytes < default_room
     → Hearing subject (joined ++ bytes) first since took taken
         (seen_all seen (own_steps seen.parts (turns.Piece bytes)))
-hearing_fed subject joined bytes first since took taken seen r up open all_taken less =
+hearing_fed subject joined bytes first since took taken seen r up is_opened all_taken less =
     let queue = drop taken (messages 1 since) in
     let k = receiving r.up r.opened subject r.puts queue r.unread r.waiting in
     let facts = r.ups up in
@@ -424,12 +424,12 @@ hearing_fed subject joined bytes first since took taken seen r up open all_taken
       waiting = r.waiting;
       is = ap (λ (s : Seen). seen_all s (own_steps s.parts (turns.Piece bytes)))
           (r.is ∙ (ap (λ (b : Bool). state r.mux r.noise (receiving b r.opened subject r.puts queue r.unread r.waiting)) up
-          ∙ ap (λ (b : Bool). state r.mux r.noise (receiving true b subject r.puts queue r.unread r.waiting)) open));
+          ∙ ap (λ (b : Bool). state r.mux r.noise (receiving true b subject r.puts queue r.unread r.waiting)) is_opened));
       fits = r.fits;
       ups = λ it_is. (
         goes_fed joined (first ++ since) r.unread bytes facts.0,
         sym (ap (λ (w : List ℕ). took ++ w) (append-nil r.waiting))
-            ∙ (ap (λ (b : Bool). took ++ (r.waiting ++ unasked b subject)) (sym open) ∙ facts.1),
+            ∙ (ap (λ (b : Bool). took ++ (r.waiting ++ unasked b subject)) (sym is_opened) ∙ facts.1),
         fresh r.unread bytes refl none less empty,
       );
       downs = λ down. absurd (true≢false down);

@@ -212,14 +212,14 @@ idle_opened subject joined first since took taken seen q idle empty =
     let queue = drop taken (messages 1 since) in
     let facts = q.ups refl in
     let none : q.waiting ≡ [] = sym (ap (λ (s : Seen). s.parts.link.wire.waiting) q.is) ∙ empty in
-    let open = opened_by q.mux subject q.noise q.opened q.puts queue q.unread facts.0
+    let is_opened = opened_by q.mux subject q.noise q.opened q.puts queue q.unread facts.0
         (ap (λ (w : List ℕ). due
             (state q.mux q.noise (receiving true q.opened subject q.puts queue q.unread w)).parts) (sym none)
         ∙ (ap (λ (s : Seen). due s.parts) (sym q.is) ∙ idle)) in (
-      open,
+      is_opened,
       sym (append-nil took)
       ∙ (ap (λ (w : List ℕ). took ++ w)
-          (ap (λ (b : Bool). [] ++ unasked b subject) (sym open)
+          (ap (λ (b : Bool). [] ++ unasked b subject) (sym is_opened)
           ∙ ap (λ (w : List ℕ). w ++ unasked q.opened subject) (sym none))
       ∙ facts.2),
     )
@@ -543,12 +543,12 @@ read_more subject joined first taken head buf n old new r0 r after w far all who
     let up : old.session.parts.link.is_up ≡ true = ap (λ (s : Seen). s.parts.link.is_up) (sym same) ∙ read.0 in
     let here : receives.up ≡ true = sym (ap (λ (s : Seen). s.parts.link.is_up) receives.is) ∙ up in
     let bytes = joined ++ far.bytes in
-    let open = whole_opened subject bytes first far.since far.took taken old.session receives here whole in
+    let is_opened = whole_opened subject bytes first far.since far.took taken old.session receives here whole in
     let piece = take n buf in
     let short : length piece < 65536 = omega (arith, fits, length-take n buf) in
     let next = seen_all old.session (own_steps old.session.parts (turns.Piece piece)) in
     let heard = hearing_all subject (bytes ++ piece) first far.since far.took taken next
-        (hearing_fed subject bytes piece first far.since far.took taken old.session receives here open all short) in
+        (hearing_fed subject bytes piece first far.since far.took taken old.session receives here is_opened all short) in
     let is : new.session ≡ all_due next =
         ap (λ (c : Logged). c.session) read.4
         ∙ ap (λ (s : Seen). all_due (seen_all s (own_steps s.parts (turns.Piece piece)))) same in

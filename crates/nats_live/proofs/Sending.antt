@@ -273,7 +273,7 @@ lost_at mux n (sending m) unread waiting none = record { down = refl; none = non
 lost_at mux n sent unread waiting none = record { down = refl; none = none_flushed [] refl }
 lost_at mux n (both m) unread waiting none = record { down = refl; none = none_flushed [] refl }
 lost_at mux n flush_waits unread waiting none = record { down = refl; none = none_flushed [] refl }
-lost_at mux n flush_awaits unread waiting none = record { down = refl; none = cc }
+lost_at mux n flush_awaits unread waiting none = record { down = refl; none = λ is. cc }
 lost_at mux n flush_done unread waiting none = absurd (none-some replies.Flushed (sym none))
 
 -- the link is lost before the flush is settled

@@ -144,7 +144,7 @@ pub record Sends (text took : List ℕ) (phase : Phase) (seen : Seen) : Type 0 w
 
 -- the same in some phase of the flush
 abbrev pub Flushes : List ℕ → List ℕ → Seen → Type 0
-Flushes text took seen = (phase : Phase) × (HasFlush phase × Sends text took phase seen)
+Flushes text took seen = (phase : Phase) × HasFlush phase × Sends text took phase seen
 
 -- what a flush comes to: the link took all of the text behind what it had taken; or it was over before, or failed
 abbrev pub FlushEnds : Bool → List ℕ → Result (Unit {0}) LiveError → WriteTold → Type 0

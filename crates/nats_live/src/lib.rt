@@ -8,11 +8,11 @@ mod dial;
 mod end;
 mod error;
 mod live;
-mod publish;
-mod receive;
+mod publishing;
+mod receiving;
 mod step;
 
 pub use error::LiveError;
 pub use live::{publish, receive};
 pub use nats_client::World;
-pub use receive::READ_SIZE;
+pub use receiving::READ_SIZE;

@@ -30,20 +30,27 @@ fn say_refusal(out: &mut Vec<u8>, error: StepError) -> Result<(), NoMemory> {
     }
 }
 
-fn say_step(out: &mut Vec<u8>, answer: Result<StepReply, StepError>) -> Result<(), NoMemory> {
-    match &answer {
-        Ok(reply) => say_answer(out, reply)?,
-        Err(error) => say_refusal(out, *error)?,
+fn say_outcome(
+    out: &mut Vec<u8>,
+    answer: &Result<StepReply, StepError>,
+) -> Result<(), NoMemory> {
+    match answer {
+        Ok(reply) => say_answer(out, reply),
+        Err(error) => say_refusal(out, *error),
     }
+}
+
+fn say_step(out: &mut Vec<u8>, answer: &Result<StepReply, StepError>) -> Result<(), NoMemory> {
+    say_outcome(out, answer)?;
     say(out, "\n")
 }
 
 // A turn is played on link 1 where that is up.
 fn step(alloc: Global, core: &mut Core, out: &mut Vec<u8>, turn: Turn) -> Result<(), NoMemory> {
     if core.handler().is_up() {
-        say_step(out, core.step_on(alloc, 1, turn))
+        say_step(out, &core.step_on(alloc, 1, turn))
     } else {
-        say_step(out, core.step(alloc, turn))
+        say_step(out, &core.step(alloc, turn))
     }
 }
 
@@ -91,7 +98,7 @@ fn drive(
     for turn in turns {
         step(alloc, core, out, turn.copy(alloc)?)?;
     }
-    say_step(out, core.step_on(alloc, OTHER_LINK, Turn::Tick))?;
+    say_step(out, &core.step_on(alloc, OTHER_LINK, Turn::Tick))?;
     submit(alloc, core, out)?;
     core.catch_up(alloc)?;
     say_journal(out, core.journal())?;
@@ -148,19 +155,22 @@ fn each_turn_is_noted_with_its_reply(rt: HostRuntime) -> Result<(), Fail> {
 
 // ---- a link that is lent
 
-fn on_a_link(alloc: Global) -> Result<Core, NoMemory> {
+fn settings(alloc: Global) -> Result<Config, NoMemory> {
+    match read_script(alloc, b"config 10 10 check _INBOX MUX1\n")? {
+        Script::Good { config, .. } => Ok(config),
+        Script::Bad(_) => Err(NoMemory),
+    }
+}
+
+fn bring_up(alloc: Global, core: &mut Core) -> Result<(), NoMemory> {
     let mut out = Vec::new(alloc);
-    let config = match read_script(alloc, b"config 10 10 check _INBOX MUX1\n")? {
-        Script::Good { config, .. } => config,
-        Script::Bad(_) => return Err(NoMemory),
-    };
-    let mut core = Core::new(alloc, config, true)?;
-    step(
-        alloc,
-        &mut core,
-        &mut out,
-        Turn::Up(ServerInfo::default(alloc)),
-    )?;
+    let up = Turn::Up(ServerInfo::default(alloc));
+    step(alloc, core, &mut out, up)
+}
+
+fn on_a_link(alloc: Global) -> Result<Core, NoMemory> {
+    let mut core = Core::new(alloc, settings(alloc)?, true)?;
+    bring_up(alloc, &mut core)?;
     Ok(core)
 }
 

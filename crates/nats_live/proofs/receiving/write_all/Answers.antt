@@ -2,7 +2,7 @@
 use Rattle.std.proofs.Common.{rules}
 use Rattle.nats_core.specs.Calls.{parts_in}
 use Rattle.nats_live.proofs.Rounds.{writes_begin, writes_done, writes_more}
-use Rattle.nats_live.proofs.receive.write_all.Goals as goal
+use Rattle.nats_live.proofs.receiving.write_all.Goals as goal
 
 pub writes-init : goal.writes-init
 writes-init g c = record {

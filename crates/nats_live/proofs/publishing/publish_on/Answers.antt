@@ -4,7 +4,7 @@ use Rattle.nats_dial.specs.Lines.{Took}
 use Rattle.nats_live.specs.Flow.{Publishes, published_text}
 use Rattle.nats_live.proofs.Ends.{publishes_err, publishes_ok}
 use Rattle.nats_live.proofs.Wants.{err_by}
-use Rattle.nats_live.proofs.publish.publish_on.Goals as goal
+use Rattle.nats_live.proofs.publishing.publish_on.Goals as goal
 
 pub returns-in_err-ticket : goal.returns-in_err-ticket
 returns-in_err-ticket g c = λ most joined head b took.

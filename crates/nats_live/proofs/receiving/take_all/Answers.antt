@@ -2,7 +2,7 @@
 use Rattle.std.proofs.Common.{arith}
 use Rattle.nats_core.specs.Calls.{parts_in}
 use Rattle.nats_live.proofs.Rounds.{takes_begin, takes_done, takes_end, takes_step}
-use Rattle.nats_live.proofs.receive.take_all.Goals as goal
+use Rattle.nats_live.proofs.receiving.take_all.Goals as goal
 
 pub takes-init : goal.takes-init
 takes-init c = record {

@@ -4,7 +4,7 @@ use Rattle.nats_dial.specs.Lines.{Took}
 use Rattle.nats_core.specs.Calls.{parts_in}
 use Rattle.nats_live.specs.Flow.{Flushes}
 use Rattle.nats_live.proofs.Flushing.{FlushesOn}
-use Rattle.nats_live.proofs.publish.flush.Given as goal
+use Rattle.nats_live.proofs.publishing.flush.Given as goal
 
 abbrev pub invariant-writes : goal.invariant-writes
 invariant-writes g l = record {

@@ -2,7 +2,7 @@
 use Rattle.std.proofs.Common.{sym, ◌∙◌, true}
 use Rattle.nats_wire.specs.Operations.{operations}
 use Rattle.nats_live.proofs.Ends.{receives_all, receives_over}
-use Rattle.nats_live.proofs.receive.receive_on.Goals as goal
+use Rattle.nats_live.proofs.receiving.receive_on.Goals as goal
 
 pub returns : goal.returns
 returns g c = λ most joined head b took.

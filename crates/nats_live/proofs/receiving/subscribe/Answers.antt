@@ -9,7 +9,7 @@ use Rattle.nats_live.specs.Steps.{step_refused}
 use Rattle.nats_live.proofs.Posting.{refused_play}
 use Rattle.nats_live.proofs.Rounds.{subscribed_by}
 use Rattle.nats_live.proofs.Wants.{err_by}
-use Rattle.nats_live.proofs.receive.subscribe.Goals as goal
+use Rattle.nats_live.proofs.receiving.subscribe.Goals as goal
 
 pub returns-in_err-from_text : goal.returns-in_err-from_text
 returns-in_err-from_text c = λ most joined b.

@@ -1,7 +1,7 @@
 -- A round writes, takes and reads; it ends where enough was taken, or the link is over.
 use Rattle.std.proofs.Common.{rules, arith, sym, ◌∙◌}
 use Rattle.nats_live.proofs.Ends.{round_ends, round_on, round_over, round_taken, rounds_begin}
-use Rattle.nats_live.proofs.receive.receive_all.Goals as goal
+use Rattle.nats_live.proofs.receiving.receive_all.Goals as goal
 
 pub rounds-init : goal.rounds-init
 rounds-init g c = record {

@@ -5,7 +5,7 @@ use Rattle.nats_wire.specs.Operations.{Operation}
 use Rattle.nats_core.specs.Calls.{parts_in}
 use Rattle.nats_live.specs.Flow.{Receives}
 use Rattle.nats_live.proofs.Rounds.{WritesOn}
-use Rattle.nats_live.proofs.receive.write_all.Given as goal
+use Rattle.nats_live.proofs.receiving.write_all.Given as goal
 
 abbrev pub invariant-writes : goal.invariant-writes
 invariant-writes g l = record {

@@ -4,7 +4,7 @@ use Rattle.nats_wire.specs.Operations.{Operation}
 use Rattle.nats_core.specs.Calls.{parts_in}
 use Rattle.nats_live.specs.Flow.{Receives}
 use Rattle.nats_live.proofs.Rounds.{TakesSoFar}
-use Rattle.nats_live.proofs.receive.take_all.Given as goal
+use Rattle.nats_live.proofs.receiving.take_all.Given as goal
 
 abbrev pub invariant-takes : goal.invariant-takes
 invariant-takes l = record {

@@ -6,7 +6,7 @@ use Rattle.nats_wire.specs.Operations.{Operation}
 use Rattle.nats_core.specs.Calls.{parts_in}
 use Rattle.nats_live.specs.Flow.{Receives}
 use Rattle.nats_live.proofs.Ends.{RoundsOn}
-use Rattle.nats_live.proofs.receive.receive_all.Given as goal
+use Rattle.nats_live.proofs.receiving.receive_all.Given as goal
 
 abbrev pub invariant-rounds : goal.invariant-rounds
 invariant-rounds g l = record {

@@ -6,7 +6,7 @@ use Rattle.nats_live.specs.Steps.{step_refused}
 use Rattle.nats_live.proofs.Posting.{refused_play}
 use Rattle.nats_live.proofs.Rounds.{take_comes, took_one}
 use Rattle.nats_live.proofs.Wants.{err_by}
-use Rattle.nats_live.proofs.receive.take_one.Goals as goal
+use Rattle.nats_live.proofs.receiving.take_one.Goals as goal
 
 pub returns-in_err-reply : goal.returns-in_err-reply
 returns-in_err-reply c = λ subject joined took first since taken receives.
