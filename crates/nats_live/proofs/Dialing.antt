@@ -101,6 +101,16 @@ offers_default Signs Tells None (Some f) value unsigned untold plain nonce r off
 
 -- ---- what becomes of the texts of an INFO
 
+module _ {Y : Type 0} {G : Y → Type 0}
+    {h : Mut ((y : Y) × G y) (Vec Server × (ServerInfo × Unit {0})) (Option ReconnectToServer)} where
+  -- no callback names a server
+  none_named : (Answers : ChoiceFn Y G h → Vec Server → ServerInfo → Option ReconnectToServer → Type 0)
+      (servers : List Server)
+      (last : ServerInfo) (named : Option ReconnectToServer) (choice : Option (ChoiceFn Y G h)) → choice ≡ None
+      → NamedBy Answers choice servers last named → named ≡ None
+  none_named Answers servers last named None is names = names
+  none_named Answers servers last named (Some f) is names = cc
+
 module _ {X Y : Type 0} {F : X → Type 0} {G : Y → Type 0} {g : Mut ((x : X) × F x) (ℕ × Unit {0}) ℕ}
     {h : Mut ((y : Y) × G y) (Vec Server × (ServerInfo × Unit {0})) (Option ReconnectToServer)} where
   refuses_where : (ignores : Bool) (urls : List (List ℕ)) (p q : Pool X Y F G g h) (e : AddrError)
@@ -146,12 +156,12 @@ module _ {P : Type 0} (Takes : P → P → List (List ℕ) → Result (Unit {0})
       declines : (by_scheme : Bool) (info : ServerInfo) (p q : P) (k : ConnectErrorKind) (source : Option Cause)
           → Declines (Takes p q) (q ≡ p) Offers by_option name no_echo by_scheme info k source
           → ((k, source) ≡ wanting)
-          ⊎ Declines (TakesTexts tt tt) (tt ≡ tt) OffersNothing by_option name no_echo by_scheme info k source
+          ⊎ Declines (TakesTexts tt tt) (tt {0} ≡ tt {0}) OffersNothing by_option name no_echo by_scheme info k source
       declines by_scheme info p q kind.Tls source d = inr (d.0, d.1, refl)
       declines by_scheme info p q kind.ServerParse source d =
-          inr (d.0, d.1, d.2, d.3, refuses p q info.connect_urls d.1 d.4)
+          inr (d.0, (d.1.0, d.1.1, d.1.2, refuses p q info.connect_urls d.1.0 d.1.3))
       declines by_scheme info p q kind.Authentication source d =
-          no_refusal d.2 (Err d.2) refl (offers info.nonce (Err d.2) d.4)
+          no_refusal d.2.0 (Err d.2.0) refl (offers info.nonce (Err d.2.0) d.2.2)
       declines by_scheme info p q kind.NoMemory source d = inl (ap (λ (s : Option Cause). (kind.NoMemory, s)) d.0)
       declines by_scheme info p q kind.Dns source d = absurd d
       declines by_scheme info p q kind.AuthorizationViolation source d = absurd d
@@ -161,16 +171,16 @@ module _ {P : Type 0} (Takes : P → P → List (List ℕ) → Result (Unit {0})
 
       refuses_in : (by_scheme : Bool) (p q : P) (said : Greeting) (text : List ℕ) (e : Failure)
           → RefusesIn (Takes p q) (q ≡ p) Offers by_option name no_echo by_scheme said text e
-          → (e ≡ wanting) ⊎ RefusesIn (TakesTexts tt tt) (tt ≡ tt) OffersNothing by_option name no_echo by_scheme said
+          → (e ≡ wanting) ⊎ RefusesIn (TakesTexts tt tt) (tt {0} ≡ tt {0}) OffersNothing by_option name no_echo by_scheme said
               text e
       refuses_in by_scheme p q greeting.Waits text e r = inr r
       refuses_in by_scheme p q (greeting.Refuses why) text e r = inr r
       refuses_in by_scheme p q (greeting.Greets info n) text e (inr stops) = inr (inr stops)
       refuses_in by_scheme p q (greeting.Greets info n) text e (inl d) = by (declines by_scheme info p q e.0 e.1 d)
         where
-          by : (e ≡ wanting) ⊎ Declines (TakesTexts tt tt) (tt ≡ tt) OffersNothing by_option name no_echo by_scheme
+          by : (e ≡ wanting) ⊎ Declines (TakesTexts tt tt) (tt {0} ≡ tt {0}) OffersNothing by_option name no_echo by_scheme
               info e.0 e.1
-              → (e ≡ wanting) ⊎ RefusesIn (TakesTexts tt tt) (tt ≡ tt) OffersNothing by_option name no_echo by_scheme
+              → (e ≡ wanting) ⊎ RefusesIn (TakesTexts tt tt) (tt {0} ≡ tt {0}) OffersNothing by_option name no_echo by_scheme
                   (greeting.Greets info n) text e
           by (inl is) = inl is
           by (inr d) = inr (inl d)
@@ -183,14 +193,14 @@ module _ {P : Type 0} (Takes : P → P → List (List ℕ) → Result (Unit {0})
         link by_scheme a e b (inr (inl late)) = inr (inl late)
         link by_scheme a e b (inr (inr (inl failed))) = inr (inr (inl failed))
         link by_scheme a e b (inr (inr (inr (inl ended)))) = inr (inr (inr (inl ended)))
-        link by_scheme a e b (inr (inr (inr (inr (text, gave, p, q, refused))))) =
+        link by_scheme a e b (inr (inr (inr (inr (text, gave, (p, q, refused)))))) =
             by (refuses_in by_scheme p q (greeting_at (front text)) text e refused)
           where
             by : (e ≡ wanting) ⊎ RefusesText (TakesTexts tt tt)
-                (tt ≡ tt) OffersNothing by_option name no_echo by_scheme text e
+                (tt {0} ≡ tt {0}) OffersNothing by_option name no_echo by_scheme text e
                 → LinkCause TakesTexts OffersNothing by_option name no_echo timeout by_scheme a e b
             by (inl is) = inl is
-            by (inr r) = inr (inr (inr (inr (text, gave, tt, tt, r))))
+            by (inr r) = inr (inr (inr (inr (text, gave, (tt, tt, r)))))
 
         server : (tried : List Planned) (a : Seen) (e : Failure) (b : Seen)
             → ServerCause Takes Offers by_option name no_echo timeout tried a e b
@@ -218,14 +228,6 @@ module _ {P : Type 0} (Takes : P → P → List (List ℕ) → Result (Unit {0})
 
 module _ {X Y : Type 0} {F : X → Type 0} {G : Y → Type 0} {g : Mut ((x : X) × F x) (ℕ × Unit {0}) ℕ}
     {h : Mut ((y : Y) × G y) (Vec Server × (ServerInfo × Unit {0})) (Option ReconnectToServer)} where
-  -- no callback names a server
-  none_named : (Answers : ChoiceFn Y G h → Vec Server → ServerInfo → Option ReconnectToServer → Type 0)
-      (servers : List Server)
-      (last : ServerInfo) (named : Option ReconnectToServer) (choice : Option (ChoiceFn Y G h)) → choice ≡ None
-      → NamedBy Answers choice servers last named → named ≡ None
-  none_named Answers servers last named None is names = names
-  none_named Answers servers last named (Some f) is names = cc
-
   -- the round that began on it has that server alone, and no limit
   pub begun_round : (Answers : ChoiceFn Y G h → Vec Server → ServerInfo → Option ReconnectToServer → Type 0)
       (last : ServerInfo) (server : Parts)

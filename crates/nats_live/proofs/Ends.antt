@@ -208,6 +208,7 @@ asked_when subject took first since n some enough (inr is) = is
 pub received_over : (joined head subject : List ℕ) (n : ℕ) (seen : Seen) (r0 r : ReadTold) (w : WriteTold)
     (result : Result (Vec ℕ) LiveError) → 1 ≤ n → ReceivesAll joined head subject n result seen r0 r w
     → ReceivedOver joined head subject n result r0 r w
+unfolding came
 received_over joined head subject n seen r0 r w (Ok text) some all =
     let far = all.0 in (
       came subject joined (operations joined) n head seen r0 r w refl far,
@@ -237,6 +238,22 @@ received_over joined head subject n seen r0 r w (Err refused.LinkEnded) some (in
     )
 received_over joined head subject n seen r0 r w (Err refused.NoMemory) some all = tt
 
+-- a subscribe that was refused is all that comes of receiving
+pub subscribes_err : (joined head subject : List ℕ) (n : ℕ) (old new seen : Seen) (r0 r : ReadTold) (w : WriteTold)
+    (e : LiveError) → Subscribes joined subject (Err e) old new → ReceivesAll joined head subject n (Err e) seen r0 r w
+subscribes_err joined head subject n old new seen r0 r w (refused.Subscribe (subscribing.InvalidSubject, source)) is =
+    is
+subscribes_err joined head subject n old new seen r0 r w
+    (refused.Subscribe (subscribing.InvalidQueueName, source)) is = absurd is
+subscribes_err joined head subject n old new seen r0 r w (refused.Subscribe (subscribing.Other, source)) is = absurd is
+subscribes_err joined head subject n old new seen r0 r w (refused.Subscribe (subscribing.Full, source)) is = absurd is
+subscribes_err joined head subject n old new seen r0 r w (refused.Subscribe (subscribing.NoMemory, source)) is =
+    absurd is
+subscribes_err joined head subject n old new seen r0 r w (refused.Publish e) is = absurd is
+subscribes_err joined head subject n old new seen r0 r w (refused.Connect e) is = absurd is
+subscribes_err joined head subject n old new seen r0 r w refused.LinkEnded is = absurd is
+subscribes_err joined head subject n old new seen r0 r w refused.NoMemory is = tt
+
 -- ---- a publish, seen by its link alone
 
 -- a call was refused before anything was written
@@ -247,6 +264,44 @@ publishes_err limit joined head subject payload old new w
     (refused.Publish (publishing.MaxPayloadExceeded, Some (cause.Payload most size))) is = is
 publishes_err limit joined head subject payload old new w (refused.Publish (publishing.MaxPayloadExceeded, None)) is =
     absurd is
+publishes_err limit joined head subject payload old new w
+    (refused.Publish (publishing.MaxPayloadExceeded, Some cause.Closed)) is = absurd is
+publishes_err limit joined head subject payload old new w
+    (refused.Publish (publishing.MaxPayloadExceeded, Some cause.NoNumber)) is = absurd is
+publishes_err limit joined head subject payload old new w
+    (refused.Publish (publishing.MaxPayloadExceeded, Some cause.NoPart)) is = absurd is
+publishes_err limit joined head subject payload old new w
+    (refused.Publish (publishing.MaxPayloadExceeded, Some cause.Format)) is = absurd is
+publishes_err limit joined head subject payload old new w
+    (refused.Publish (publishing.MaxPayloadExceeded, Some cause.NoResponders)) is = absurd is
+publishes_err limit joined head subject payload old new w
+    (refused.Publish (publishing.MaxPayloadExceeded, Some cause.BrokenPipe)) is = absurd is
+publishes_err limit joined head subject payload old new w
+    (refused.Publish (publishing.MaxPayloadExceeded, Some cause.Dropped)) is = absurd is
+publishes_err limit joined head subject payload old new w
+    (refused.Publish (publishing.MaxPayloadExceeded, Some cause.NoInfo)) is = absurd is
+publishes_err limit joined head subject payload old new w
+    (refused.Publish (publishing.MaxPayloadExceeded, Some (cause.Unexpected x))) is = absurd is
+publishes_err limit joined head subject payload old new w
+    (refused.Publish (publishing.MaxPayloadExceeded, Some cause.Fault)) is = absurd is
+publishes_err limit joined head subject payload old new w
+    (refused.Publish (publishing.MaxPayloadExceeded, Some cause.ReadFault)) is = absurd is
+publishes_err limit joined head subject payload old new w
+    (refused.Publish (publishing.MaxPayloadExceeded, Some cause.NoPong)) is = absurd is
+publishes_err limit joined head subject payload old new w
+    (refused.Publish (publishing.MaxPayloadExceeded, Some cause.NoAddress)) is = absurd is
+publishes_err limit joined head subject payload old new w
+    (refused.Publish (publishing.MaxPayloadExceeded, Some cause.AllFailed)) is = absurd is
+publishes_err limit joined head subject payload old new w
+    (refused.Publish (publishing.MaxPayloadExceeded, Some (cause.Server x))) is = absurd is
+publishes_err limit joined head subject payload old new w
+    (refused.Publish (publishing.MaxPayloadExceeded, Some (cause.Auth x))) is = absurd is
+publishes_err limit joined head subject payload old new w
+    (refused.Publish (publishing.MaxPayloadExceeded, Some (cause.Addr x))) is = absurd is
+publishes_err limit joined head subject payload old new w
+    (refused.Publish (publishing.MaxPayloadExceeded, Some (cause.Io x))) is = absurd is
+publishes_err limit joined head subject payload old new w
+    (refused.Publish (publishing.MaxPayloadExceeded, Some cause.NoMemory)) is = absurd is
 publishes_err limit joined head subject payload old new w (refused.Publish (publishing.Send, source)) is = absurd is
 publishes_err limit joined head subject payload old new w (refused.Publish (publishing.Full, source)) is = absurd is
 publishes_err limit joined head subject payload old new w (refused.Publish (publishing.NoMemory, source)) is =
@@ -281,6 +336,44 @@ published_over limit joined head subject payload old w
     (Err (refused.Publish (publishing.MaxPayloadExceeded, Some (cause.Payload most size)))) b is = is
 published_over limit joined head subject payload old w (Err (refused.Publish (publishing.MaxPayloadExceeded, None))) b
     is = absurd is
+published_over limit joined head subject payload old w
+    (Err (refused.Publish (publishing.MaxPayloadExceeded, Some cause.Closed))) b is = absurd is
+published_over limit joined head subject payload old w
+    (Err (refused.Publish (publishing.MaxPayloadExceeded, Some cause.NoNumber))) b is = absurd is
+published_over limit joined head subject payload old w
+    (Err (refused.Publish (publishing.MaxPayloadExceeded, Some cause.NoPart))) b is = absurd is
+published_over limit joined head subject payload old w
+    (Err (refused.Publish (publishing.MaxPayloadExceeded, Some cause.Format))) b is = absurd is
+published_over limit joined head subject payload old w
+    (Err (refused.Publish (publishing.MaxPayloadExceeded, Some cause.NoResponders))) b is = absurd is
+published_over limit joined head subject payload old w
+    (Err (refused.Publish (publishing.MaxPayloadExceeded, Some cause.BrokenPipe))) b is = absurd is
+published_over limit joined head subject payload old w
+    (Err (refused.Publish (publishing.MaxPayloadExceeded, Some cause.Dropped))) b is = absurd is
+published_over limit joined head subject payload old w
+    (Err (refused.Publish (publishing.MaxPayloadExceeded, Some cause.NoInfo))) b is = absurd is
+published_over limit joined head subject payload old w
+    (Err (refused.Publish (publishing.MaxPayloadExceeded, Some (cause.Unexpected x)))) b is = absurd is
+published_over limit joined head subject payload old w
+    (Err (refused.Publish (publishing.MaxPayloadExceeded, Some cause.Fault))) b is = absurd is
+published_over limit joined head subject payload old w
+    (Err (refused.Publish (publishing.MaxPayloadExceeded, Some cause.ReadFault))) b is = absurd is
+published_over limit joined head subject payload old w
+    (Err (refused.Publish (publishing.MaxPayloadExceeded, Some cause.NoPong))) b is = absurd is
+published_over limit joined head subject payload old w
+    (Err (refused.Publish (publishing.MaxPayloadExceeded, Some cause.NoAddress))) b is = absurd is
+published_over limit joined head subject payload old w
+    (Err (refused.Publish (publishing.MaxPayloadExceeded, Some cause.AllFailed))) b is = absurd is
+published_over limit joined head subject payload old w
+    (Err (refused.Publish (publishing.MaxPayloadExceeded, Some (cause.Server x)))) b is = absurd is
+published_over limit joined head subject payload old w
+    (Err (refused.Publish (publishing.MaxPayloadExceeded, Some (cause.Auth x)))) b is = absurd is
+published_over limit joined head subject payload old w
+    (Err (refused.Publish (publishing.MaxPayloadExceeded, Some (cause.Addr x)))) b is = absurd is
+published_over limit joined head subject payload old w
+    (Err (refused.Publish (publishing.MaxPayloadExceeded, Some (cause.Io x)))) b is = absurd is
+published_over limit joined head subject payload old w
+    (Err (refused.Publish (publishing.MaxPayloadExceeded, Some cause.NoMemory))) b is = absurd is
 published_over limit joined head subject payload old w (Err (refused.Publish (publishing.Send, source))) b is =
     absurd is
 published_over limit joined head subject payload old w (Err (refused.Publish (publishing.Full, source))) b is =
@@ -317,6 +410,44 @@ why_not_published addr info rest subject payload r w0 w a m b
     too_large info rest payload most size r w0 w m b up back is.0 is.1 (subst (λ (l : ℕ). l < size) (sym is.0) is.2)
 why_not_published addr info rest subject payload r w0 w a m b
     (refused.Publish (publishing.MaxPayloadExceeded, None)) up onward back is = absurd is
+why_not_published addr info rest subject payload r w0 w a m b
+    (refused.Publish (publishing.MaxPayloadExceeded, Some cause.Closed)) up onward back is = absurd is
+why_not_published addr info rest subject payload r w0 w a m b
+    (refused.Publish (publishing.MaxPayloadExceeded, Some cause.NoNumber)) up onward back is = absurd is
+why_not_published addr info rest subject payload r w0 w a m b
+    (refused.Publish (publishing.MaxPayloadExceeded, Some cause.NoPart)) up onward back is = absurd is
+why_not_published addr info rest subject payload r w0 w a m b
+    (refused.Publish (publishing.MaxPayloadExceeded, Some cause.Format)) up onward back is = absurd is
+why_not_published addr info rest subject payload r w0 w a m b
+    (refused.Publish (publishing.MaxPayloadExceeded, Some cause.NoResponders)) up onward back is = absurd is
+why_not_published addr info rest subject payload r w0 w a m b
+    (refused.Publish (publishing.MaxPayloadExceeded, Some cause.BrokenPipe)) up onward back is = absurd is
+why_not_published addr info rest subject payload r w0 w a m b
+    (refused.Publish (publishing.MaxPayloadExceeded, Some cause.Dropped)) up onward back is = absurd is
+why_not_published addr info rest subject payload r w0 w a m b
+    (refused.Publish (publishing.MaxPayloadExceeded, Some cause.NoInfo)) up onward back is = absurd is
+why_not_published addr info rest subject payload r w0 w a m b
+    (refused.Publish (publishing.MaxPayloadExceeded, Some (cause.Unexpected x))) up onward back is = absurd is
+why_not_published addr info rest subject payload r w0 w a m b
+    (refused.Publish (publishing.MaxPayloadExceeded, Some cause.Fault)) up onward back is = absurd is
+why_not_published addr info rest subject payload r w0 w a m b
+    (refused.Publish (publishing.MaxPayloadExceeded, Some cause.ReadFault)) up onward back is = absurd is
+why_not_published addr info rest subject payload r w0 w a m b
+    (refused.Publish (publishing.MaxPayloadExceeded, Some cause.NoPong)) up onward back is = absurd is
+why_not_published addr info rest subject payload r w0 w a m b
+    (refused.Publish (publishing.MaxPayloadExceeded, Some cause.NoAddress)) up onward back is = absurd is
+why_not_published addr info rest subject payload r w0 w a m b
+    (refused.Publish (publishing.MaxPayloadExceeded, Some cause.AllFailed)) up onward back is = absurd is
+why_not_published addr info rest subject payload r w0 w a m b
+    (refused.Publish (publishing.MaxPayloadExceeded, Some (cause.Server x))) up onward back is = absurd is
+why_not_published addr info rest subject payload r w0 w a m b
+    (refused.Publish (publishing.MaxPayloadExceeded, Some (cause.Auth x))) up onward back is = absurd is
+why_not_published addr info rest subject payload r w0 w a m b
+    (refused.Publish (publishing.MaxPayloadExceeded, Some (cause.Addr x))) up onward back is = absurd is
+why_not_published addr info rest subject payload r w0 w a m b
+    (refused.Publish (publishing.MaxPayloadExceeded, Some (cause.Io x))) up onward back is = absurd is
+why_not_published addr info rest subject payload r w0 w a m b
+    (refused.Publish (publishing.MaxPayloadExceeded, Some cause.NoMemory)) up onward back is = absurd is
 why_not_published addr info rest subject payload r w0 w a m b
     (refused.Publish (publishing.Send, source)) up onward back is = absurd is
 why_not_published addr info rest subject payload r w0 w a m b

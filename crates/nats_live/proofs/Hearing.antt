@@ -224,10 +224,8 @@ pub record Hearing (subject joined : List ℕ) (first was : List Operation) (too
 subscribed_one : (subject : List ℕ) (first since : List Operation) (op : Operation)
     → subscribed_text subject first since ++ pong op ≡ subscribed_text subject first (since ++ op ∷ [])
 subscribed_one subject first since op =
-    append_assoc (pongs first) (sub_text subject ++ pongs since) (pong op)
-    ∙ ap (λ (t : List ℕ). pongs first ++ t)
-        (append_assoc (sub_text subject) (pongs since) (pong op)
-        ∙ ap (λ (t : List ℕ). sub_text subject ++ t) (sym (pongs_one since op)))
+    append_assoc (pongs first ++ sub_text subject) (pongs since) (pong op)
+    ∙ ap (λ (t : List ℕ). (pongs first ++ sub_text subject) ++ t) (sym (pongs_one since op))
 
 text_one : (subject had rest : List ℕ) (first since : List Operation) (op : Operation)
     → had ++ rest ≡ subscribed_text subject first since

@@ -63,7 +63,7 @@ sub_text_is : (subject waiting : List ℕ) (first : List Operation) → waiting 
     → waiting ++ sub_text subject ≡ subscribed_text subject first []
 sub_text_is subject waiting first is =
     ap (λ (w : List ℕ). w ++ sub_text subject) is
-    ∙ ap (λ (t : List ℕ). pongs first ++ t) (sym (append-nil (sub_text subject)))
+    ∙ sym (append-nil (pongs first ++ sub_text subject))
 
 sub_accepted : (most : ℕ) (joined subject : List ℕ) (seen : Seen) (b : HasBegun most joined seen)
     → Quiet subject joined (operations joined) [] [] 0 b.up
@@ -498,8 +498,7 @@ asked_by : (subject took : List ℕ) (first since : List Operation) → took ≡
     → (answered : List ℕ) × (took ≡ subscribed_text subject first [] ++ answered)
 asked_by subject took first since is = (
   pongs since,
-  is ∙ sym (append_assoc (pongs first) (sub_text subject ++ []) (pongs since)
-      ∙ ap (λ (t : List ℕ). pongs first ++ (t ++ pongs since)) (append-nil (sub_text subject))),
+  is ∙ ap (λ (t : List ℕ). t ++ pongs since) (sym (append-nil (pongs first ++ sub_text subject))),
 )
 
 -- once the whole text was taken nothing waits
@@ -553,7 +552,7 @@ read_more subject joined first taken head buf n old new r0 r after w far all who
         ap (λ (c : Logged). c.session) read.4
         ∙ ap (λ (s : Seen). all_due (seen_all s (own_steps s.parts (turns.Piece piece)))) same in
     let joins = append_assoc joined far.bytes piece in
-    let then = subst (λ (b : List ℕ). Receives subject b first heard.since far.took taken (all_due next)) joins
+    let received = subst (λ (b : List ℕ). Receives subject b first heard.since far.took taken (all_due next)) joins
         (hearing_receives subject (bytes ++ piece) first far.since far.took taken (all_due next) heard
             (none_after_all next)) in
     (
@@ -563,7 +562,7 @@ read_more subject joined first taken head buf n old new r0 r after w far all who
         took = far.took;
         gave = gave_more far.bytes buf n r0 r after read.1 far.gave (ap (λ (x : ReadTold). x.pieces) read.3);
         receives = subst (λ (s : Seen). Receives subject (joined ++ (far.bytes ++ piece)) first heard.since far.took
-            taken s) (sym is) then;
+            taken s) (sym is) received;
         wrote = far.wrote;
         asked = inr (asked_by subject far.took first far.since whole);
         over = λ down. inr (inr (subst (λ (b : List ℕ). ends_in_fault b ≡ true) joins

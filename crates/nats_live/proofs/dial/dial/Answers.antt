@@ -11,12 +11,12 @@ pub returns-in-Ok-clause-onward : goal.returns-in-Ok-clause-onward
 returns-in-Ok-clause-onward g c =
     subst (λ (a : Seen). Onward a (g.W.Reach.seen c.round.new.world)) c.draw-start.ensures.told c.in-Ok.ensures.onward
 
-pub returns-in-Err-clause-onward : goal.returns-in-Err-clause-onward
-returns-in-Err-clause-onward g c =
+pub returns-clause-onward : goal.returns-clause-onward
+returns-clause-onward g c =
     subst (λ (a : Seen). Onward a (g.W.Reach.seen c.round.new.world)) c.draw-start.ensures.told c.in-Err.ensures.onward
 
-pub returns-in-Err-clause-refused : goal.returns-in-Err-clause-refused
-returns-in-Err-clause-refused g c =
+pub returns-clause-refused : goal.returns-clause-refused
+returns-clause-refused g c =
     rw c.connect_refused.ensures
         (subst (λ (a : Seen). WhyNotDialed c.args.addr.now a (connect_refused c.in-Err.error)
         (g.W.Reach.seen c.round.new.world))

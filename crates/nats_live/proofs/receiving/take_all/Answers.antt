@@ -19,7 +19,7 @@ takes-preserved c = record {
           c.takes.left _
       c.args.text.now.items c.takes.text.items _ c.takes.core.session c.take_one.new.core.session c.in-Some.message
           (omega arith) far
-      (c.in-Some.ensures subject joined took first since _ far.2) c.in_ok-push_message_line-in-Some.ensures;
+      (rw c.in-Some.is at (c.in_ok-message.ensures subject joined took first since _ far.2)) c.in_ok-push_message_line-in-Some.ensures;
 }
 
 pub returns-in-None : goal.returns-in-None
@@ -27,7 +27,7 @@ returns-in-None c = λ subject joined took first since taken receives.
     let far = c.takes.invariant.far subject joined took first since taken receives in
     takes_end subject joined first since took taken (parts_in c.args.core.now).link.is_up c.args.wanted c.takes.left
     c.args.text.now.items c.takes.text.items c.takes.core.session c.take_one.new.core.session far
-    (c.in-None.ensures subject joined took first since _ far.2)
+    (rw c.in-None.is at (c.in_ok-message.ensures subject joined took first since _ far.2))
 
 pub returns : goal.returns
 returns c = λ subject joined took first since taken receives.

@@ -23,13 +23,13 @@ writes-preserved g c = record {
           c.write_some.new.core
       (g.T.LinkWrite.write_told c.args.write.now) (g.T.LinkWrite.write_told c.writes.write)
       (g.T.LinkWrite.write_told c.write_some.new.write) c.in-Wrote.field-0
-      (c.writes.invariant.far subject joined took head first since taken receives wrote) c.in-Wrote.ensures;
+      (c.writes.invariant.far subject joined took head first since taken receives wrote) (rw c.in-Wrote.is at c.in_ok-write_some.ensures);
 }
 
-pub returns-in_default : goal.returns-in_default
-returns-in_default g c = λ subject joined took head first since taken receives wrote.
+pub returns-in-Idle : goal.returns-in-Idle
+returns-in-Idle g c = λ subject joined took head first since taken receives wrote.
     writes_done subject joined first since took taken head (parts_in c.args.core.now).link.is_up c.writes.core
         c.write_some.new.core
     (g.T.LinkWrite.write_told c.args.write.now) (g.T.LinkWrite.write_told c.writes.write)
-    (g.T.LinkWrite.write_told c.write_some.new.write) c.in_ok-write_some.field-0 c.in_default.is
+    (g.T.LinkWrite.write_told c.write_some.new.write) c.in_ok-write_some.field-0 c.in-Idle.is
     (c.writes.invariant.far subject joined took head first since taken receives wrote) c.in_ok-write_some.ensures
