@@ -1,5 +1,6 @@
 //! A message is published on a link: the publish, and then a flush, until the link took all of it.
-ghost use Rattle.std.specs.Prelude.{◌≡◌, ◌++◌, ℕ, List, None, IfOk};
+ghost use Rattle.std.specs.Prelude.{◌≡◌, ◌++◌, ℕ, List, None, Some, IfOk};
+ghost use Rattle.nats_live.specs.declared.error.LiveError.TheVariants as refused;
 ghost use Rattle.nats_dial.specs.Lines.{Took};
 ghost use Rattle.nats_core.specs.Calls.{parts_in};
 ghost use Rattle.nats_live.specs.Flow.{Accepts, Flushes, FlushEnds, HasBegun, IsSettled, Publishes, publish_answer, ticket_of};
@@ -28,7 +29,10 @@ fn message_of(alloc: Global, subject: &str, payload: &[u8]) -> Result<OutboundMe
     })
 }
 
-fn refused_as(kind: PublishErrorKind, cause: Cause) -> LiveError {
+// The refusal of a publish of this kind, by this cause.
+fn refused_as(kind: PublishErrorKind, cause: Cause) -> LiveError
+    ensures { result ≡ refused.Publish (kind, Some cause) }
+{
     LiveError::Publish(PublishError::with_source(kind, cause))
 }
 

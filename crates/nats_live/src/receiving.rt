@@ -1,5 +1,6 @@
 //! Messages of a subject are received on a link: the subscribe, and then reads, until enough messages were taken.
-ghost use Rattle.std.specs.Prelude.{◌≡◌, ◌≤◌, ◌<◌, ℕ, [], List, ◌++◌, length, IsTrue};
+ghost use Rattle.std.specs.Prelude.{◌≡◌, ◌≤◌, ◌<◌, ℕ, [], List, ◌++◌, length, IsTrue, OnOk};
+ghost use Rattle.nats_script.specs.Printed.{message_line};
 ghost use Rattle.nats_dial.specs.Lines.{Took};
 ghost use Rattle.nats_wire.specs.Operations.{Operation};
 ghost use Rattle.nats_core.specs.Calls.{parts_in};
@@ -71,6 +72,13 @@ fn take_one(alloc: Global, core: &mut Core) -> Result<Option<Message>, LiveError
     Ok(message_in(reply))
 }
 
+// Prints a message that was taken.
+fn print_taken(text: &mut Vec<u8>, message: Message) -> Result<(), NoMemory>
+    ensures { OnOk result (text.new.items ≡ text.old.items ++ message_line message) }
+{
+    push_message_line(text, &message)
+}
+
 // Takes the messages that wait, as long as more are wanted, and prints each. It answers how many are wanted then.
 fn take_all(
     alloc: Global,
@@ -87,7 +95,7 @@ fn take_all(
     'takes: while left > 0 {
         match take_one(alloc, core)? {
             Some(message) => {
-                push_message_line(text, &message)?;
+                print_taken(text, message)?;
                 left -= 1;
             }
             None => return Ok(left),
