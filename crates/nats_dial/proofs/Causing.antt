@@ -27,6 +27,7 @@ use Rattle.nats_dial.specs.Lines.{Broke}
 use Rattle.nats_dial.specs.Taking.{TookIn}
 use Rattle.nats_pool.specs.Handing.{RoundTold, IsBegun, HandsNext, left_of, handed_on, told_of}
 use Rattle.nats_dial.specs.Tries.{Unreached, Notes, Tries, TriesEach, Asks, VisitsWhere, Visits, GoesThrough, Connects, ends_round, returned, undialed, upped, rested, IsUp, failure_text, no_address, no_websocket, unresolved, all_failed, too_many}
+use Rattle.nats_dial.specs.Began.{BeganRound, wants, began}
 use Rattle.nats_dial.specs.Causes.{Onward, EachDialed, LastGave, LinkCause, ServerCause, plain, sockets, HasTried, IsSpent, Why, RoundCause}
 use Rattle.nats_dial.proofs.Onwards.{onward_same, onward_on, dialed_on, one_each, is_fine, failed_word, ended_word, link_on, server_since, server_on}
 
@@ -473,6 +474,15 @@ module _ {P R T : Type 0} (Takes : P → P → List (List ℕ) → Result (Unit 
             connects_round last a p e b q (inr (chosen, n, begins, goes)) =
                 let g = goes_cause (left_of (told n)) all_failed a n e b q goes in
                 inr (chosen, n, begins, g.3.round, g.3.limit)
+
+            -- how it began, unless memory was wanting for it
+            pub connects_began : (last : ServerInfo) (a : Seen) (p : P) (e : Failure) (b : Seen) (q : P)
+                → Connects Takes Counts Hands Begins told Offers by_option name no_echo timeout read_of write_of last a p (Err e) b q
+                → BeganRound Begins told last p q e
+            connects_began last a p e b q (inl (is, same, stays)) = wants (ap (err_of wanting) is)
+            connects_began last a p e b q (inr (chosen, n, begins, goes)) =
+                let g = goes_cause (left_of (told n)) all_failed a n e b q goes in
+                began chosen n begins g.3.round g.3.limit
 
             -- ---- a round that gave a link
 

@@ -1,10 +1,11 @@
 //! A round of connecting.
-ghost use Rattle.std.specs.Prelude.{◌≡◌, IfErr};
+ghost use Rattle.std.specs.Prelude.{◌≡◌, IfErr, IfOk};
 ghost use Rattle.nats_pool.specs.Auths.{auth_value};
 ghost use Rattle.nats_handshake.specs.Credentials.{SignerAnswers, AuthAnswers, Offers};
-ghost use Rattle.nats_dial.specs.Causes.{RoundCause};
+ghost use Rattle.nats_dial.specs.Began.{BeganRound};
+ghost use Rattle.nats_dial.specs.Causes.{Onward, RoundCause};
 ghost use Rattle.nats_pool.specs.Handing.{left_of};
-ghost use Rattle.nats_dial.specs.Tries.{Visits, GoesThrough, Connects, all_failed, too_many};
+ghost use Rattle.nats_dial.specs.Tries.{Visits, GoesThrough, Connects, IsUp, all_failed, too_many};
 
 use crate::link::wanting;
 use crate::server::{ends_round, visit};
@@ -121,6 +122,12 @@ pub fn try_connect<P: Rounds, W: Reach>(
     world: &mut W,
 ) -> Result<Linked<W::Read, W::Write>, ConnectError>
     ensures beside { W.beside_reach world.new ≡ W.beside_reach world.old }
+    ensures onward { Onward (W.seen world.old) (W.seen world.new) }
+    ensures up { IfOk result (λ linked. IsUp
+        (Offers SignerAnswers AuthAnswers options.now.signer options.now.auth_callback (auth_value options.now.auth))
+        options.now.name options.now.no_echo linked.info linked.rest.items
+        (W.Read.read_told linked.read) (W.Write.write_told linked.write)) }
+    ensures began { IfErr result (λ e. BeganRound P.Begins P.round_told last.now pool.old pool.new e) }
     ensures connects { Connects P.Takes P.Counts P.Hands P.Begins P.round_told
         (Offers SignerAnswers AuthAnswers options.now.signer options.now.auth_callback (auth_value options.now.auth))
         options.now.tls_required options.now.name options.now.no_echo options.now.connection_timeout

@@ -37,10 +37,10 @@ use Rattle.nats_handshake.specs.Credentials.{SignedBy, ThenTold, Offers}
 use Rattle.nats_handshake.specs.Errors.{Failure}
 use Rattle.nats_handshake.specs.Heard.{RefusesIn, RefusesText}
 use Rattle.nats_handshake.specs.Shaking.{Declines, is_wanting, wanting}
+use Rattle.nats_dial.specs.Began.{BeganRound, wants, began}
 use Rattle.nats_dial.specs.Causes.{last_tls, LinkCause, ServerCause, Why, RoundCause}
 use Rattle.nats_dial.specs.declared.linked.Linked.{Linked}
 use Rattle.nats_dial.specs.Tries.{Connects, IsUp}
-use Rattle.nats_dial.proofs.Causing.{connects_cause, connects_round, connects_up}
 use Rattle.nats_live.specs.declared.error.LiveError.TheVariants as refused
 use Rattle.nats_live.specs.Causes.{IsRoundWith, default_timeout, NotConnected, OffersNothing, RoundFailed, TakesTexts, WhyNotDialed, connect_refused}
 use Rattle.nats_live.specs.Ended.{nothing}
@@ -126,29 +126,40 @@ module _ {X Y : Type 0} {F : X → Type 0} {G : Y → Type 0} {g : Mut ((x : X) 
 
 -- ---- a round, without its pool
 
+module _ (Offers : List ℕ → Result AuthValue (List ℕ) → Type 0)
+    (offers : (nonce : List ℕ) (r : Result AuthValue (List ℕ)) → Offers nonce r → OffersNothing nonce r)
+  where
+  pub plain_up : (name : Option (List ℕ)) (no_echo : Bool) (info : ServerInfo) (rest : List ℕ) (r : ReadTold)
+      (w : WriteTold)
+      → IsUp Offers name no_echo info rest r w → IsUp OffersNothing name no_echo info rest r w
+  plain_up name no_echo info rest r w up = record {
+    text = up.text;
+    wrote = up.wrote;
+    said = up.said;
+    offers = (up.offers.0, offers info.nonce (Ok up.offers.0) up.offers.1, up.offers.2);
+    succeeds = up.succeeds;
+    gave = up.gave;
+    opens = up.opens;
+    took = up.took;
+    no_ends = up.no_ends;
+    no_faults = up.no_faults;
+    no_write_faults = up.no_write_faults;
+  }
+
+  -- a link that came on default options is one of a client that offers nothing
+  pub up_default : (name : Option (List ℕ)) (no_echo : Bool) → name ≡ None → no_echo ≡ false → (info : ServerInfo)
+      (rest : List ℕ) (r : ReadTold) (w : WriteTold) → IsUp Offers name no_echo info rest r w
+      → IsUp OffersNothing None false info rest r w
+  up_default name no_echo unnamed echoes info rest r w up =
+      subst (λ (n : Option (List ℕ)). IsUp OffersNothing n false info rest r w) unnamed
+      (subst (λ (e : Bool). IsUp OffersNothing name e info rest r w) echoes (plain_up name no_echo info rest r w up))
+
 module _ {P : Type 0} (Takes : P → P → List (List ℕ) → Result (Unit {0}) AddrError → Type 0)
     (refuses : (p q : P) (urls : List (List ℕ)) (e : AddrError) → Takes p q urls (Err e)
         → TakesTexts tt tt urls (Err e))
     (Offers : List ℕ → Result AuthValue (List ℕ) → Type 0)
     (offers : (nonce : List ℕ) (r : Result AuthValue (List ℕ)) → Offers nonce r → OffersNothing nonce r)
   where
-    pub plain_up : (name : Option (List ℕ)) (no_echo : Bool) (info : ServerInfo) (rest : List ℕ) (r : ReadTold)
-        (w : WriteTold)
-        → IsUp Offers name no_echo info rest r w → IsUp OffersNothing name no_echo info rest r w
-    plain_up name no_echo info rest r w up = record {
-      text = up.text;
-      wrote = up.wrote;
-      said = up.said;
-      offers = (up.offers.0, offers info.nonce (Ok up.offers.0) up.offers.1, up.offers.2);
-      succeeds = up.succeeds;
-      gave = up.gave;
-      opens = up.opens;
-      took = up.took;
-      no_ends = up.no_ends;
-      no_faults = up.no_faults;
-      no_write_faults = up.no_write_faults;
-    }
-
     no_refusal : {A : Type 0} (e : List ℕ) (r : Result AuthValue (List ℕ)) → r ≡ Err e → r ≡ Ok nothing → A
     no_refusal e r is other = cc
 
@@ -229,21 +240,19 @@ module _ {P : Type 0} (Takes : P → P → List (List ℕ) → Result (Unit {0})
 module _ {X Y : Type 0} {F : X → Type 0} {G : Y → Type 0} {g : Mut ((x : X) × F x) (ℕ × Unit {0}) ℕ}
     {h : Mut ((y : Y) × G y) (Vec Server × (ServerInfo × Unit {0})) (Option ReconnectToServer)} where
   -- the round that began on it has that server alone, and no limit
-  pub begun_round : (Answers : ChoiceFn Y G h → Vec Server → ServerInfo → Option ReconnectToServer → Type 0)
-      (last : ServerInfo) (server : Parts)
-      (p n : Pool X Y F G g h) (chosen : Choice) (told : RoundTold) → IsPoolOf server p
-          → Began Answers last p n chosen
-      → told.round ≡ (pool_told n).round → told.limit ≡ (pool_told n).limit → IsRoundWith server told
-  begun_round Answers last server p n chosen told is begins round limit =
-      let named = none_named Answers (servers_of p) last begins.named
-          ((options_of p).choice) is.unchosen begins.names in (
-        plan_of (new_server server),
-        refl,
-        round ∙ one_planned server (servers_of p) ((options_of p).retain_servers_order)
-            (numbers_left p) begins.named chosen (round_of n)
-            (numbers_left n) named is.servers begins.plan,
-        limit ∙ (ap (λ (o : _). o.max_reconnects) begins.options ∙ is.unlimited),
-      )
+  pub begun_alone : (server : Parts) (p n : Pool X Y F G g h) (chosen : Choice) (named : Option ReconnectToServer)
+      (told : RoundTold) → IsPoolOf server p → named ≡ None
+      → IsRoundBy named (servers_of p) ((options_of p).retain_servers_order) (numbers_left p) chosen (round_of n)
+          (numbers_left n)
+      → options_of n ≡ options_of p → told.round ≡ (pool_told n).round → told.limit ≡ (pool_told n).limit
+      → IsRoundWith server told
+  begun_alone server p n chosen named told is none plan options round limit = (
+    plan_of (new_server server),
+    refl,
+    round ∙ one_planned server (servers_of p) ((options_of p).retain_servers_order) (numbers_left p) named chosen
+        (round_of n) (numbers_left n) none is.servers plan,
+    limit ∙ (ap (λ (o : _). o.max_reconnects) options ∙ is.unlimited),
+  )
 
 -- ---- by what a call answered
 
@@ -272,77 +281,42 @@ not_dialed addr server a b e before after spelled failed = by (is_wanting e.0) r
     by true is = tt
     by false is = why is failed
 
--- ---- a round of connecting, by the names of what a pool says
+pub if_ok_to : {L E : Type 0} (P Q : L → Type 0) (r : Result L E) → IfOk r P → ((l : L) → P l → Q l) → IfOk r Q
+if_ok_to P Q (Ok l) p f = f l p
+if_ok_to P Q (Err e) p f = tt
 
-module _ {P R T : Type 0} (Takes : P → P → List (List ℕ) → Result (Unit {0}) AddrError → Type 0)
-    (Counts : Parts → Outcome → P → P → Type 0) (Hands : P → P → Next → Type 0)
-        (Begins : ServerInfo → P → P → Choice → Type 0)
-    (told : P → RoundTold) (Offers : List ℕ → Result AuthValue (List ℕ) → Type 0) (by_option : Bool)
-        (name : Option (List ℕ))
-    (no_echo : Bool) (timeout : ℕ) (read_of : R → ReadTold) (write_of : T → WriteTold)
-    (takes_round : (a b : P) (urls : List (List ℕ)) (r : Result (Unit {0}) AddrError) → Takes a b urls r
-        → told b ≡ told a)
-    (counts_round : (addr : Parts) (outcome : Outcome) (a b : P) → Counts addr outcome a b
-        → told b ≡ told_of outcome (told a))
-    (hands_round : (a b : P) (n : Next) → Hands a b n → HandsNext (told a) n (told b))
-    (begins_round : (last : ServerInfo) (a b : P) (chosen : Choice) → Begins last a b chosen
-        → IsBegun (told a) (told b))
+pub if_err_two : {L E : Type 0} (P Q S : E → Type 0) (r : Result L E) → IfErr r P → IfErr r Q
+    → ((e : E) → P e → Q e → S e) → IfErr r S
+if_err_two P Q S (Ok l) p q f = tt
+if_err_two P Q S (Err e) p q f = f e p q
+
+-- ---- a round of connecting on default options
+
+-- why none came
+pub failed_default : {P : Type 0} (Takes : P → P → List (List ℕ) → Result (Unit {0}) AddrError → Type 0)
     (refuses : (p q : P) (urls : List (List ℕ)) (e : AddrError) → Takes p q urls (Err e)
         → TakesTexts tt tt urls (Err e))
+    (Offers : List ℕ → Result AuthValue (List ℕ) → Type 0)
     (offers : (nonce : List ℕ) (r : Result AuthValue (List ℕ)) → Offers nonce r → OffersNothing nonce r)
-  where
-    -- a link that came is one of a client that offers nothing
-    pub default_up : name ≡ None → no_echo ≡ false → (last : ServerInfo) (a : Seen) (p : P)
-        (result : Result (Linked R T) Failure)
-        (b : Seen) (q : P)
-        → Connects Takes Counts Hands Begins told Offers by_option name no_echo timeout read_of write_of last a p
-            result b q
-        → IfOk result (λ l. IsUp OffersNothing None false l.info l.rest.items (read_of l.read) (write_of l.write))
-    default_up unnamed echoes last a p (Ok l) b q connects =
-        let up = (connects_up Takes Counts Hands Begins told Offers by_option name no_echo timeout read_of write_of
-            takes_round
-            counts_round hands_round begins_round last a p l b q connects).1 in
-        subst (λ (n : Option (List ℕ)). IsUp OffersNothing n false l.info l.rest.items (read_of l.read)
-            (write_of l.write)) unnamed
-        (subst (λ (e : Bool). IsUp OffersNothing name e l.info l.rest.items (read_of l.read) (write_of l.write)) echoes
-            (plain_up Takes refuses Offers offers name no_echo l.info l.rest.items (read_of l.read)
-                (write_of l.write) up))
-    default_up unnamed echoes last a p (Err e) b q connects = tt
+    (by_option : Bool) (name : Option (List ℕ)) (no_echo : Bool) (timeout : ℕ)
+    → by_option ≡ false → name ≡ None → no_echo ≡ false → timeout ≡ default_timeout
+    → (before after : RoundTold) (a : Seen) (e : Failure) (b : Seen)
+    → RoundCause Takes Offers by_option name no_echo timeout before after a e b → RoundFailed before after a e b
+failed_default Takes refuses Offers offers by_option name no_echo timeout plain unnamed echoes time before after a e b
+    cause =
+    subst (λ (t : ℕ). RoundCause TakesTexts OffersNothing false None false t before after a e b) time
+    (subst (λ (o : Bool). RoundCause TakesTexts OffersNothing o None false timeout before after a e b) plain
+    (subst (λ (n : Option (List ℕ)). RoundCause TakesTexts OffersNothing by_option n false timeout before after a e b)
+        unnamed
+    (subst (λ (x : Bool). RoundCause TakesTexts OffersNothing by_option name x timeout before after a e b) echoes
+        (plain_round Takes refuses Offers offers by_option name no_echo timeout before after a e b cause))))
 
-    -- why none came, of a pool of one server
-    pub default_failed : by_option ≡ false → name ≡ None → no_echo ≡ false → timeout ≡ default_timeout
-        → (server : Parts) (p : P)
-        → ((last : ServerInfo) (n : P) (chosen : Choice) (t : RoundTold) → Begins last p n chosen
-            → t.round ≡ (told n).round
-            → t.limit ≡ (told n).limit → IsRoundWith server t)
-        → (last : ServerInfo) (a : Seen) (result : Result (Linked R T) Failure) (b : Seen) (q : P)
-        → Connects Takes Counts Hands Begins told Offers by_option name no_echo timeout read_of write_of last a p
-            result b q
-        → IfErr result (λ e. (e ≡ wanting) ⊎ (IsRoundWith server (told q) × RoundFailed (told p) (told q) a e b))
-    default_failed plain unnamed echoes time server p alone last a (Ok l) b q connects = tt
-    default_failed plain unnamed echoes time server p alone last a (Err e) b q connects =
-        by (connects_round Takes Counts Hands Begins told Offers by_option name no_echo timeout read_of write_of
-            takes_round
-            counts_round hands_round begins_round last a p e b q connects)
-      where
-        cause_here : RoundCause TakesTexts OffersNothing by_option name no_echo timeout (told p) (told q) a e b
-        cause_here = plain_round Takes refuses Offers offers by_option name no_echo timeout (told p) (told q) a e b
-            (connects_cause Takes Counts Hands Begins told Offers by_option name no_echo timeout read_of write_of
-                takes_round
-                counts_round hands_round begins_round last a p e b q connects)
-
-        failed : RoundFailed (told p) (told q) a e b
-        failed =
-            subst (λ (t : ℕ). RoundCause TakesTexts OffersNothing false None false t (told p) (told q) a e b) time
-            (subst (λ (o : Bool). RoundCause TakesTexts OffersNothing o None false timeout (told p) (told q) a e b)
-                plain
-            (subst (λ (n : Option (List ℕ)). RoundCause TakesTexts OffersNothing by_option n false timeout (told p)
-                (told q) a e b) unnamed
-            (subst (λ (x : Bool). RoundCause TakesTexts OffersNothing by_option name x timeout (told p) (told q) a e
-                b) echoes cause_here)))
-
-        by : (e ≡ wanting) ⊎ ((chosen : Choice) × (n : P) × Begins last p n chosen × ((told q).round ≡ (told n).round)
-            × ((told q).limit ≡ (told n).limit))
-            → (e ≡ wanting) ⊎ (IsRoundWith server (told q) × RoundFailed (told p) (told q) a e b)
-        by (inl is) = inl is
-        by (inr (chosen, n, begins, round, limit)) = inr (alone last n chosen (told q) begins round limit, failed)
+-- the round that began was that server's alone
+pub began_alone : {P : Type 0} (Begins : ServerInfo → P → P → Choice → Type 0) (told : P → RoundTold)
+    (last : ServerInfo) (p q : P) (e : Failure) (server : Parts) (F : Type 0) → F
+    → ((chosen : Choice) (n : P) → Begins last p n chosen → (told q).round ≡ (told n).round
+        → (told q).limit ≡ (told n).limit → IsRoundWith server (told q))
+    → BeganRound Begins told last p q e → (e ≡ wanting) ⊎ (IsRoundWith server (told q) × F)
+began_alone Begins told last p q e server F failed alone (wants is) = inl is
+began_alone Begins told last p q e server F failed alone (began chosen n begins round limit) =
+    inr (alone chosen n begins round limit, failed)
