@@ -22,12 +22,12 @@ pub is_letter : (c : ℕ) → IsAsciiAlphanumeric c → is_letter_or_digit c ≡
 is_letter c (inl (inl digit)) =
     first_of ((nat_le 48 c && nat_le c 57) || (nat_le 65 c && nat_le c 90)) (nat_le 97 c && nat_le c 122)
     (first_of (nat_le 48 c && nat_le c 57) (nat_le 65 c && nat_le c 90)
-        (both (nat_le 48 c) (nat_le c 57) (le-leb 48 c (omega (arith, digit))) (le-leb c 57 (omega (arith, digit)))))
+    (both (nat_le 48 c) (nat_le c 57) (le-leb 48 c (omega (arith, digit))) (le-leb c 57 (omega (arith, digit)))))
 is_letter c (inl (inr capital)) =
     first_of ((nat_le 48 c && nat_le c 57) || (nat_le 65 c && nat_le c 90)) (nat_le 97 c && nat_le c 122)
     (second_of (nat_le 48 c && nat_le c 57) (nat_le 65 c && nat_le c 90)
-        (both (nat_le 65 c) (nat_le c 90) (le-leb 65 c (omega (arith, capital)))
-            (le-leb c 90 (omega (arith, capital)))))
+    (both (nat_le 65 c) (nat_le c 90) (le-leb 65 c (omega (arith, capital)))
+    (le-leb c 90 (omega (arith, capital)))))
 is_letter c (inr small) =
     second_of ((nat_le 48 c && nat_le c 57) || (nat_le 65 c && nat_le c 90)) (nat_le 97 c && nat_le c 122)
     (both (nat_le 97 c) (nat_le c 122) (le-leb 97 c (omega (arith, small))) (le-leb c 122 (omega (arith, small))))
@@ -45,4 +45,4 @@ letters_more bytes more c all letter is =
     ap (λ (m : List ℕ). list_all is_letter_or_digit (bytes ++ m)) is
     ∙ (list_all-append is_letter_or_digit bytes (c ∷ [])
     ∙ both (list_all is_letter_or_digit bytes) (is_letter_or_digit c && true) all
-        (both (is_letter_or_digit c) true (is_letter c letter) refl))
+    (both (is_letter_or_digit c) true (is_letter c letter) refl))

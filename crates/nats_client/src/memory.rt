@@ -5,9 +5,7 @@ ghost use Rattle.nats_outside.specs.Fakes.{dialer_told_of};
 
 use crate::still_clock::StillClock;
 use crate::{FakeSpawner, Whole};
-use nats_outside::{
-    FakeClock, FakeDialer, FakeDraw, FakeLink, FakeResolver, Joined, NoMemory,
-};
+use nats_outside::{FakeClock, FakeDialer, FakeDraw, FakeLink, FakeResolver, Joined, NoMemory};
 use std::alloc::Global;
 use std::net::{IpAddr, Ipv4Addr, SocketAddr};
 

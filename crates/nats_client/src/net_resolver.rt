@@ -62,12 +62,7 @@ impl<R> NetResolver<R> {
 
 impl<R: Net> NetResolver<R> {
     // What the system answers.
-    fn look(
-        &self,
-        alloc: Global,
-        host: &str,
-        port: u16,
-    ) -> Result<Vec<SocketAddr>, ResolveError> {
+    fn look(&self, alloc: Global, host: &str, port: u16) -> Result<Vec<SocketAddr>, ResolveError> {
         match (host, port).to_socket_addrs(&self.rt) {
             Ok(found) => Ok(found.collect(alloc)?),
             Err(error) if error.kind() == ErrorKind::OutOfMemory => Err(ResolveError::NoMemory),

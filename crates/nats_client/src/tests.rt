@@ -32,7 +32,10 @@ fn a_link_over_the_loopback_gives_and_takes(rt: HostRuntime) -> Result<(), Fail>
     let (mut peer, _) = listener.accept()?;
     peer.write_all(b"hello")?;
     assert!(rt; reads(&mut read, b"hello"));
-    let pieces = [Bytes::copy_from_slice(alloc, b"")?, Bytes::copy_from_slice(alloc, b"ab")?];
+    let pieces = [
+        Bytes::copy_from_slice(alloc, b"")?,
+        Bytes::copy_from_slice(alloc, b"ab")?,
+    ];
     assert!(rt; write.write_pieces(&pieces) == Ok(2));
     let mut got = [0u8; 2];
     peer.read_exact(&mut got)?;
@@ -129,7 +132,11 @@ fn a_world_in_memory_has_all_parts(rt: HostRuntime) -> Result<(), Fail> {
     assert!(rt; ticks(&world) == 0 && world.draw() == 0 && world.now_ms() == 0);
     assert!(rt; starts(&mut world, &sum) && sum.load(Ordering::SeqCst) == 1);
     assert!(rt; world.resolve(alloc, "h", 4222)?.len() == 1);
-    assert!(rt; world.dial(&SocketAddr::from((Ipv4Addr::LOCALHOST, 4222))).is_err());
+    assert!(rt;
+        world
+            .dial(&SocketAddr::from((Ipv4Addr::LOCALHOST, 4222)))
+            .is_err()
+    );
     Ok(())
 }
 

@@ -104,7 +104,7 @@ module _ {P : Type 0} (Takes : P → P → List (List ℕ) → Result (Unit {0})
     abbrev pub Turned : Result Shake Failure → Talk → ReadTold → WriteTold → ClockTold → Type 0
     Turned (Ok s) new r w c =
         IsAt s new.stage × ((text : List ℕ) × (wrote : List ℕ)
-            × Line Offers name no_echo by_scheme start timeout text wrote new r w)
+        × Line Offers name no_echo by_scheme start timeout text wrote new r w)
     Turned (Err e) new r w c = Broke e r w c
 
     -- what a handshake comes to at its end

@@ -139,7 +139,7 @@ Notes Counts addr f p e q =
 -- `write_of` say what its halves told
 module _ {P R T : Type 0} (Takes : P → P → List (List ℕ) → Result (Unit {0}) AddrError → Type 0)
     (Counts : Parts → Outcome → P → P → Type 0) (Hands : P → P → Next → Type 0)
-        (Begins : ServerInfo → P → P → Choice → Type 0)
+    (Begins : ServerInfo → P → P → Choice → Type 0)
     (told : P → RoundTold)
     (Offers : List ℕ → Result AuthValue (List ℕ) → Type 0) (by_option : Bool) (name : Option (List ℕ)) (no_echo : Bool)
     (timeout : ℕ) (read_of : R → ReadTold) (write_of : T → WriteTold)
@@ -155,7 +155,7 @@ module _ {P R T : Type 0} (Takes : P → P → List (List ℕ) → Result (Unit 
     abbrev pub Reaches : Parts → SocketAddr → Seen → P → Result (Linked R T) Failure → Seen → P → Type 0
     Reaches addr to a p (Ok l) b q = (start : ℕ) × (look : ℕ) × (b ≡ upped to start look a)
         × IsUp Offers name no_echo l.info l.rest.items (read_of l.read) (write_of l.write)
-            × Takes p q l.info.connect_urls (Ok tt)
+        × Takes p q l.info.connect_urls (Ok tt)
     Reaches addr to a p (Err e) b q = Unreached addr to a e b × TookIn Takes p q
 
     -- the same, and the pool was told how it went
@@ -207,11 +207,11 @@ module _ {P R T : Type 0} (Takes : P → P → List (List ℕ) → Result (Unit 
         ⊎ ((attempt : Attempt) × (n : P) × Hands p n (next.Try attempt) × (attempt.addr ≡ planned.addr)
         × ((Visits planned.addr attempt.delay a n result b q × Ends result)
         ⊎ ((e : Failure) × (c : Seen) × (m : P) × Visits planned.addr attempt.delay a n (Err e) c m
-            × (ends_round e.0 ≡ false)
+        × (ends_round e.0 ≡ false)
         × GoesThrough more e c m result b q)))
 
     -- a round begins and is gone through; without memory for it, nothing is done
     abbrev pub Connects : ServerInfo → Seen → P → Result (Linked R T) Failure → Seen → P → Type 0
     Connects last a p result b q = ((result ≡ Err wanting) × (b ≡ a) × (q ≡ p))
         ⊎ ((chosen : Choice) × (n : P) × Begins last p n chosen
-            × GoesThrough (left_of (told n)) all_failed a n result b q)
+        × GoesThrough (left_of (told n)) all_failed a n result b q)

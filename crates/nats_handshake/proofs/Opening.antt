@@ -57,10 +57,10 @@ opened_more heard [] piece none = or_nothing (opened_in (heard ++ piece) [])
 opened_more heard (first ∷ pieces) piece none =
     let both = or_none (opened_in (heard ++ first) pieces) (opened_from (heard ++ first) pieces) none in
     or_right (opened_in (heard ++ first) (pieces ++ piece ∷ [])) (opened_from (heard ++ first) (pieces ++ piece ∷ []))
-        (none_in (heard ++ first) pieces (pieces ++ piece ∷ []) both.0)
+    (none_in (heard ++ first) pieces (pieces ++ piece ∷ []) both.0)
     ∙ (opened_more (heard ++ first) pieces piece both.1
     ∙ ap (λ (text : List ℕ). opened_in text [])
-        (append_assoc heard first (concat pieces ++ piece) ∙ ap (λ (t : List ℕ). heard ++ t) (sym (append_assoc first (concat pieces) piece))))
+    (append_assoc heard first (concat pieces ++ piece) ∙ ap (λ (t : List ℕ). heard ++ t) (sym (append_assoc first (concat pieces) piece))))
 
 abbrev pub with_later : List (List ℕ) → Opened → Opened
 with_later more o = record o { later = o.later ++ more }
@@ -95,11 +95,11 @@ opened_later heard (first ∷ pieces) more o is =
         → option_or (opened_in (heard ++ first) (pieces ++ more)) (opened_from (heard ++ first) (pieces ++ more)) ≡ Some (with_later more o)
     by behind None same =
         or_right (opened_in (heard ++ first) (pieces ++ more)) (opened_from (heard ++ first) (pieces ++ more))
-            (none_in (heard ++ first) pieces (pieces ++ more) same)
+        (none_in (heard ++ first) pieces (pieces ++ more) same)
         ∙ behind (sym (or_right (opened_in (heard ++ first) pieces) (opened_from (heard ++ first) pieces) same) ∙ is)
     by behind (Some x) same =
         ap (λ (y : Option Opened). option_or y (opened_from (heard ++ first) (pieces ++ more)))
-            (later_at (greeting_at (front (heard ++ first))) (heard ++ first) pieces more x same)
+        (later_at (greeting_at (front (heard ++ first))) (heard ++ first) pieces more x same)
         ∙ ap (lifted more) (sym (ap (λ (y : Option Opened). option_or y (opened_from (heard ++ first) pieces)) same) ∙ is)
 
 -- ---- a handshake
@@ -135,7 +135,7 @@ module _ (Discovers : List (List ℕ) → Result (Unit {0}) AddrError → Type 0
         let c = course operations_most (drop k.len (text ++ bytes)) in
         ap (λ (f : _). opened_at (greeting_at f) (text ++ bytes) later) (front_more text bytes (info_op info) k.len k.first)
         ∙ ap (λ (v : Verdict). opened_by v info c later) (
-            ap (λ (d : Course). d.verdict) (k.alike bytes)
-            ∙ (ap (λ (u : List ℕ). (course left u).verdict) (sym same) ∙ answer_waits (course left t.unread).verdict comes.1.0))
+        ap (λ (d : Course). d.verdict) (k.alike bytes)
+        ∙ (ap (λ (u : List ℕ). (course left u).verdict) (sym same) ∙ answer_waits (course left t.unread).verdict comes.1.0))
     more_unopened (stage.Linked info) t new unread wrote text bytes later going same h comes = absurd going
     more_unopened (stage.Refused kind) t new unread wrote text bytes later going same h comes = absurd going

@@ -185,7 +185,7 @@ module _ (Discovers : List (List ℕ) → Result (Unit {0}) AddrError → Type 0
         × ((e : AddrError) × IsUnspelled e × (source ≡ Some (cause.Addr e)) × Discovers info.connect_urls (Err e))
     Declines by_scheme info kind.Authentication source = (wants_tls by_option by_scheme info ≡ false)
         × Discovers info.connect_urls (Ok tt)
-            × ((e : List ℕ) × (source ≡ Some (cause.Auth e)) × Offers info.nonce (Err e))
+        × ((e : List ℕ) × (source ≡ Some (cause.Auth e)) × Offers info.nonce (Err e))
     Declines by_scheme info kind.NoMemory source = (source ≡ None) × (Stays ⊎ Discovers info.connect_urls (Ok tt))
     Declines by_scheme info other source = ⊥
 

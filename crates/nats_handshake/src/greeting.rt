@@ -53,8 +53,11 @@ fn proofs_of(
     alloc: Global,
     auth: &Auth,
 ) -> Result<(Option<Text>, Option<Text>, Option<Text>), NoMemory>
-    ensures { IfOk result (λ r. r ≡ ((auth_value auth.now).jwt, (auth_value auth.now).nkey,
-        option_map (λ bytes. encode_of url_safe_no_pad bytes) (auth_value auth.now).signature)) }
+    ensures { IfOk result (λ r. r ≡ (
+      (auth_value auth.now).jwt,
+      (auth_value auth.now).nkey,
+      option_map (λ bytes. encode_of url_safe_no_pad bytes) (auth_value auth.now).signature,
+    )) }
 {
     Ok((
         text_of(alloc, &auth.jwt)?,
@@ -68,8 +71,11 @@ fn login_of(
     alloc: Global,
     auth: &Auth,
 ) -> Result<(Option<Text>, Option<Text>, Option<Text>), NoMemory>
-    ensures { IfOk result (λ r. r ≡ ((auth_value auth.now).username, (auth_value auth.now).password,
-        (auth_value auth.now).token)) }
+    ensures { IfOk result (λ r. r ≡ (
+      (auth_value auth.now).username,
+      (auth_value auth.now).password,
+      (auth_value auth.now).token,
+    )) }
 {
     Ok((
         text_of(alloc, &auth.username)?,
@@ -79,10 +85,7 @@ fn login_of(
 }
 
 // Its name, its language and its version.
-fn names_of(
-    alloc: Global,
-    name: &Option<Text>,
-) -> Result<(Option<Text>, Text, Text), NoMemory>
+fn names_of(alloc: Global, name: &Option<Text>) -> Result<(Option<Text>, Text, Text), NoMemory>
     ensures { IfOk result (λ r. r ≡ (name.now, codes "rust", codes "0.51.0")) }
 {
     Ok((

@@ -222,12 +222,7 @@ impl Handshake {
 
     // What the text behind an INFO of `len` bytes comes to, where `out` is what opens: with how many operations to
     // come. A refusal changes nothing.
-    fn follow(
-        &mut self,
-        alloc: Global,
-        len: usize,
-        out: Vec<u8>,
-    ) -> Result<(usize, Shake), Refusal>
+    fn follow(&mut self, alloc: Global, len: usize, out: Vec<u8>) -> Result<(usize, Shake), Refusal>
         requires { len ≤ length self.old.unread }
         ensures { Followed (behind_out out.items (course operations_most (drop len self.old.unread)))
             self.old result self.new }

@@ -27,14 +27,14 @@ enough (suc k) seen = by (enough k seen) (due (due_rounds k seen).parts) refl
         → (next : Option Step)
         → due (due_rounds k seen).parts ≡ next
         → (due (due_rounds (suc k) seen).parts ≡ None) ⊎
-            (most_due (due_rounds (suc k) seen).parts + suc k ≤ most_due seen.parts)
+        (most_due (due_rounds (suc k) seen).parts + suc k ≤ most_due seen.parts)
     by (inl none) next is = inl (ap (λ (s : Seen). due s.parts) (none_round (due_rounds k seen) none) ∙ none)
     by (inr less) None is = inl (ap (λ (s : Seen). due s.parts) (none_round (due_rounds k seen) is) ∙ is)
     by (inr less) (Some step) is = inr (omega (arith, less, round_falls (due_rounds k seen) step is))
 
 done_at : (seen : Seen) (k : ℕ) → k ≡ suc (most_due seen.parts)
     → (due (due_rounds k seen).parts ≡ None) ⊎ (most_due (due_rounds k seen).parts + k ≤ most_due seen.parts)
-        → due (due_rounds k seen).parts ≡ None
+    → due (due_rounds k seen).parts ≡ None
 done_at seen k is (inl none) = none
 done_at seen k is (inr less) = absurd (omega (arith, is, less))
 
@@ -61,7 +61,7 @@ pub record Reading (most : ℕ) (joined : List ℕ) (seen : Seen) : Type 0 where
 reading_front : (most : ℕ) (joined mux : List ℕ) (n : Noise) (unread waiting : List ℕ) (done : List Operation)
     (f : Front) → front unread ≡ f
     → n.most ≡ most → GoesOn joined done unread → waiting ≡ pongs done
-        → Reading most joined (round_by f (state mux n (begun true unread waiting)))
+    → Reading most joined (round_by f (state mux n (begun true unread waiting)))
 reading_front most joined mux n unread waiting done unfinished e limit goes wrote = record {
   mux = mux;
   noise = n;
@@ -114,9 +114,9 @@ reading_round most joined seen r = by r.up refl
         let k = begun r.up r.unread r.waiting in
         subst (Reading most joined)
         (sym (ap due_round r.is ∙ (round_up r.mux r.noise k up
-            ∙ ap (λ (b : Bool). round_by (front r.unread) (state r.mux r.noise (begun b r.unread r.waiting))) up)))
+        ∙ ap (λ (b : Bool). round_by (front r.unread) (state r.mux r.noise (begun b r.unread r.waiting))) up)))
         (reading_front most joined r.mux r.noise r.unread r.waiting r.done
-            (front r.unread) refl r.limit facts.0 facts.1)
+        (front r.unread) refl r.limit facts.0 facts.1)
     by false down =
         subst (Reading most joined)
         (sym (ap due_round r.is ∙ (round_down r.mux r.noise (begun r.up r.unread r.waiting) down ∙ sym r.is))) r
@@ -142,11 +142,11 @@ nothing_there unfinished mux n k up none e = refl
 nothing_there (got op m) mux n k up none e =
     let p = (state mux n k).parts in
     absurd (none-some (read op) (sym none
-        ∙ (ap (λ (u : Bool). if u then due_by (front k.unread) p else None) up ∙ ap (λ (f : Front). due_by f p) e)))
+    ∙ (ap (λ (u : Bool). if u then due_by (front k.unread) p else None) up ∙ ap (λ (f : Front). due_by f p) e)))
 nothing_there (fault m) mux n k up none e =
     let p = (state mux n k).parts in
     absurd (none-some (link_end word.Fault) (sym none
-        ∙ (ap (λ (u : Bool). if u then due_by (front k.unread) p else None) up ∙ ap (λ (f : Front). due_by f p) e)))
+    ∙ (ap (λ (u : Bool). if u then due_by (front k.unread) p else None) up ∙ ap (λ (f : Front). due_by f p) e)))
 
 pub has_begun : (most : ℕ) (joined : List ℕ) (seen : Seen) → Reading most joined seen → due seen.parts ≡ None
     → HasBegun most joined seen

@@ -29,7 +29,7 @@ cut_beyond [] more cut none is = omega arith
 cut_beyond (a ∷ []) more cut none is = omega arith
 cut_beyond (a ∷ b ∷ rest) more cut none is =
     cut_step (a == 13 && b == 10) a (suc (length rest)) rest (rest ++ more) (cut_line (b ∷ rest))
-        (cut_line (b ∷ rest ++ more)) cut
+    (cut_line (b ∷ rest ++ more)) cut
     (λ short c later. cut_beyond (b ∷ rest) more c short later) none is
 
 -- ---- the body
@@ -52,7 +52,7 @@ headed_least : (end : ℕ) (rest : List ℕ) (h : Option HeaderHead) (text : OpT
 headed_least end rest None text n is = cc
 headed_least end rest (Some h) text n is =
     body_least (nat_lt (length rest) (h.head.count + 2)) end h.head.count
-        (headed_text h (take h.head.count rest)) text n is
+    (headed_text h (take h.head.count rest)) text n is
 
 line_least : (first text : OpText) (m n : ℕ) → whole first m ≡ whole text n → m ≤ n
 line_least first text m n is = let e : m ≡ n = cc in omega arith
@@ -87,11 +87,11 @@ body_beyond true false end count rest text long other n test sees is =
 
 message_beyond : (end : ℕ) (rest more : List ℕ) (head : Option Head) (text : OpText) (n : ℕ)
     → message_or_bad end rest head ≡ less → message_or_bad end (rest ++ more) head ≡ whole text n
-        → end + 2 + length rest < n
+    → end + 2 + length rest < n
 message_beyond end rest more None text n sees is = cc
 message_beyond end rest more (Some head) text n sees is =
     body_beyond (nat_lt (length rest) (head.count + 2)) (nat_lt (length (rest ++ more)) (head.count + 2)) end
-        head.count rest
+    head.count rest
     (plain (message head.sid (message_of head (take head.count rest))))
     (plain (message head.sid (message_of head (take head.count (rest ++ more))))) text n refl sees is
 
@@ -100,7 +100,7 @@ headed_beyond : (end : ℕ) (rest more : List ℕ) (h : Option HeaderHead) (text
 headed_beyond end rest more None text n sees is = cc
 headed_beyond end rest more (Some h) text n sees is =
     body_beyond (nat_lt (length rest) (h.head.count + 2)) (nat_lt (length (rest ++ more)) (h.head.count + 2)) end
-        h.head.count rest
+    h.head.count rest
     (headed_text h (take h.head.count rest)) (headed_text h (take h.head.count (rest ++ more))) text n refl sees is
 
 error_not_less : (m : ℕ) (error : Option ServerError) (A : Type 0) → error_or_bad m error ≡ less → A
@@ -130,7 +130,7 @@ cut_sight bytes more None (Some c) text n cut long sees is =
     omega (arith, cut_beyond bytes more c cut long, word_least (word_of c.line) c.line c.rest text n is)
 cut_sight bytes more (Some c) later text n cut long sees is =
     let grows : later ≡ Some (record { line = c.line; rest = c.rest ++ more }) =
-        sym long ∙ cut_more bytes more c cut in
+    sym long ∙ cut_more bytes more c cut in
     let here = ap sight_of_cut (sym grows) ∙ is in
     omega (arith, cut_length bytes c cut, word_beyond (word_of c.line) c.line c.rest more text n sees here)
 

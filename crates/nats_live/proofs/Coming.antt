@@ -40,9 +40,8 @@ up_begun core new mux info reply is plays =
     let next = seen_after (fresh mux) (opened info) in
     let none : due (fresh mux).parts ≡ None = refl in
     let same : new.session ≡ all_due next =
-        settled_played (new_core (default_config mux) true) new (turns.Up info) none here.2 in
-    let reading = reading_all info.max_payload [] next (reading_up mux info) in
-    (
+    settled_played (new_core (default_config mux) true) new (turns.Up info) none here.2 in
+    let reading = reading_all info.max_payload [] next (reading_up mux info) in (
       subst (HasBegun info.max_payload []) (sym same)
           (has_begun info.max_payload [] (all_due next) reading (none_after_all next)),
       ap (λ (s : Seen). s.parts.link.is_up) (same ∙ none_played next (none_due mux info)),
@@ -54,18 +53,18 @@ pub up_comes : (core : Logged) (mux : List ℕ) (info : ServerInfo) → core ≡
 up_comes core mux info is =
     let none : due (fresh mux).parts ≡ None = refl in
     ap (λ (s : Seen). is_valid_turn s.parts (turns.Up info))
-        (ap (λ (c : Logged). all_due c.session) is ∙ none_played (fresh mux) none)
+    (ap (λ (c : Logged). all_due c.session) is ∙ none_played (fresh mux) none)
 
 -- the first piece came
 pub fed_begun : (most : ℕ) (bytes : List ℕ) (old new : Logged) (reply : StepReply) → HasBegun most [] old.session
     → old.session.parts.link.is_up ≡ true → PlaysWhole old (turns.Piece bytes) (Ok reply) new
-        → HasBegun most bytes new.session
+    → HasBegun most bytes new.session
 fed_begun most bytes old new reply b up plays =
     let next = seen_after old.session (fed bytes) in
     let same : new.session ≡ all_due next = settled_played old new (turns.Piece bytes) b.settled plays.2 in
     subst (HasBegun most bytes) (sym same)
     (has_begun most bytes (all_due next) (reading_all most bytes next (reading_fed most bytes old.session b up))
-        (none_after_all next))
+    (none_after_all next))
 
 -- it may come while the link is up
 pub piece_comes : (most : ℕ) (bytes : List ℕ) (old : Logged) → HasBegun most [] old.session

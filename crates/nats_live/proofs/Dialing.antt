@@ -59,7 +59,7 @@ one_ordered true x numbers plan left order = order.0
 one_ordered false x numbers plan left order =
     one_of x plan (length_permutation (x ∷ []) plan order.permutation)
     (All-permutation (λ (p : Planned). p ≡ x) (x ∷ []) plan order.permutation
-        (All-cons (λ (p : Planned). p ≡ x) x [] refl (All-nil (λ (p : Planned). p ≡ x))))
+    (All-cons (λ (p : Planned). p ≡ x) x [] refl (All-nil (λ (p : Planned). p ≡ x))))
 
 -- it has that server alone
 pub one_planned : (server : Parts) (servers : List Server) (retains : Bool) (numbers : Stream)
@@ -68,7 +68,7 @@ pub one_planned : (server : Parts) (servers : List Server) (retains : Bool) (num
     → IsRoundBy named servers retains numbers chosen plan left → plan ≡ plan_of (new_server server) ∷ []
 one_planned server servers retains numbers named chosen plan left none is round =
     let here = subst (λ (n : Option ReconnectToServer). IsRoundBy n servers retains numbers chosen plan left) none
-        round in
+    round in
     one_ordered retains (plan_of (new_server server)) numbers plan left
     (subst (λ (ss : List Server). IsDefaultOrder retains (map plan_of ss) numbers plan left) is here.1)
 
@@ -77,7 +77,7 @@ one_planned server servers retains numbers named chosen plan left none is round 
 own_nothing : {F G : Type 0} (Signs : F → Vec ℕ → Result (Vec ℕ) (List ℕ) → Type 0)
     (Tells : G → Vec ℕ → Result Auth (List ℕ) → Type 0)
     (nonce : List ℕ) (own r : Result AuthValue (List ℕ)) → SignedBy Signs None None nothing nonce own
-        → ThenTold Tells None nonce own r
+    → ThenTold Tells None nonce own r
     → r ≡ Ok nothing
 own_nothing Signs Tells nonce (Ok own) r is told = told ∙ is
 own_nothing Signs Tells nonce (Err e) r is told = cc
@@ -85,7 +85,7 @@ own_nothing Signs Tells nonce (Err e) r is told = cc
 pub offers_nothing : {F G : Type 0} (Signs : F → Vec ℕ → Result (Vec ℕ) (List ℕ) → Type 0)
     (Tells : G → Vec ℕ → Result Auth (List ℕ) → Type 0)
     (nonce : List ℕ) (r : Result AuthValue (List ℕ)) → Offers Signs Tells None None nothing nonce r
-        → OffersNothing nonce r
+    → OffersNothing nonce r
 offers_nothing Signs Tells nonce r offers = own_nothing Signs Tells nonce offers.0 r offers.1 offers.2
 
 -- the same where options are those of default
@@ -93,7 +93,7 @@ pub offers_default : {F G : Type 0} (Signs : F → Vec ℕ → Result (Vec ℕ) 
     (Tells : G → Vec ℕ → Result Auth (List ℕ) → Type 0)
     (signer : Option F) (callback : Option G) (value : AuthValue) → signer ≡ None → callback ≡ None → value ≡ nothing
     → (nonce : List ℕ) (r : Result AuthValue (List ℕ)) → Offers Signs Tells signer callback value nonce r
-        → OffersNothing nonce r
+    → OffersNothing nonce r
 offers_default Signs Tells None None value unsigned untold plain nonce r offers =
     offers_nothing Signs Tells nonce r (subst (λ (a : AuthValue). Offers Signs Tells None None a nonce r) plain offers)
 offers_default Signs Tells (Some f) callback value unsigned untold plain nonce r offers = cc
@@ -129,34 +129,34 @@ module _ {X Y : Type 0} {F : X → Type 0} {G : Y → Type 0} {g : Mut ((x : X) 
 module _ (Offers : List ℕ → Result AuthValue (List ℕ) → Type 0)
     (offers : (nonce : List ℕ) (r : Result AuthValue (List ℕ)) → Offers nonce r → OffersNothing nonce r)
   where
-  pub plain_up : (name : Option (List ℕ)) (no_echo : Bool) (info : ServerInfo) (rest : List ℕ) (r : ReadTold)
-      (w : WriteTold)
-      → IsUp Offers name no_echo info rest r w → IsUp OffersNothing name no_echo info rest r w
-  plain_up name no_echo info rest r w up = record {
-    text = up.text;
-    wrote = up.wrote;
-    said = up.said;
-    offers = (up.offers.0, offers info.nonce (Ok up.offers.0) up.offers.1, up.offers.2);
-    succeeds = up.succeeds;
-    gave = up.gave;
-    opens = up.opens;
-    took = up.took;
-    no_ends = up.no_ends;
-    no_faults = up.no_faults;
-    no_write_faults = up.no_write_faults;
-  }
+    pub plain_up : (name : Option (List ℕ)) (no_echo : Bool) (info : ServerInfo) (rest : List ℕ) (r : ReadTold)
+        (w : WriteTold)
+        → IsUp Offers name no_echo info rest r w → IsUp OffersNothing name no_echo info rest r w
+    plain_up name no_echo info rest r w up = record {
+      text = up.text;
+      wrote = up.wrote;
+      said = up.said;
+      offers = (up.offers.0, offers info.nonce (Ok up.offers.0) up.offers.1, up.offers.2);
+      succeeds = up.succeeds;
+      gave = up.gave;
+      opens = up.opens;
+      took = up.took;
+      no_ends = up.no_ends;
+      no_faults = up.no_faults;
+      no_write_faults = up.no_write_faults;
+    }
 
-  -- a link that came on default options is one of a client that offers nothing
-  pub up_default : (name : Option (List ℕ)) (no_echo : Bool) → name ≡ None → no_echo ≡ false → (info : ServerInfo)
-      (rest : List ℕ) (r : ReadTold) (w : WriteTold) → IsUp Offers name no_echo info rest r w
-      → IsUp OffersNothing None false info rest r w
-  up_default name no_echo unnamed echoes info rest r w up =
-      subst (λ (n : Option (List ℕ)). IsUp OffersNothing n false info rest r w) unnamed
-      (subst (λ (e : Bool). IsUp OffersNothing name e info rest r w) echoes (plain_up name no_echo info rest r w up))
+    -- a link that came on default options is one of a client that offers nothing
+    pub up_default : (name : Option (List ℕ)) (no_echo : Bool) → name ≡ None → no_echo ≡ false → (info : ServerInfo)
+        (rest : List ℕ) (r : ReadTold) (w : WriteTold) → IsUp Offers name no_echo info rest r w
+        → IsUp OffersNothing None false info rest r w
+    up_default name no_echo unnamed echoes info rest r w up =
+        subst (λ (n : Option (List ℕ)). IsUp OffersNothing n false info rest r w) unnamed
+        (subst (λ (e : Bool). IsUp OffersNothing name e info rest r w) echoes (plain_up name no_echo info rest r w up))
 
 module _ {P : Type 0} (Takes : P → P → List (List ℕ) → Result (Unit {0}) AddrError → Type 0)
     (refuses : (p q : P) (urls : List (List ℕ)) (e : AddrError) → Takes p q urls (Err e)
-        → TakesTexts tt tt urls (Err e))
+    → TakesTexts tt tt urls (Err e))
     (Offers : List ℕ → Result AuthValue (List ℕ) → Type 0)
     (offers : (nonce : List ℕ) (r : Result AuthValue (List ℕ)) → Offers nonce r → OffersNothing nonce r)
   where
@@ -183,7 +183,7 @@ module _ {P : Type 0} (Takes : P → P → List (List ℕ) → Result (Unit {0})
       refuses_in : (by_scheme : Bool) (p q : P) (said : Greeting) (text : List ℕ) (e : Failure)
           → RefusesIn (Takes p q) (q ≡ p) Offers by_option name no_echo by_scheme said text e
           → (e ≡ wanting) ⊎ RefusesIn (TakesTexts tt tt) (tt {0} ≡ tt {0}) OffersNothing by_option name no_echo by_scheme said
-              text e
+          text e
       refuses_in by_scheme p q greeting.Waits text e r = inr r
       refuses_in by_scheme p q (greeting.Refuses why) text e r = inr r
       refuses_in by_scheme p q (greeting.Greets info n) text e (inr stops) = inr (inr stops)
@@ -192,7 +192,7 @@ module _ {P : Type 0} (Takes : P → P → List (List ℕ) → Result (Unit {0})
           by : (e ≡ wanting) ⊎ Declines (TakesTexts tt tt) (tt {0} ≡ tt {0}) OffersNothing by_option name no_echo by_scheme
               info e.0 e.1
               → (e ≡ wanting) ⊎ RefusesIn (TakesTexts tt tt) (tt {0} ≡ tt {0}) OffersNothing by_option name no_echo by_scheme
-                  (greeting.Greets info n) text e
+              (greeting.Greets info n) text e
           by (inl is) = inl is
           by (inr d) = inr (inl d)
 
@@ -243,7 +243,7 @@ module _ {X Y : Type 0} {F : X → Type 0} {G : Y → Type 0} {g : Mut ((x : X) 
   pub begun_alone : (server : Parts) (p n : Pool X Y F G g h) (chosen : Choice) (named : Option ReconnectToServer)
       (told : RoundTold) → IsPoolOf server p → named ≡ None
       → IsRoundBy named (servers_of p) ((options_of p).retain_servers_order) (numbers_left p) chosen (round_of n)
-          (numbers_left n)
+      (numbers_left n)
       → options_of n ≡ options_of p → told.round ≡ (pool_told n).round → told.limit ≡ (pool_told n).limit
       → IsRoundWith server told
   begun_alone server p n chosen named told is none plan options round limit = (
@@ -269,7 +269,7 @@ if_err P (Err e) f = f e refl
 pub not_dialed : (addr : List ℕ) (server : Parts) (a b : Seen) (e : Failure) (before after : RoundTold)
     → addr_of addr ≡ Ok server
     → (e ≡ wanting) ⊎ (IsRoundWith server after × RoundFailed before after a e b)
-        → WhyNotDialed addr a (connect_refused e) b
+    → WhyNotDialed addr a (connect_refused e) b
 not_dialed addr server a b e before after spelled failed = by (is_wanting e.0) refl
   where
     why : is_wanting e.0 ≡ false → (e ≡ wanting) ⊎ (IsRoundWith server after × RoundFailed before after a e b)
@@ -295,7 +295,7 @@ if_err_two P Q S (Err e) p q f = f e p q
 -- why none came
 pub failed_default : {P : Type 0} (Takes : P → P → List (List ℕ) → Result (Unit {0}) AddrError → Type 0)
     (refuses : (p q : P) (urls : List (List ℕ)) (e : AddrError) → Takes p q urls (Err e)
-        → TakesTexts tt tt urls (Err e))
+    → TakesTexts tt tt urls (Err e))
     (Offers : List ℕ → Result AuthValue (List ℕ) → Type 0)
     (offers : (nonce : List ℕ) (r : Result AuthValue (List ℕ)) → Offers nonce r → OffersNothing nonce r)
     (by_option : Bool) (name : Option (List ℕ)) (no_echo : Bool) (timeout : ℕ)
@@ -307,15 +307,15 @@ failed_default Takes refuses Offers offers by_option name no_echo timeout plain 
     subst (λ (t : ℕ). RoundCause TakesTexts OffersNothing false None false t before after a e b) time
     (subst (λ (o : Bool). RoundCause TakesTexts OffersNothing o None false timeout before after a e b) plain
     (subst (λ (n : Option (List ℕ)). RoundCause TakesTexts OffersNothing by_option n false timeout before after a e b)
-        unnamed
+    unnamed
     (subst (λ (x : Bool). RoundCause TakesTexts OffersNothing by_option name x timeout before after a e b) echoes
-        (plain_round Takes refuses Offers offers by_option name no_echo timeout before after a e b cause))))
+    (plain_round Takes refuses Offers offers by_option name no_echo timeout before after a e b cause))))
 
 -- the round that began was that server's alone
 pub began_alone : {P : Type 0} (Begins : ServerInfo → P → P → Choice → Type 0) (told : P → RoundTold)
     (last : ServerInfo) (p q : P) (e : Failure) (server : Parts) (F : Type 0) → F
     → ((chosen : Choice) (n : P) → Begins last p n chosen → (told q).round ≡ (told n).round
-        → (told q).limit ≡ (told n).limit → IsRoundWith server (told q))
+    → (told q).limit ≡ (told n).limit → IsRoundWith server (told q))
     → BeganRound Begins told last p q e → (e ≡ wanting) ⊎ (IsRoundWith server (told q) × F)
 began_alone Begins told last p q e server F failed alone (wants is) = inl is
 began_alone Begins told last p q e server F failed alone (began chosen n begins round limit) =

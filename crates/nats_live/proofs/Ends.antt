@@ -74,12 +74,12 @@ pub record RoundTaken (subject joined : List ℕ) (first : List Operation) (head
 pub round_taken : (subject joined : List ℕ) (first : List Operation) (head : List ℕ) (count wanted left : ℕ)
     (text after : List ℕ)
     (old mid new : Seen) (r0 r : ReadTold) (before w : WriteTold)
-        (on : RoundsOn subject joined first head count wanted text old r0 r before)
+    (on : RoundsOn subject joined first head count wanted text old r0 r before)
     → IsWritten subject (joined ++ on.far.bytes) first on.far.since on.far.took on.taken head old.parts.link.is_up
-        (Ok tt) mid before w
+    (Ok tt) mid before w
     → ((took : List ℕ) → Receives subject (joined ++ on.far.bytes) first on.far.since took on.taken mid
-        → TakesAll subject (joined ++ on.far.bytes) first on.far.since took on.taken mid.parts.link.is_up wanted text
-            (Ok left) new after)
+    → TakesAll subject (joined ++ on.far.bytes) first on.far.since took on.taken mid.parts.link.is_up wanted text
+    (Ok left) new after)
     → RoundTaken subject joined first head count left after new r0 r w
 round_taken subject joined first head count wanted left text after old mid new r0 r before w on wrote takes =
     let took = on.far.took ++ wrote.0 in
@@ -110,15 +110,15 @@ pub round_ends : (subject joined : List ℕ) (first : List Operation) (head : Li
     → ReceiveEnds subject joined first count head (Ok text) seen r0 r w
 round_ends subject joined first head count text seen r0 r w t =
     let same : t.taken ≡ count = omega (arith, t.sum) in (
-      subst (λ (n : ℕ). (far : IsReceiving subject joined first n head seen r0 r w)
-          × (text.items ≡ flat_map message_line (take n (messages 1 far.since)))) same (t.far, t.printed)
+    subst (λ (n : ℕ). (far : IsReceiving subject joined first n head seen r0 r w)
+    × (text.items ≡ flat_map message_line (take n (messages 1 far.since)))) same (t.far, t.printed)
     )
 
 -- the link is over first
 pub round_over : (subject joined : List ℕ) (first : List Operation) (head : List ℕ) (count left : ℕ) (text : List ℕ)
     (seen : Seen) (r0 r : ReadTold)
     (w : WriteTold) → RoundTaken subject joined first head count left text seen r0 r w → 1 ≤ left
-        → seen.parts.link.is_up ≡ false
+    → seen.parts.link.is_up ≡ false
     → ReceiveEnds subject joined first count head (Err refused.LinkEnded) seen r0 r w
 round_over subject joined first head count left text seen r0 r w t some down =
     (t.taken, t.far, all_of t.all, omega (arith, t.sum, some), down)
@@ -131,12 +131,12 @@ round_over subject joined first head count left text seen r0 r w t some down =
 pub round_read : (subject joined : List ℕ) (first : List Operation) (head buf : List ℕ) (count left n : ℕ)
     (text : List ℕ) (old new : Logged)
     (r0 r after : ReadTold) (w : WriteTold) → RoundTaken subject joined first head count left text old.session r0 r w
-        → 1 ≤ left
+    → 1 ≤ left
     → old.session.parts.link.is_up ≡ true → length buf < 65536 → ReadsWhole old buf r after (Ok (reads.Played n)) new
     → RoundsOn subject joined first head count left text new.session r0 after w
 round_read subject joined first head buf count left n text old new r0 r after w t some up fits read =
     let next = read_more subject joined first t.taken head buf n old new r0 r after w t.far (all_of t.all)
-        (t.whole up) fits read in
+    (t.whole up) fits read in
     record {
       taken = t.taken;
       far = next.0;
@@ -152,9 +152,9 @@ round_read subject joined first head buf count left n text old new r0 r after w 
 pub round_lost : (subject joined : List ℕ) (first : List Operation) (head buf : List ℕ) (count left : ℕ)
     (text : List ℕ) (old new : Logged)
     (r0 r after : ReadTold) (w : WriteTold) → RoundTaken subject joined first head count left text old.session r0 r w
-        → 1 ≤ left
+    → 1 ≤ left
     → ReadsWhole old buf r after (Ok reads.Lost) new → RoundsOn subject joined first head count left text new.session
-        r0 after w
+    r0 after w
 round_lost subject joined first head buf count left text old new r0 r after w t some read =
     let next = read_lost subject joined first t.taken head buf old new r0 r after w t.far read in
     record {
@@ -169,7 +169,7 @@ round_lost subject joined first head buf count left text old new r0 r after w t 
 pub round_on : (subject joined : List ℕ) (first : List Operation) (head buf : List ℕ) (count left : ℕ) (text : List ℕ)
     (old new : Logged)
     (r0 r after : ReadTold) (w : WriteTold) (once : ReadOnce)
-        → RoundTaken subject joined first head count left text old.session r0 r w
+    → RoundTaken subject joined first head count left text old.session r0 r w
     → 1 ≤ left → old.session.parts.link.is_up ≡ true → length buf < 65536 → ReadsWhole old buf r after (Ok once) new
     → RoundsOn subject joined first head count left text new.session r0 after w
 round_on subject joined first head buf count left text old new r0 r after w (reads.Played n) t some up fits read =
@@ -178,14 +178,14 @@ round_on subject joined first head buf count left text old new r0 r after w read
     round_lost subject joined first head buf count left text old new r0 r after w t some read
 round_on subject joined first head buf count left text old new r0 r after w reads.Gone t some up fits read =
     absurd (false≢true (sym read.0
-        ∙ (ap (λ (s : Seen). s.parts.link.is_up) (none_played old.session t.far.receives.settled) ∙ up)))
+    ∙ (ap (λ (s : Seen). s.parts.link.is_up) (none_played old.session t.far.receives.settled) ∙ up)))
 
 -- ---- a session, seen by its link alone
 
 came : (subject joined : List ℕ) (first : List Operation) (taken : ℕ) (head : List ℕ) (seen : Seen) (r0 r : ReadTold)
     (w : WriteTold)
     → first ≡ operations joined → IsReceiving subject joined first taken head seen r0 r w
-        → CameSoFar subject joined head r0 r w
+    → CameSoFar subject joined head r0 r w
 came subject joined first taken head seen r0 r w is far = record {
   bytes = far.bytes;
   since = far.since;
@@ -402,7 +402,7 @@ pub why_not_published : (addr : List ℕ) (info : ServerInfo) (rest subject payl
     (w0 w : WriteTold) (a m b : World)
     (e : LiveError) → (up : IsUp OffersNothing None false info rest r w0) → Onward a m → IsBack r w m b
     → PublishedOver info.max_payload rest up.wrote subject payload (Err e) w
-        → WhyNotPublished addr subject payload a e b
+    → WhyNotPublished addr subject payload a e b
 why_not_published addr info rest subject payload r w0 w a m b
     (refused.Publish (publishing.InvalidSubject, source)) up onward back is = is
 why_not_published addr info rest subject payload r w0 w a m b
@@ -470,11 +470,11 @@ pub received_last : (info : ServerInfo) (rest subject : List ℕ) (n : ℕ) (tex
 received_last info rest subject n text r0 r w0 w m b up back is =
     ends_last (WasReceived subject n text.items) r w m b back
     (λ pieces bytes gave took.
-        was_received info rest subject text.items n r0 r w0 w pieces bytes up is.0 is.1 is.2 is.3.0 is.3.1 gave took)
+    was_received info rest subject text.items n r0 r w0 w pieces bytes up is.0 is.1 is.2 is.3.0 is.3.1 gave took)
 
 over_later : (info : ServerInfo) (rest bytes : List ℕ) (r0 r : ReadTold) (w0 w : WriteTold) (a m b : World)
     → IsUp OffersNothing None false info rest r0 w0 → Onward a m → IsBack r w m b → GaveLater bytes r0 r
-        → IsOver (rest ++ bytes) r w
+    → IsOver (rest ++ bytes) r w
     → LinkBrokeOrEnded a b ⊎ FaultLater b
 over_later info rest bytes r0 r w0 w a m b up onward back gave (inl failed) =
     inl (broke_or_ended r w a m b onward back failed)
@@ -502,7 +502,7 @@ why_not_received addr info rest subject n r0 r w0 w a m b (refused.Connect e) so
 why_not_received addr info rest subject n r0 r w0 w a m b refused.LinkEnded some up onward back (inl early) =
     let gave = subst (λ (x : ReadTold). GaveLater [] r0 x) (sym early.0) (gave_nothing r0) in
     let all : operations (rest ++ []) ≡ operations rest ++ [] =
-        ap operations (append-nil rest) ∙ sym (append-nil (operations rest)) in (
+    ap operations (append-nil rest) ∙ sym (append-nil (operations rest)) in (
       inr (fault_later info rest [] r0 r w0 w m b up back gave (ap ends_in_fault (append-nil rest) ∙ early.1)),
       fewer_came info rest [] [] n r0 r w0 w m b up back gave all (omega (arith, some)),
     )
@@ -526,7 +526,7 @@ published_clause info rest subject payload r w0 w m b (Err e) up back is = tt
 pub not_published_clause : (addr : List ℕ) (info : ServerInfo) (rest subject payload : List ℕ) (r : ReadTold)
     (w0 w : WriteTold) (a m b : World)
     (result : Result (Unit {0}) LiveError) → (up : IsUp OffersNothing None false info rest r w0) → Onward a m
-        → IsBack r w m b
+    → IsBack r w m b
     → PublishedOver info.max_payload rest up.wrote subject payload result w
     → IfErr result (λ e. WhyNotPublished addr subject payload a e b)
 not_published_clause addr info rest subject payload r w0 w a m b (Ok done) up onward back is = tt
@@ -545,7 +545,7 @@ received_clause info rest subject n r0 r w0 w m b (Err e) up back is = tt
 pub not_received_clause : (addr : List ℕ) (info : ServerInfo) (rest subject : List ℕ) (n : ℕ) (r0 r : ReadTold)
     (w0 w : WriteTold) (a m b : World)
     (result : Result (Vec ℕ) LiveError) → 1 ≤ n → (up : IsUp OffersNothing None false info rest r0 w0) → Onward a m
-        → IsBack r w m b
+    → IsBack r w m b
     → ReceivedOver rest up.wrote subject n result r0 r w → IfErr result (λ e. WhyNotReceived addr subject n a e b)
 not_received_clause addr info rest subject n r0 r w0 w a m b (Ok text) some up onward back is = tt
 not_received_clause addr info rest subject n r0 r w0 w a m b (Err e) some up onward back is =
@@ -557,7 +557,7 @@ not_received_clause addr info rest subject n r0 r w0 w a m b (Err e) some up onw
 pub receives_all : (joined head subject : List ℕ) (n : ℕ) (seen : Seen) (r0 r : ReadTold) (w : WriteTold)
     (result : Result (Vec ℕ) LiveError)
     → ReceiveEnds subject joined (operations joined) n head result seen r0 r w
-        → ReceivesAll joined head subject n result seen r0 r w
+    → ReceivesAll joined head subject n result seen r0 r w
 receives_all joined head subject n seen r0 r w (Ok text) ends = ends
 receives_all joined head subject n seen r0 r w (Err refused.LinkEnded) ends = inr ends
 receives_all joined head subject n seen r0 r w (Err refused.NoMemory) ends = tt
@@ -568,7 +568,7 @@ receives_all joined head subject n seen r0 r w (Err (refused.Subscribe e)) ends 
 -- the link was over before it could be
 pub receives_over : (most : ℕ) (joined head subject : List ℕ) (n : ℕ) (old new : Seen) (r : ReadTold) (w : WriteTold)
     → HasBegun most joined old → old.parts.link.is_up ≡ false
-        → ReceivesAll joined head subject n (Err refused.LinkEnded) new r r w
+    → ReceivesAll joined head subject n (Err refused.LinkEnded) new r r w
 receives_over most joined head subject n old new r w b down =
     inl (refl, b.downs (sym (ap (λ (s : Seen). s.parts.link.is_up) b.is) ∙ down))
 

@@ -68,7 +68,7 @@ unsettled : (old mid : Logged) → due old.session.parts ≡ None → IsSettled 
 unsettled old mid none settled =
     ap (λ (c : Logged). all_due c.session) settled.2
     ∙ (ap (λ (ready : List (ℕ × CallReply)). all_due (record old.session { ready = ready }))
-        (none_without 1 old.session.ready settled.0)
+    (none_without 1 old.session.ready settled.0)
     ∙ none_played old.session none)
 
 -- one write
@@ -82,18 +82,18 @@ flush_step text head up old mid new w after (writes.Wrote n) settled on wrote =
     let next = seen_all old.session (own_steps old.session.parts (turns.Write n)) in
     let fits : n ≤ length bytes = subst (λ (s : Seen). n ≤ length s.parts.link.wire.waiting) same wrote.2 in
     let far = going_all text (on.took ++ take n bytes) true true next
-        (going_write text on.took n old.session g fits) in
+    (going_write text on.took n old.session g fits) in
     let is : new.session ≡ all_due next =
-        ap (λ (c : Logged). c.session) wrote.4
-        ∙ ap (λ (s : Seen). all_due (seen_all s (own_steps s.parts (turns.Write n)))) same in
+    ap (λ (c : Logged). c.session) wrote.4
+    ∙ ap (λ (s : Seen). all_due (seen_all s (own_steps s.parts (turns.Write n)))) same in
     record {
       took = on.took ++ take n bytes;
       flushes = subst (Flushes text (on.took ++ take n bytes)) (sym is)
           (flushes_going text (on.took ++ take n bytes) true (all_due next) far (none_after_all next));
       wrote = subst (λ (t : List ℕ). Took t after) (append_assoc head on.took (take n bytes))
           (took_more (head ++ on.took) (take n bytes) w after on.wrote
-              (wrote.3 ∙ ap (λ (s : Seen). record w
-                  { taken = append_known w.taken (take n s.parts.link.wire.waiting) }) same));
+          (wrote.3 ∙ ap (λ (s : Seen). record w
+          { taken = append_known w.taken (take n s.parts.link.wire.waiting) }) same));
       over = λ down. absurd (true≢false
           (sym (going_up text (on.took ++ take n bytes) true true (all_due next) far)
           ∙ (ap (λ (s : Seen). s.parts.link.is_up) (sym is) ∙ down)));
@@ -108,8 +108,8 @@ flush_step text head up old mid new w after writes.Lost settled on wrote =
     let g = going_flushes text on.took old.session on.flushes settled.1 in
     let next = seen_all old.session (own_steps old.session.parts turns.Lost) in
     let is : new.session ≡ all_due next =
-        ap (λ (c : Logged). c.session) wrote.2
-        ∙ ap (λ (s : Seen). all_due (seen_all s (own_steps s.parts turns.Lost))) same in
+    ap (λ (c : Logged). c.session) wrote.2
+    ∙ ap (λ (s : Seen). all_due (seen_all s (own_steps s.parts turns.Lost))) same in
     record {
       took = on.took;
       flushes = subst (Flushes text on.took) (sym is)
@@ -154,13 +154,13 @@ flushed_all text head up seen w on reply = by seen.parts.link.is_up refl
         let g = going_flushes text on.took seen on.flushes it_is in
         subst (λ (t : List ℕ). Took (head ++ t) w)
         (all_taken text on.took g.waiting g.phase (ap (λ (s : Seen). reply_in 1 s.ready) (sym g.is) ∙ reply) g.fits
-            (g.ups refl).1)
+        (g.ups refl).1)
         on.wrote
     by false it_is_not = absurd (on.flushes.2.downs it_is_not reply)
 
 over_by : (text head : List ℕ) (up : Bool) (seen : Seen) (w : WriteTold) → FlushesOn text head up seen w
     → ((reply_in 1 seen.ready ≡ Some replies.Flushed) → ⊥) →
-        ((reply_in 1 seen.ready ≡ None) → seen.parts.link.is_up ≡ false)
+    ((reply_in 1 seen.ready ≡ None) → seen.parts.link.is_up ≡ false)
     → (up ≡ false) ⊎ (1 ≤ w.faults)
 over_by text head up seen w on unflushed gone = by seen.parts.link.is_up refl
   where

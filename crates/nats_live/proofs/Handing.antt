@@ -56,7 +56,7 @@ opened_known info rest said text bytes (Some ps) later pieces opens shown is joi
 
 pub opened_as : (info : ServerInfo) (rest bytes : List ℕ) (r0 r : ReadTold) (w : WriteTold)
     → (up : IsUp OffersNothing None false info rest r0 w) → GaveLater bytes r0 r → (pieces : List (List ℕ))
-        → r.pieces ≡ Some pieces
+    → r.pieces ≡ Some pieces
     → OpenedAs info up.said rest bytes pieces
 opened_as info rest bytes r0 r w up gave pieces is =
     opened_known info rest up.said up.text bytes r0.pieces gave.later pieces up.opens
@@ -70,7 +70,7 @@ head_is info rest bytes r0 w pieces up o =
     let auth : up.offers.0 ≡ nothing = ok_same up.offers.0 (Ok up.offers.0) up.offers.1 refl in
     up.offers.2
     ∙ (ap (λ (a : AuthValue). opening None false a ++ up.said) auth
-        ∙ ap (λ (s : List ℕ). opening None false nothing ++ s) (sym o.said_is))
+    ∙ ap (λ (s : List ℕ). opening None false nothing ++ s) (sym o.said_is))
   where
     ok_same : (x : AuthValue) (r : Result AuthValue (List ℕ)) → r ≡ Ok nothing → r ≡ Ok x → x ≡ nothing
     ok_same x r is here = cc
@@ -101,7 +101,7 @@ pub ends_last : (Is : EndedLink → Type 0) (r : ReadTold) (w : WriteTold) (a b 
 ends_last Is r w a b back shows =
     subst (λ (s : Seen). IfSome s.dialer.ended (LastLink Is)) (sym back.back)
     (ends_known Is r.pieces back.shut.taken a.dialer.ended
-        (λ ps bytes gave took. shows ps bytes gave (sym back.taken ∙ took)))
+    (λ ps bytes gave took. shows ps bytes gave (sym back.taken ∙ took)))
 
 -- ---- counts and words
 
@@ -181,7 +181,7 @@ was_published info rest subject payload r0 w0 w pieces bytes up took gave wrote 
           ∙ (ap (λ (h : List ℕ). h ++ published_text rest subject payload) (head_is info rest [] r0 w0 pieces up o)
           ∙ (ap (λ (t : List ℕ). handshake_text o.shaken ++ published_text t subject payload) (sym o.rest_is)
           ∙ sym (append_assoc (handshake_text o.shaken) (pongs (before o.shaken))
-              (command_text (client.Publish subject payload None None)))));
+          (command_text (client.Publish subject payload None None)))));
     }
 
 -- what came with the handshake ends in no operation
@@ -189,24 +189,24 @@ pub fault_in_rest : (info : ServerInfo) (rest : List ℕ) (r0 : ReadTold) (w0 w 
     → IsUp OffersNothing None false info rest r0 w0 → IsBack r0 w a b → ends_in_fault rest ≡ true → FaultInRest b
 fault_in_rest info rest r0 w0 w a b up back fault =
     ends_last (λ (link : EndedLink). (o : Opened) × (opened link.0 ≡ Some o) × (ends_in_fault o.rest ≡ true)) r0 w a b
-        back
+    back
     (λ pieces bytes gave wrote.
-        let o = opened_as info rest [] r0 r0 w0 up (gave_nothing r0) pieces gave in
-        (o.shaken, o.opens, ap ends_in_fault o.rest_is ∙ fault))
+    let o = opened_as info rest [] r0 r0 w0 up (gave_nothing r0) pieces gave in
+    (o.shaken, o.opens, ap ends_in_fault o.rest_is ∙ fault))
 
 -- the payload is larger than the server takes
 pub too_large : (info : ServerInfo) (rest payload : List ℕ) (most size : ℕ) (r0 : ReadTold) (w0 w : WriteTold)
     (a b : Seen)
     → IsUp OffersNothing None false info rest r0 w0 → IsBack r0 w a b → most ≡ info.max_payload
-        → size ≡ length payload → most < size
+    → size ≡ length payload → most < size
     → TooLarge most size payload b
 too_large info rest payload most size r0 w0 w a b up back most_is size_is less = (
   size_is,
   less,
   ends_last (λ (link : EndedLink). (o : Opened) × (opened link.0 ≡ Some o) × (o.info.max_payload ≡ most)) r0 w a b back
       (λ pieces bytes gave wrote.
-          let o = opened_as info rest [] r0 r0 w0 up (gave_nothing r0) pieces gave in
-          (o.shaken, o.opens, ap (λ (i : ServerInfo). i.max_payload) o.info_is ∙ sym most_is)),
+      let o = opened_as info rest [] r0 r0 w0 up (gave_nothing r0) pieces gave in
+      (o.shaken, o.opens, ap (λ (i : ServerInfo). i.max_payload) o.info_is ∙ sym most_is)),
 )
 
 -- ---- messages that were received
@@ -230,14 +230,14 @@ was_received info rest subject text n r0 r w0 w pieces bytes up far enough print
     let ops = operations rest in
     let since_is = after_is rest far.bytes far.since o.shaken o.rest_is o.bytes_are far.all in
     let shape : subscribed_text subject ops [] ++ answered ≡ pongs ops ++ (sub_text subject ++ answered) =
-        ap (λ (t : List ℕ). t ++ answered) (append-nil (pongs ops ++ sub_text subject))
-        ∙ append_assoc (pongs ops) (sub_text subject) answered in
+    ap (λ (t : List ℕ). t ++ answered) (append-nil (pongs ops ++ sub_text subject))
+    ∙ append_assoc (pongs ops) (sub_text subject) answered in
     let both : pongs ops ++ (sub_text subject ++ (answered ++ far.left)) ≡ pongs ops ++
-        (sub_text subject ++ pongs far.since) =
-        sym (append_assoc (pongs ops) (sub_text subject ++ answered) far.left
-            ∙ ap (λ (t : List ℕ). pongs ops ++ t) (append_assoc (sub_text subject) answered far.left))
-        ∙ (ap (λ (t : List ℕ). t ++ far.left) (sym (took ∙ shape))
-        ∙ (far.text ∙ append_assoc (pongs ops) (sub_text subject) (pongs far.since))) in
+    (sub_text subject ++ pongs far.since) =
+    sym (append_assoc (pongs ops) (sub_text subject ++ answered) far.left
+    ∙ ap (λ (t : List ℕ). pongs ops ++ t) (append_assoc (sub_text subject) answered far.left))
+    ∙ (ap (λ (t : List ℕ). t ++ far.left) (sym (took ∙ shape))
+    ∙ (far.text ∙ append_assoc (pongs ops) (sub_text subject) (pongs far.since))) in
     record {
       shaken = o.shaken;
       opens = o.opens;
@@ -247,16 +247,16 @@ was_received info rest subject text n r0 r w0 w pieces bytes up far enough print
       answered = answered;
       left = far.left;
       answers = append_same (sub_text subject) (answered ++ far.left) (pongs far.since)
-              (append_same (pongs ops) (sub_text subject ++ (answered ++ far.left))
-                  (sub_text subject ++ pongs far.since) both)
+          (append_same (pongs ops) (sub_text subject ++ (answered ++ far.left))
+          (sub_text subject ++ pongs far.since) both)
           ∙ ap pongs (sym since_is);
       took = took_is (up.wrote ++ far.took) bytes w.taken far.wrote wrote
           ∙ (ap (λ (h : List ℕ). h ++ far.took) (head_is info rest far.bytes r0 w0 pieces up o)
           ∙ (ap (λ (t : List ℕ). handshake_text o.shaken ++ t) (took ∙ shape)
           ∙ (ap (λ (r : List ℕ). handshake_text o.shaken ++ (pongs (operations r) ++ (sub_text subject ++ answered)))
-              (sym o.rest_is)
+          (sym o.rest_is)
           ∙ sym (append_assoc (handshake_text o.shaken ++ pongs (before o.shaken)) (sub_text subject) answered
-              ∙ append_assoc (handshake_text o.shaken) (pongs (before o.shaken)) (sub_text subject ++ answered)))));
+          ∙ append_assoc (handshake_text o.shaken) (pongs (before o.shaken)) (sub_text subject ++ answered)))));
     }
 
 -- fewer came
@@ -266,21 +266,27 @@ pub fewer_came : (info : ServerInfo) (rest bytes : List ℕ) (since : List Opera
     → operations (rest ++ bytes) ≡ operations rest ++ since → length (messages 1 since) < n → FewerCame n b
 fewer_came info rest bytes since n r0 r w0 w a b up back gave all less =
     ends_last (λ (link : EndedLink). (o : Opened) × (opened link.0 ≡ Some o) × (length (messages 1 (after o)) < n)) r
-        w a b back
+    w a b back
     (λ pieces took given wrote.
-        let o = opened_as info rest bytes r0 r w0 up gave pieces given in
-        (o.shaken, o.opens, subst (λ (ops : List Operation). length (messages 1 ops) < n)
-            (sym (after_is rest bytes since o.shaken o.rest_is o.bytes_are all)) less))
+    let o = opened_as info rest bytes r0 r w0 up gave pieces given in (
+      o.shaken,
+      o.opens,
+      subst (λ (ops : List Operation). length (messages 1 ops) < n)
+          (sym (after_is rest bytes since o.shaken o.rest_is o.bytes_are all)) less,
+    ))
 
 -- all that came behind the handshake ends in no operation
 pub fault_later : (info : ServerInfo) (rest bytes : List ℕ) (r0 r : ReadTold) (w0 w : WriteTold) (a b : Seen)
     → IsUp OffersNothing None false info rest r0 w0 → IsBack r w a b → GaveLater bytes r0 r
-        → ends_in_fault (rest ++ bytes) ≡ true
+    → ends_in_fault (rest ++ bytes) ≡ true
     → FaultLater b
 fault_later info rest bytes r0 r w0 w a b up back gave fault =
     ends_last (λ (link : EndedLink). (o : Opened) × (opened link.0 ≡ Some o) ×
-        (ends_in_fault (behind_handshake o) ≡ true)) r w a b back
+    (ends_in_fault (behind_handshake o) ≡ true)) r w a b back
     (λ pieces took given wrote.
-        let o = opened_as info rest bytes r0 r w0 up gave pieces given in
-        (o.shaken, o.opens, ap (λ (r : List ℕ). ends_in_fault (r ++ concat o.shaken.later)) o.rest_is
-            ∙ (ap (λ (b : List ℕ). ends_in_fault (rest ++ b)) o.bytes_are ∙ fault)))
+    let o = opened_as info rest bytes r0 r w0 up gave pieces given in (
+      o.shaken,
+      o.opens,
+      ap (λ (r : List ℕ). ends_in_fault (r ++ concat o.shaken.later)) o.rest_is
+          ∙ (ap (λ (b : List ℕ). ends_in_fault (rest ++ b)) o.bytes_are ∙ fault),
+    ))

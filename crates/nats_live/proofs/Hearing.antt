@@ -53,18 +53,17 @@ put_there mux subject puts queue m less = ap (heard_sub subject puts queue m) (l
 pub rows_heard : (mux subject : List ℕ) (puts : ℕ) (queue : List Message) (sid : ℕ) (m : Message)
     → length queue < default_room
     → (later : ℕ) × (at_number sid (sub_after (default_config mux) (history.read (message sid m)))
-        (one_sub true subject puts queue ∷ [])
+    (one_sub true subject puts queue ∷ [])
     ≡ one_sub true subject later (queue ++ messages 1 (message sid m ∷ [])) ∷ [])
 rows_heard mux subject puts queue zero m less =
     (puts, ap (λ (q : List Message). one_sub true subject puts q ∷ []) (sym (append-nil queue)))
 rows_heard mux subject puts queue (suc zero) m less =
     (cut (suc puts), ap (λ (sub : Sub). sub ∷ []) (put_there mux subject puts queue m less))
 rows_heard mux subject puts queue (suc (suc k)) m less =
-    let other : (suc (suc k) == 1) ≡ false = ne_eqb (suc (suc k)) 1 (λ e. absurd (omega (arith, e))) in
-    (
+    let other : (suc (suc k) == 1) ≡ false = ne_eqb (suc (suc k)) 1 (λ e. absurd (omega (arith, e))) in (
       puts,
       ap (λ (q : List Message). one_sub true subject puts q ∷ [])
-      (sym (append-nil queue) ∙ ap (λ (b : Bool). queue ++ (if b then m ∷ [] else [])) (sym other)),
+          (sym (append-nil queue) ∙ ap (λ (b : Bool). queue ++ (if b then m ∷ [] else [])) (sym other)),
     )
 
 -- nothing asks for it no more
@@ -92,7 +91,7 @@ abbrev pub Hears : List ℕ → Noise → List ℕ → ℕ → List Message → 
 Hears mux n subject puts queue unread waiting op m = (noise : Noise) × (later : ℕ)
     × (round_by (got op m) (state mux n (receiving true true subject puts queue unread waiting))
     ≡ state mux noise (receiving true true subject later (queue ++ messages 1 (op ∷ [])) (past (front unread) unread)
-        (waiting ++ pong op)))
+    (waiting ++ pong op)))
 
 hears_plain : (mux : List ℕ) (n noise : Noise) (subject : List ℕ) (puts : ℕ) (queue : List Message)
     (unread waiting written : List ℕ) (op : Operation)
@@ -104,10 +103,10 @@ hears_plain mux n noise subject puts queue unread waiting written op m none wrot
   noise,
   puts,
   is
-  ∙ (ap (λ (q : List Message). state mux noise
+      ∙ (ap (λ (q : List Message). state mux noise
       (receiving true true subject puts q (past (front unread) unread) written))
       (sym (ap (λ (more : List Message). queue ++ more) none ∙ append-nil queue))
-  ∙ ap (λ (w : List ℕ). state mux noise
+      ∙ ap (λ (w : List ℕ). state mux noise
       (receiving true true subject puts (queue ++ messages 1 (op ∷ [])) (past (front unread) unread) w)) wrote),
 )
 
@@ -120,10 +119,9 @@ hears mux n subject puts queue unread waiting (message sid text) m less =
     let rows = rows_heard mux subject puts queue sid text less in
     let noise = noise_read mux (sub ∷ []) op n in
     let wrote : written true (unsubscribe_command (is_closing_at (item_of sid (sub ∷ []))) sid None) waiting ≡ waiting
-        ++ pong op =
-        ap (λ (commands : List ClientOp). written true commands waiting) (none_closing subject puts queue sid)
-            ∙ sym (append-nil waiting) in
-    (
+    ++ pong op =
+    ap (λ (commands : List ClientOp). written true commands waiting) (none_closing subject puts queue sid)
+    ∙ sym (append-nil waiting) in (
       noise,
       rows.0,
       (λ i. heard_with mux noise (rows.1 i) (none_asked op i) (push_all (none_settled op i) [])
@@ -131,23 +129,23 @@ hears mux n subject puts queue unread waiting (message sid text) m less =
     )
 hears mux n subject puts queue unread waiting (info_op info) m less =
     hears_plain mux n (noise_read mux (one_sub true subject puts queue ∷ []) (info_op info) n) subject puts queue
-        unread waiting waiting
+    unread waiting waiting
     (info_op info) m refl (sym (append-nil waiting)) refl
 hears mux n subject puts queue unread waiting (error_op e) m less =
     hears_plain mux n (noise_read mux (one_sub true subject puts queue ∷ []) (error_op e) n) subject puts queue unread
-        waiting waiting
+    waiting waiting
     (error_op e) m refl (sym (append-nil waiting)) refl
 hears mux n subject puts queue unread waiting ok_op m less =
     hears_plain mux n (noise_read mux (one_sub true subject puts queue ∷ []) ok_op n) subject puts queue unread
-        waiting waiting
+    waiting waiting
     ok_op m refl (sym (append-nil waiting)) refl
 hears mux n subject puts queue unread waiting ping_op m less =
     hears_plain mux n (noise_read mux (one_sub true subject puts queue ∷ []) ping_op n) subject puts queue unread
-        waiting (waiting ++ pong ping_op)
+    waiting (waiting ++ pong ping_op)
     ping_op m refl refl refl
 hears mux n subject puts queue unread waiting pong_op m less =
     hears_plain mux n (noise_read mux (one_sub true subject puts queue ∷ []) pong_op n) subject puts queue unread
-        waiting waiting
+    waiting waiting
     pong_op m refl (sym (append-nil waiting)) refl
 
 -- what is no operation ends the link
@@ -193,12 +191,28 @@ room_read : (unread : List ℕ) (queue : List Message) (op : Operation) (n : ℕ
     → Room unread queue
     → Room (drop n unread) (queue ++ messages 1 (op ∷ []))
 room_read unread queue op n e (below less) =
-    below (omega (arith, less, length-append queue (messages 1 (op ∷ [])), at_most_one op, length-drop n unread,
-        front_fits unread op n e, front_takes unread op n e))
+    below (omega (
+      arith,
+      less,
+      length-append queue (messages 1 (op ∷ [])),
+      at_most_one op,
+      length-drop n unread,
+      front_fits unread op n e,
+      front_takes unread op n e,
+    ))
 room_read unread queue op n e (fresh old more is none less empty) =
-    below (omega (arith, less, length-append queue (messages 1 (op ∷ [])), at_most_one op, length-drop n unread, ap length empty,
-        ap length is, length-append old more, front_fits unread op n e,
-        front_beyond old more op n none (sym (ap front is) ∙ e)))
+    below (omega (
+      arith,
+      less,
+      length-append queue (messages 1 (op ∷ [])),
+      at_most_one op,
+      length-drop n unread,
+      ap length empty,
+      ap length is,
+      length-append old more,
+      front_fits unread op n e,
+      front_beyond old more op n none (sym (ap front is) ∙ e),
+    ))
 
 -- the subscription is open, and some operations were read since a moment; while the link is up it goes on with what is unread
 pub record Hearing (subject joined : List ℕ) (first was : List Operation) (took : List ℕ) (taken : ℕ)
@@ -243,10 +257,10 @@ queue_one taken since op fits =
 
 hearing_got : (subject joined : List ℕ) (first was : List Operation) (took : List ℕ) (taken : ℕ) (seen : Seen)
     → (h : Hearing subject joined first was took taken seen) → (op : Operation) (n : ℕ) → front h.unread ≡ got op n
-        → h.up ≡ true
+    → h.up ≡ true
     → Hearing subject joined first was took taken
     (round_by (got op n) (state h.mux h.noise
-        (receiving true true subject h.puts (drop taken (messages 1 h.since)) h.unread h.waiting)))
+    (receiving true true subject h.puts (drop taken (messages 1 h.since)) h.unread h.waiting)))
 hearing_got subject joined first was took taken seen h op n e up =
     let facts = h.ups up in
     let queue = drop taken (messages 1 h.since) in
@@ -264,11 +278,16 @@ hearing_got subject joined first was took taken seen h op n e up =
       waiting = h.waiting ++ pong op;
       is = step.2
           ∙ (ap (λ (f : Front). state h.mux step.0 (receiving true true subject step.1 (queue ++ messages 1 (op ∷ []))
-                (past f h.unread) (h.waiting ++ pong op))) e
+          (past f h.unread) (h.waiting ++ pong op))) e
           ∙ ap (λ (q : List Message). state h.mux step.0
-              (receiving true true subject step.1 q (drop n h.unread) (h.waiting ++ pong op))) grown);
-      fits = omega (arith, h.fits, ap length (messages_more 1 h.since (op ∷ [])), length-append (messages 1 h.since)
-          (messages 1 (op ∷ [])));
+          (receiving true true subject step.1 q (drop n h.unread) (h.waiting ++ pong op))) grown);
+      fits = omega (
+        arith,
+        h.fits,
+        ap length (messages_more 1 h.since (op ∷ [])),
+        length-append (messages 1 h.since)
+            (messages 1 (op ∷ [])),
+      );
       ups = λ it_is. (
         subst (λ (ops : List Operation). GoesOn joined ops (drop n h.unread)) (append_assoc first h.since (op ∷ []))
             (goes_read joined (first ++ h.since) h.unread op n e facts.0),
@@ -284,12 +303,12 @@ hearing_front : (subject joined : List ℕ) (first was : List Operation) (took :
     → (h : Hearing subject joined first was took taken seen) → (f : Front) → front h.unread ≡ f → h.up ≡ true
     → Hearing subject joined first was took taken
     (round_by f (state h.mux h.noise
-        (receiving true true subject h.puts (drop taken (messages 1 h.since)) h.unread h.waiting)))
+    (receiving true true subject h.puts (drop taken (messages 1 h.since)) h.unread h.waiting)))
 hearing_front subject joined first was took taken seen h unfinished e up =
     let queue = drop taken (messages 1 h.since) in
     subst (Hearing subject joined first was took taken)
     (h.is ∙ (ap (λ (b : Bool). state h.mux h.noise (receiving b true subject h.puts queue h.unread h.waiting)) up
-        ∙ sym (hears_less h.mux h.noise subject h.puts queue h.unread h.waiting))) h
+    ∙ sym (hears_less h.mux h.noise subject h.puts queue h.unread h.waiting))) h
 hearing_front subject joined first was took taken seen h (got op n) e up =
     hearing_got subject joined first was took taken seen h op n e up
 hearing_front subject joined first was took taken seen h (fault n) e up = record {
@@ -323,8 +342,8 @@ hearing_round subject joined first was took taken seen h = by h.up refl
         let k = receiving h.up true subject h.puts queue h.unread h.waiting in
         subst (Hearing subject joined first was took taken)
         (sym (ap due_round h.is ∙ (round_up h.mux h.noise k up
-            ∙ ap (λ (b : Bool). round_by (front h.unread)
-                (state h.mux h.noise (receiving b true subject h.puts queue h.unread h.waiting))) up)))
+        ∙ ap (λ (b : Bool). round_by (front h.unread)
+        (state h.mux h.noise (receiving b true subject h.puts queue h.unread h.waiting))) up)))
         (hearing_front subject joined first was took taken seen h (front h.unread) refl up)
     by false down =
         let k = receiving h.up true subject h.puts (drop taken (messages 1 h.since)) h.unread h.waiting in
@@ -334,7 +353,7 @@ hearing_round subject joined first was took taken seen h = by h.up refl
 hearing_rounds : (subject joined : List ℕ) (first was : List Operation) (took : List ℕ) (taken : ℕ) (k : ℕ)
     (seen : Seen)
     → Hearing subject joined first was took taken seen → Hearing subject joined first was took taken
-        (due_rounds k seen)
+    (due_rounds k seen)
 hearing_rounds subject joined first was took taken zero seen h = h
 hearing_rounds subject joined first was took taken (suc k) seen h =
     hearing_round subject joined first was took taken (due_rounds k seen)
@@ -345,13 +364,13 @@ pub hearing_all : (subject joined : List ℕ) (first was : List Operation) (took
 hearing_all subject joined first was took taken seen h =
     let all = all_rounds seen in
     subst (Hearing subject joined first was took taken) (sym all.1)
-        (hearing_rounds subject joined first was took taken all.0 seen h)
+    (hearing_rounds subject joined first was took taken all.0 seen h)
 
 -- ---- once nothing is due
 
 pub hearing_receives : (subject joined : List ℕ) (first was : List Operation) (took : List ℕ) (taken : ℕ) (seen : Seen)
     → (h : Hearing subject joined first was took taken seen) → due seen.parts ≡ None
-        → Receives subject joined first h.since took taken seen
+    → Receives subject joined first h.since took taken seen
 hearing_receives subject joined first was took taken seen h none = record {
   mux = h.mux;
   noise = h.noise;
@@ -374,8 +393,8 @@ hearing_receives subject joined first was took taken seen h none = record {
     by true up =
         let k = receiving h.up true subject h.puts (drop taken (messages 1 h.since)) h.unread h.waiting in
         goes_over joined (first ++ h.since) h.unread (h.ups up).0 (not_got_unfinished (front h.unread)
-            (nothing_there (front h.unread) h.mux h.noise k up
-                (ap (λ (s : Seen). due s.parts) (sym h.is) ∙ none) refl))
+        (nothing_there (front h.unread) h.mux h.noise k up
+        (ap (λ (s : Seen). due s.parts) (sym h.is) ∙ none) refl))
     by false down = (h.downs down).0
 
 -- where the link is over what came ends in no operation
@@ -399,17 +418,17 @@ noise_fed mux bytes n = record {
 pub hearing_fed : (subject joined bytes : List ℕ) (first since : List Operation) (took : List ℕ) (taken : ℕ)
     (seen : Seen)
     → (r : Receives subject joined first since took taken seen) → r.up ≡ true → r.opened ≡ true
-        → taken ≡ length (messages 1 since)
+    → taken ≡ length (messages 1 since)
     → length bytes < default_room
     → Hearing subject (joined ++ bytes) first since took taken
-        (seen_all seen (own_steps seen.parts (turns.Piece bytes)))
+    (seen_all seen (own_steps seen.parts (turns.Piece bytes)))
 hearing_fed subject joined bytes first since took taken seen r up is_opened all_taken less =
     let queue = drop taken (messages 1 since) in
     let k = receiving r.up r.opened subject r.puts queue r.unread r.waiting in
     let facts = r.ups up in
     let empty : queue ≡ [] = drop_of_length-le (messages 1 since) (omega (arith, all_taken)) in
     let none = nothing_there (front r.unread) r.mux r.noise k up
-        (ap (λ (s : Seen). due s.parts) (sym r.is) ∙ r.settled) refl in
+    (ap (λ (s : Seen). due s.parts) (sym r.is) ∙ r.settled) refl in
     record {
       since = since;
       more = [];

@@ -74,7 +74,7 @@ goes_read joined done unread op n e goes = record {
   ops = λ more.
       goes.ops more
       ∙ (ap (λ (ops : List Operation). done ++ ops)
-          (operations_next (unread ++ more) op n (front_more unread more op n e))
+      (operations_next (unread ++ more) op n (front_more unread more op n e))
       ∙ (ap (λ (t : List ℕ). done ++ (op ∷ operations t)) (drop-append-le n unread more (front_fits unread op n e))
       ∙ sym (append_assoc done (op ∷ []) (operations (drop n unread ++ more)))));
   faults = λ more.

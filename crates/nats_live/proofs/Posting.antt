@@ -63,7 +63,7 @@ publish_refused : (mux : List ℕ) (n : Noise) (up : Bool) (unread waiting subje
 publish_refused mux n up unread waiting subject payload =
     let size : 0 + length payload ≡ length payload = omega arith in
     λ i. refused_by
-        (both_ways (is_nonempty subject) (list_all (λ b. not (is_separator b)) subject) i) n.most (size i)
+    (both_ways (is_nonempty subject) (list_all (λ b. not (is_separator b)) subject) i) n.most (size i)
 
 -- ---- a publish
 
@@ -80,7 +80,7 @@ noise_accepted mux c n = record {
 -- it is accepted: it waits to be handled
 publish_accepted : (most : ℕ) (joined subject payload : List ℕ) (seen : Seen) (b : HasBegun most joined seen)
     → Going (published_text joined subject payload) [] false b.up
-        (seen_after seen (accepted (call.Publish (message_of subject payload))))
+    (seen_after seen (accepted (call.Publish (message_of subject payload))))
 publish_accepted most joined subject payload seen b =
     let m = message_of subject payload in
     record {
@@ -116,27 +116,26 @@ posts_by : (most : ℕ) (joined subject payload : List ℕ) (seen : Seen) (b : H
     (posted r (message_of subject payload) seen)
 posts_by most joined subject payload seen b false big may_is big_is r is =
     subst (λ (x : Option CallReply). Posts most joined subject payload
-        (publish_answer (answers.Call (reply_by x replies.Accepted))) seen
-        (posted x (message_of subject payload) seen))
+    (publish_answer (answers.Call (reply_by x replies.Accepted))) seen
+    (posted x (message_of subject payload) seen))
     (sym (is ∙ ap (λ (m : Bool). refused_by m b.noise.most (length payload)) may_is)) (refl, may_is)
 posts_by most joined subject payload seen b true true may_is big_is r is =
     subst (λ (x : Option CallReply). Posts most joined subject payload
-        (publish_answer (answers.Call (reply_by x replies.Accepted))) seen
-        (posted x (message_of subject payload) seen))
+    (publish_answer (answers.Call (reply_by x replies.Accepted))) seen
+    (posted x (message_of subject payload) seen))
     (sym (is ∙ (ap (λ (m : Bool). refused_by m b.noise.most (length payload)) may_is
-        ∙ ap (λ (g : Bool). if g then Some (replies.MaxPayloadExceeded b.noise.most (length payload)) else None)
-            big_is)))
+    ∙ ap (λ (g : Bool). if g then Some (replies.MaxPayloadExceeded b.noise.most (length payload)) else None)
+    big_is)))
     (b.limit, refl, subst (λ (l : ℕ). l < length payload) b.limit (ltb-true b.noise.most (length payload) big_is))
 posts_by most joined subject payload seen b true false may_is big_is r is =
     let m = message_of subject payload in
     let next = seen_after seen (accepted (call.Publish m)) in
     subst (λ (x : Option CallReply). Posts most joined subject payload
-        (publish_answer (answers.Call (reply_by x replies.Accepted))) seen
-        (posted x m seen))
+    (publish_answer (answers.Call (reply_by x replies.Accepted))) seen
+    (posted x m seen))
     (sym (is ∙ (ap (λ (p : Bool). refused_by p b.noise.most (length payload)) may_is
-        ∙ ap (λ (g : Bool). if g then Some (replies.MaxPayloadExceeded b.noise.most (length payload)) else None)
-            big_is)))
-    (
+    ∙ ap (λ (g : Bool). if g then Some (replies.MaxPayloadExceeded b.noise.most (length payload)) else None)
+    big_is))) (
       b.up,
       ap (λ (s : Seen). s.parts.link.is_up) b.is,
       going_all (published_text joined subject payload) [] false b.up next
@@ -146,15 +145,15 @@ posts_by most joined subject payload seen b true false may_is big_is r is =
 
 pub posts : (most : ℕ) (joined subject payload : List ℕ) (seen : Seen) → HasBegun most joined seen
     → Posts most joined subject payload
-        (publish_answer (reply_to seen.parts (turns.Do (call.Publish (message_of subject payload))))) seen
+    (publish_answer (reply_to seen.parts (turns.Do (call.Publish (message_of subject payload))))) seen
     (all_due (seen_all seen (own_steps seen.parts (turns.Do (call.Publish (message_of subject payload))))))
 posts most joined subject payload seen b =
     let m = message_of subject payload in
     posts_by most joined subject payload seen b (is_publishable subject)
-        (nat_lt b.noise.most (length payload)) refl refl
+    (nat_lt b.noise.most (length payload)) refl refl
     (refusal seen.parts (call.Publish m))
     (ap (λ (s : Seen). refusal s.parts (call.Publish m)) b.is
-        ∙ publish_refused b.mux b.noise b.up b.unread b.waiting subject payload)
+    ∙ publish_refused b.mux b.noise b.up b.unread b.waiting subject payload)
 
 -- ---- a flush behind it
 
@@ -221,8 +220,8 @@ flush_accepted text up seen g =
     let s = state g.mux g.noise (at_phase g.phase up g.unread g.waiting) in
     subst (λ (x : Seen). Going text [] true up (seen_all x (own_steps x.parts (turns.Do call.Flush)))) (sym g.is)
     (subst (λ (r : Option CallReply). Going text [] true up (seen_all s (accepted_step r call.Flush ++ [])))
-        (sym (unrefused g.mux g.noise g.phase up g.unread g.waiting g.kind))
-        (flushed_at text g.mux g.noise g.phase up g.unread g.waiting g.kind g.ups))
+    (sym (unrefused g.mux g.noise g.phase up g.unread g.waiting g.kind))
+    (flushed_at text g.mux g.noise g.phase up g.unread g.waiting g.kind g.ups))
 
 pub flush_reply : (text : List ℕ) (up : Bool) (seen : Seen) → Going text [] false up seen
     → reply_to seen.parts (turns.Do call.Flush) ≡ answers.Call (replies.Numbered 1)
@@ -230,7 +229,7 @@ flush_reply text up seen g =
     let s = state g.mux g.noise (at_phase g.phase up g.unread g.waiting) in
     ap (λ (x : Seen). reply_to x.parts (turns.Do call.Flush)) g.is
     ∙ (ap (λ (r : Option CallReply). answers.Call (reply_by r (accepted_reply s.parts call.Flush)))
-        (unrefused g.mux g.noise g.phase up g.unread g.waiting g.kind)
+    (unrefused g.mux g.noise g.phase up g.unread g.waiting g.kind)
     ∙ ap answers.Call (first_ticket g.mux g.noise g.phase up g.unread g.waiting g.kind))
 
 -- ---- both calls
@@ -267,9 +266,9 @@ posted_by limit joined subject payload old mid message reply b is plays =
     subst (λ (s : Seen). Posts limit joined subject payload (publish_answer reply) old.session s)
     (sym (settled_played old mid turn b.settled here.2))
     (subst (λ (r : StepReply). Posts limit joined subject payload (publish_answer r) old.session
-            (all_due (seen_all old.session (own_steps old.session.parts turn))))
-        (sym (settled_reply old turn reply b.settled here.1))
-        (posts limit joined subject payload old.session b))
+    (all_due (seen_all old.session (own_steps old.session.parts turn))))
+    (sym (settled_reply old turn reply b.settled here.1))
+    (posts limit joined subject payload old.session b))
 
 -- it was accepted
 pub posted_ok : (limit : ℕ) (joined subject payload : List ℕ) (old mid : Seen) (answer : Result (Unit {0}) LiveError)

@@ -49,15 +49,15 @@ quiet_called : (subject joined : List ℕ) (first since : List Operation) (took 
 quiet_called subject joined first since took taken seen q false opened is = q
 quiet_called subject joined first since took taken seen q true true is =
     let same : seen ≡ state q.mux q.noise
-        (receiving true true subject q.puts (drop taken (messages 1 since)) q.unread q.waiting) =
-        q.is ∙ ap (λ (b : Bool). state q.mux q.noise
-            (receiving true b subject q.puts (drop taken (messages 1 since)) q.unread q.waiting)) is in
+    (receiving true true subject q.puts (drop taken (messages 1 since)) q.unread q.waiting) =
+    q.is ∙ ap (λ (b : Bool). state q.mux q.noise
+    (receiving true b subject q.puts (drop taken (messages 1 since)) q.unread q.waiting)) is in
     subst (λ (s : Seen). Quiet subject joined first since took taken true (called true s)) (sym same)
     (subst (λ (s : Seen). Quiet subject joined first since took taken true s) same q)
 quiet_called subject joined first since took taken seen q true false is =
     let queue = drop taken (messages 1 since) in
     let same : seen ≡ state q.mux q.noise (receiving true false subject q.puts queue q.unread q.waiting) =
-        q.is ∙ ap (λ (b : Bool). state q.mux q.noise (receiving true b subject q.puts queue q.unread q.waiting)) is in
+    q.is ∙ ap (λ (b : Bool). state q.mux q.noise (receiving true b subject q.puts queue q.unread q.waiting)) is in
     let facts = q.ups refl in
     record {
       mux = q.mux;
@@ -74,7 +74,7 @@ quiet_called subject joined first since took taken seen q true false is =
         facts.0,
         facts.1,
         ap (λ (w : List ℕ). took ++ w) (append-nil (q.waiting ++ sub_text subject))
-        ∙ (ap (λ (b : Bool). took ++ (q.waiting ++ unasked b subject)) (sym is) ∙ facts.2),
+            ∙ (ap (λ (b : Bool). took ++ (q.waiting ++ unasked b subject)) (sym is) ∙ facts.2),
       );
       left = q.left;
       text = q.text;
@@ -83,13 +83,13 @@ quiet_called subject joined first since took taken seen q true false is =
 pub quiet_round : (subject joined : List ℕ) (first since : List Operation) (took : List ℕ) (taken : ℕ) (up : Bool)
     (seen : Seen)
     → Quiet subject joined first since took taken up seen → Quiet subject joined first since took taken up
-        (due_round seen)
+    (due_round seen)
 quiet_round subject joined first since took taken true seen q =
     let k = receiving true q.opened subject q.puts (drop taken (messages 1 since)) q.unread q.waiting in
     let room = nat_lt (length q.waiting) write_limit in
     subst (Quiet subject joined first since took taken true)
     (sym (ap due_round q.is ∙ (round_up q.mux q.noise k refl
-        ∙ (ap (λ (f : Front). round_by f (state q.mux q.noise k)) (q.ups refl).0 ∙ ap (called room) (sym q.is)))))
+    ∙ (ap (λ (f : Front). round_by f (state q.mux q.noise k)) (q.ups refl).0 ∙ ap (called room) (sym q.is)))))
     (quiet_called subject joined first since took taken seen q room q.opened refl)
 quiet_round subject joined first since took taken false seen q =
     let k = receiving false q.opened subject q.puts (drop taken (messages 1 since)) q.unread q.waiting in
@@ -99,7 +99,7 @@ quiet_round subject joined first since took taken false seen q =
 quiet_rounds : (subject joined : List ℕ) (first since : List Operation) (took : List ℕ) (taken : ℕ) (up : Bool)
     (k : ℕ) (seen : Seen)
     → Quiet subject joined first since took taken up seen → Quiet subject joined first since took taken up
-        (due_rounds k seen)
+    (due_rounds k seen)
 quiet_rounds subject joined first since took taken up zero seen q = q
 quiet_rounds subject joined first since took taken up (suc k) seen q =
     quiet_round subject joined first since took taken up (due_rounds k seen)
@@ -108,7 +108,7 @@ quiet_rounds subject joined first since took taken up (suc k) seen q =
 pub quiet_all : (subject joined : List ℕ) (first since : List Operation) (took : List ℕ) (taken : ℕ) (up : Bool)
     (seen : Seen)
     → Quiet subject joined first since took taken up seen → Quiet subject joined first since took taken up
-        (all_due seen)
+    (all_due seen)
 quiet_all subject joined first since took taken up seen q =
     let all = all_rounds seen in
     subst (Quiet subject joined first since took taken up) (sym all.1)
@@ -124,7 +124,7 @@ quiet_up subject joined first since took taken up seen q = ap (λ (s : Seen). s.
 pub quiet_receives : (subject joined : List ℕ) (first since : List Operation) (took : List ℕ) (taken : ℕ) (up : Bool)
     (seen : Seen)
     → Quiet subject joined first since took taken up seen → due seen.parts ≡ None
-        → Receives subject joined first since took taken seen
+    → Receives subject joined first since took taken seen
 quiet_receives subject joined first since took taken up seen q none = record {
   mux = q.mux;
   noise = q.noise;
@@ -183,26 +183,26 @@ quiet_write subject joined first since took_so taken_so n seen q le =
     let facts = q.ups refl in
     let split = split_text took_so q.waiting (unasked q.opened subject) n ∙ facts.2 in
     subst (λ (s : Seen). Quiet subject joined first since (took_so ++ take n s.parts.link.wire.waiting) taken_so true
-        (seen_all s (own_steps s.parts (turns.Write n))))
+    (seen_all s (own_steps s.parts (turns.Write n))))
     (sym q.is)
     (subst (λ (i : ℕ). Quiet subject joined first since (took_so ++ take n q.waiting) taken_so true
-            (seen_after (state q.mux q.noise k) (history.taken i)))
-        (sym all)
-        (record {
-          mux = q.mux;
-          noise = noise_taken q.mux n q.noise;
-          opened = q.opened;
-          puts = q.puts;
-          unread = q.unread;
-          waiting = drop n q.waiting;
-          is = refl;
-          all = q.all;
-          fits = q.fits;
-          fresh = q.fresh;
-          ups = λ it_is. (facts.0, facts.1, split);
-          left = drop n q.waiting ++ unasked q.opened subject;
-          text = split;
-        }))
+    (seen_after (state q.mux q.noise k) (history.taken i)))
+    (sym all)
+    (record {
+      mux = q.mux;
+      noise = noise_taken q.mux n q.noise;
+      opened = q.opened;
+      puts = q.puts;
+      unread = q.unread;
+      waiting = drop n q.waiting;
+      is = refl;
+      all = q.all;
+      fits = q.fits;
+      fresh = q.fresh;
+      ups = λ it_is. (facts.0, facts.1, split);
+      left = drop n q.waiting ++ unasked q.opened subject;
+      text = split;
+    }))
 
 -- ---- the link ends
 
@@ -219,7 +219,7 @@ noise_lost mux n = record {
 lost_state : (mux subject : List ℕ) (n : Noise) (opened : Bool) (puts : ℕ) (queue : List Message)
     (unread waiting : List ℕ)
     → seen_all (state mux n (receiving true opened subject puts queue unread waiting))
-        (own_steps (state mux n (receiving true opened subject puts queue unread waiting)).parts turns.Lost)
+    (own_steps (state mux n (receiving true opened subject puts queue unread waiting)).parts turns.Lost)
     ≡ state mux (noise_lost mux n) (receiving false opened subject puts queue [] [])
 lost_state mux subject n true puts queue unread waiting = refl
 lost_state mux subject n false puts queue unread waiting = refl
@@ -257,9 +257,9 @@ take_none mux subject n up false puts unread waiting = refl
 took_state : (mux subject : List ℕ) (n : Noise) (up opened : Bool) (puts : ℕ) (m : Message) (more : List Message)
     (unread waiting : List ℕ)
     → seen_all (state mux n (receiving up opened subject puts (m ∷ more) unread waiting))
-        (own_steps (state mux n (receiving up opened subject puts (m ∷ more) unread waiting)).parts (turns.Take 1))
+    (own_steps (state mux n (receiving up opened subject puts (m ∷ more) unread waiting)).parts (turns.Take 1))
     ≡ state mux (record n { statistics = statistics_after (default_config mux) (history.took 1) n.statistics })
-        (receiving up opened subject puts more unread waiting)
+    (receiving up opened subject puts more unread waiting)
 took_state mux subject n up true puts m more unread waiting = refl
 took_state mux subject n up false puts m more unread waiting = refl
 
@@ -275,27 +275,26 @@ Took1 subject joined first since took_so taken_so up takes.Ended new = ⊥
 take_by : (subject joined : List ℕ) (first since : List Operation) (took_so : List ℕ) (taken_so : ℕ) (up : Bool)
     (seen : Seen)
     → (q : Quiet subject joined first since took_so taken_so up seen) → (queue : List Message)
-        → drop taken_so (messages 1 since) ≡ queue
+    → drop taken_so (messages 1 since) ≡ queue
     → Took1 subject joined first since took_so taken_so up
     (take_reply (state q.mux q.noise (receiving up q.opened subject q.puts queue q.unread q.waiting)).parts 1)
     (seen_all (state q.mux q.noise (receiving up q.opened subject q.puts queue q.unread q.waiting))
-        (own_steps (state q.mux q.noise (receiving up q.opened subject q.puts queue q.unread q.waiting)).parts
-            (turns.Take 1)))
+    (own_steps (state q.mux q.noise (receiving up q.opened subject q.puts queue q.unread q.waiting)).parts
+    (turns.Take 1)))
 take_by subject joined first since took_so taken_so up seen q [] is =
     let s = state q.mux q.noise (receiving up q.opened subject q.puts [] q.unread q.waiting) in
     let none = take_none q.mux subject q.noise up q.opened q.puts q.unread q.waiting in
     let same : seen ≡ s = q.is
-        ∙ ap (λ (queue : List Message). state q.mux q.noise
-            (receiving up q.opened subject q.puts queue q.unread q.waiting)) is in
+    ∙ ap (λ (queue : List Message). state q.mux q.noise
+    (receiving up q.opened subject q.puts queue q.unread q.waiting)) is in
     subst (λ (r : TakeReply). Took1 subject joined first since took_so taken_so up r (seen_all s (took_step 1 r)))
-        (sym none) (
+    (sym none) (
       subst (Quiet subject joined first since took_so taken_so up) same q,
       omega (arith, q.fits, sym (length-drop taken_so (messages 1 since)) ∙ ap length is),
     )
 take_by subject joined first since took_so taken_so up seen q (m ∷ more) is =
     let later : drop (taken_so + 1) (messages 1 since) ≡ more =
-        sym (drop-drop 1 taken_so (messages 1 since)) ∙ ap (drop 1) is in
-    (
+    sym (drop-drop 1 taken_so (messages 1 since)) ∙ ap (drop 1) is in (
       record {
         mux = q.mux;
         noise = record q.noise
@@ -306,9 +305,11 @@ take_by subject joined first since took_so taken_so up seen q (m ∷ more) is =
         waiting = q.waiting;
         is = took_state q.mux subject q.noise up q.opened q.puts m more q.unread q.waiting
             ∙ ap (λ (queue : List Message). state q.mux
-                (record q.noise { statistics = statistics_after (default_config q.mux) (history.took 1)
-                    q.noise.statistics })
-                (receiving up q.opened subject q.puts queue q.unread q.waiting)) (sym later);
+            (record q.noise {
+              statistics = statistics_after (default_config q.mux) (history.took 1)
+                  q.noise.statistics;
+            })
+            (receiving up q.opened subject q.puts queue q.unread q.waiting)) (sym later);
         all = q.all;
         fits = omega (arith, q.fits, sym (length-drop taken_so (messages 1 since)) ∙ ap length is);
         fresh = q.fresh;
@@ -323,9 +324,9 @@ pub quiet_take : (subject joined : List ℕ) (first since : List Operation) (too
     (up : Bool) (seen : Seen)
     → Quiet subject joined first since took_so taken_so up seen
     → Took1 subject joined first since took_so taken_so up (take_reply seen.parts 1)
-        (seen_all seen (own_steps seen.parts (turns.Take 1)))
+    (seen_all seen (own_steps seen.parts (turns.Take 1)))
 quiet_take subject joined first since took_so taken_so up seen q =
     subst (λ (s : Seen). Took1 subject joined first since took_so taken_so up (take_reply s.parts 1)
-        (seen_all s (own_steps s.parts (turns.Take 1))))
+    (seen_all s (own_steps s.parts (turns.Take 1))))
     (sym q.is)
     (take_by subject joined first since took_so taken_so up seen q (drop taken_so (messages 1 since)) refl)

@@ -53,11 +53,11 @@ sub_refused : (mux : List ℕ) (n : Noise) (up : Bool) (unread waiting subject :
     → refusal (state mux n (begun up unread waiting)).parts (call.Subscribe subject None) ≡ refused_by may
 sub_refused mux n up unread waiting subject true is =
     ap (λ (b : Bool). if not b then Some replies.InvalidSubject else
-        (if nat_lt n.most 0 then Some (replies.MaxPayloadExceeded n.most 0) else None)) is
+    (if nat_lt n.most 0 then Some (replies.MaxPayloadExceeded n.most 0) else None)) is
     ∙ ap (λ (b : Bool). if b then Some (replies.MaxPayloadExceeded n.most 0) else None) (le-ltb n.most 0 (omega arith))
 sub_refused mux n up unread waiting subject false is =
     ap (λ (b : Bool). if not b then Some replies.InvalidSubject else
-        (if nat_lt n.most 0 then Some (replies.MaxPayloadExceeded n.most 0) else None)) is
+    (if nat_lt n.most 0 then Some (replies.MaxPayloadExceeded n.most 0) else None)) is
 
 sub_text_is : (subject waiting : List ℕ) (first : List Operation) → waiting ≡ pongs first
     → waiting ++ sub_text subject ≡ subscribed_text subject first []
@@ -67,7 +67,7 @@ sub_text_is subject waiting first is =
 
 sub_accepted : (most : ℕ) (joined subject : List ℕ) (seen : Seen) (b : HasBegun most joined seen)
     → Quiet subject joined (operations joined) [] [] 0 b.up
-        (seen_after seen (history.accepted (call.Subscribe subject None)))
+    (seen_after seen (history.accepted (call.Subscribe subject None)))
 sub_accepted most joined subject seen b = record {
   mux = b.mux;
   noise = noise_accepted b.mux (call.Subscribe subject None) b.noise;
@@ -96,15 +96,15 @@ subscribes_by : (most : ℕ) (joined subject : List ℕ) (seen : Seen) → HasBe
     → is_valid subject ≡ may
     → (r : Option CallReply) → r ≡ refused_by may
     → Subscribes joined subject
-        (subscribe_answer (answers.Call (reply_by r (accepted_reply seen.parts (call.Subscribe subject None))))) seen
+    (subscribe_answer (answers.Call (reply_by r (accepted_reply seen.parts (call.Subscribe subject None))))) seen
     (subbed r subject seen)
 subscribes_by most joined subject seen b true may_is r is =
     let next = seen_after seen (history.accepted (call.Subscribe subject None)) in
     let quiet = quiet_all subject joined (operations joined) [] [] 0 b.up next
-        (sub_accepted most joined subject seen b) in
+    (sub_accepted most joined subject seen b) in
     subst (λ (x : Option CallReply). Subscribes joined subject
-        (subscribe_answer (answers.Call (reply_by x (accepted_reply seen.parts (call.Subscribe subject None))))) seen
-            (subbed x subject seen))
+    (subscribe_answer (answers.Call (reply_by x (accepted_reply seen.parts (call.Subscribe subject None))))) seen
+    (subbed x subject seen))
     (sym is) (
       quiet_up subject joined (operations joined) [] [] 0 b.up (all_due next) quiet
           ∙ sym (ap (λ (s : Seen). s.parts.link.is_up) b.is),
@@ -113,8 +113,8 @@ subscribes_by most joined subject seen b true may_is r is =
     )
 subscribes_by most joined subject seen b false may_is r is =
     subst (λ (x : Option CallReply). Subscribes joined subject
-        (subscribe_answer (answers.Call (reply_by x (accepted_reply seen.parts (call.Subscribe subject None))))) seen
-            (subbed x subject seen))
+    (subscribe_answer (answers.Call (reply_by x (accepted_reply seen.parts (call.Subscribe subject None))))) seen
+    (subbed x subject seen))
     (sym is) (refl, may_is)
 
 pub subscribes : (most : ℕ) (joined subject : List ℕ) (seen : Seen) → HasBegun most joined seen
@@ -123,7 +123,7 @@ pub subscribes : (most : ℕ) (joined subject : List ℕ) (seen : Seen) → HasB
 subscribes most joined subject seen b =
     subscribes_by most joined subject seen b (is_valid subject) refl (refusal seen.parts (call.Subscribe subject None))
     (ap (λ (s : Seen). refusal s.parts (call.Subscribe subject None)) b.is
-        ∙ sub_refused b.mux b.noise b.up b.unread b.waiting subject (is_valid subject) refl)
+    ∙ sub_refused b.mux b.noise b.up b.unread b.waiting subject (is_valid subject) refl)
 
 -- ---- writing all that waits
 
@@ -162,7 +162,7 @@ pub writes_more : (subject joined : List ℕ) (first since : List Operation) (ha
     (was : Bool)
     (old new : Logged) (before w after : WriteTold) (n : ℕ)
     → WritesOn subject joined first since had taken head was old.session before w
-        → WritesWhole old w after (Ok (writes.Wrote n)) new
+    → WritesWhole old w after (Ok (writes.Wrote n)) new
     → WritesOn subject joined first since had taken head was new.session before after
 writes_more subject joined first since had taken head was old new before w after n on wrote =
     let same = none_played old.session on.receives.settled in
@@ -172,23 +172,23 @@ writes_more subject joined first since had taken head was old new before w after
     let q = up_quiet subject joined first since (had ++ on.more) taken old.session on.receives up in
     let next = seen_all old.session (own_steps old.session.parts (turns.Write n)) in
     let far = quiet_all subject joined first since ((had ++ on.more) ++ take n bytes) taken true next
-        (quiet_write subject joined first since (had ++ on.more) taken n old.session q fits) in
+    (quiet_write subject joined first since (had ++ on.more) taken n old.session q fits) in
     let is : new.session ≡ all_due next =
-        ap (λ (c : Logged). c.session) wrote.4
-        ∙ ap (λ (s : Seen). all_due (seen_all s (own_steps s.parts (turns.Write n)))) same in
+    ap (λ (c : Logged). c.session) wrote.4
+    ∙ ap (λ (s : Seen). all_due (seen_all s (own_steps s.parts (turns.Write n)))) same in
     let joins = append_assoc had on.more (take n bytes) in
     record {
       more = on.more ++ take n bytes;
       receives = subst (λ (s : Seen). Receives subject joined first since (had ++ (on.more ++ take n bytes)) taken s)
           (sym is)
           (subst (λ (t : List ℕ). Receives subject joined first since t taken (all_due next)) joins
-              (quiet_receives subject joined first since ((had ++ on.more) ++ take n bytes) taken true
-                  (all_due next) far (none_after_all next)));
+          (quiet_receives subject joined first since ((had ++ on.more) ++ take n bytes) taken true
+          (all_due next) far (none_after_all next)));
       wrote = subst (λ (t : List ℕ). Took t after)
           (append_assoc head (had ++ on.more) (take n bytes) ∙ ap (λ (t : List ℕ). head ++ t) joins)
           (took_more (head ++ (had ++ on.more)) (take n bytes) w after on.wrote
-              (wrote.3 ∙ ap (λ (s : Seen). record w
-                  { taken = append_known w.taken (take n s.parts.link.wire.waiting) }) same));
+          (wrote.3 ∙ ap (λ (s : Seen). record w
+          { taken = append_known w.taken (take n s.parts.link.wire.waiting) }) same));
       faults = omega (arith, on.faults, ap (λ (x : WriteTold). x.faults) wrote.3);
       over = λ down. absurd (true≢false
           (sym (quiet_up subject joined first since ((had ++ on.more) ++ take n bytes) taken true (all_due next) far)
@@ -206,29 +206,29 @@ opened_by mux subject n false puts queue unread none idle =
 
 idle_opened : (subject joined : List ℕ) (first since : List Operation) (took : List ℕ) (taken : ℕ) (seen : Seen)
     → (q : Quiet subject joined first since took taken true seen) → due seen.parts ≡ None
-        → seen.parts.link.wire.waiting ≡ []
+    → seen.parts.link.wire.waiting ≡ []
     → (q.opened ≡ true) × (took ≡ subscribed_text subject first since)
 idle_opened subject joined first since took taken seen q idle empty =
     let queue = drop taken (messages 1 since) in
     let facts = q.ups refl in
     let none : q.waiting ≡ [] = sym (ap (λ (s : Seen). s.parts.link.wire.waiting) q.is) ∙ empty in
     let is_opened = opened_by q.mux subject q.noise q.opened q.puts queue q.unread facts.0
-        (ap (λ (w : List ℕ). due
-            (state q.mux q.noise (receiving true q.opened subject q.puts queue q.unread w)).parts) (sym none)
-        ∙ (ap (λ (s : Seen). due s.parts) (sym q.is) ∙ idle)) in (
+    (ap (λ (w : List ℕ). due
+    (state q.mux q.noise (receiving true q.opened subject q.puts queue q.unread w)).parts) (sym none)
+    ∙ (ap (λ (s : Seen). due s.parts) (sym q.is) ∙ idle)) in (
       is_opened,
       sym (append-nil took)
-      ∙ (ap (λ (w : List ℕ). took ++ w)
+          ∙ (ap (λ (w : List ℕ). took ++ w)
           (ap (λ (b : Bool). [] ++ unasked b subject) (sym is_opened)
           ∙ ap (λ (w : List ℕ). w ++ unasked q.opened subject) (sym none))
-      ∙ facts.2),
+          ∙ facts.2),
     )
 
 pub writes_idle : (subject joined : List ℕ) (first since : List Operation) (had : List ℕ) (taken : ℕ) (head : List ℕ)
     (was : Bool)
     (old new : Logged) (before w after : WriteTold)
     → WritesOn subject joined first since had taken head was old.session before w
-        → WritesWhole old w after (Ok writes.Idle) new
+    → WritesWhole old w after (Ok writes.Idle) new
     → IsWritten subject joined first since had taken head was (Ok tt) new.session before after
 writes_idle subject joined first since had taken head was old new before w after on wrote =
     let same = none_played old.session on.receives.settled in
@@ -238,15 +238,15 @@ writes_idle subject joined first since had taken head was old new before w after
     let all = idle_opened subject joined first since (had ++ on.more) taken old.session q on.receives.settled empty in
     let is : new.session ≡ old.session = ap (λ (c : Logged). c.session) wrote.3 ∙ same in
     subst (λ (x : WriteTold). IsWritten subject joined first since had taken head was (Ok tt) new.session before x)
-        (sym wrote.2)
+    (sym wrote.2)
     (subst (λ (s : Seen). IsWritten subject joined first since had taken head was (Ok tt) s before w) (sym is)
-        (on.more, on.receives, on.wrote, on.faults, (λ it_is. all.1), on.over))
+    (on.more, on.receives, on.wrote, on.faults, (λ it_is. all.1), on.over))
 
 pub writes_lost : (subject joined : List ℕ) (first since : List Operation) (had : List ℕ) (taken : ℕ) (head : List ℕ)
     (was : Bool)
     (old new : Logged) (before w after : WriteTold)
     → WritesOn subject joined first since had taken head was old.session before w
-        → WritesWhole old w after (Ok writes.Lost) new
+    → WritesWhole old w after (Ok writes.Lost) new
     → IsWritten subject joined first since had taken head was (Ok tt) new.session before after
 writes_lost subject joined first since had taken head was old new before w after on wrote =
     let same = none_played old.session on.receives.settled in
@@ -254,10 +254,10 @@ writes_lost subject joined first since had taken head was old new before w after
     let q = up_quiet subject joined first since (had ++ on.more) taken old.session on.receives up in
     let next = seen_all old.session (own_steps old.session.parts turns.Lost) in
     let far = quiet_all subject joined first since (had ++ on.more) taken false next
-        (quiet_lost subject joined first since (had ++ on.more) taken old.session q) in
+    (quiet_lost subject joined first since (had ++ on.more) taken old.session q) in
     let is : new.session ≡ all_due next =
-        ap (λ (c : Logged). c.session) wrote.2
-        ∙ ap (λ (s : Seen). all_due (seen_all s (own_steps s.parts turns.Lost))) same in
+    ap (λ (c : Logged). c.session) wrote.2
+    ∙ ap (λ (s : Seen). all_due (seen_all s (own_steps s.parts turns.Lost))) same in
     let down = quiet_up subject joined first since (had ++ on.more) taken false (all_due next) far in
     let failed = failed_once w after wrote.1 in
     subst (λ (s : Seen). IsWritten subject joined first since had taken head was (Ok tt) s before after) (sym is) (
@@ -273,16 +273,16 @@ pub writes_gone : (subject joined : List ℕ) (first since : List Operation) (ha
     (was : Bool)
     (old new : Logged) (before w after : WriteTold)
     → WritesOn subject joined first since had taken head was old.session before w
-        → WritesWhole old w after (Ok writes.Gone) new
+    → WritesWhole old w after (Ok writes.Gone) new
     → IsWritten subject joined first since had taken head was (Ok tt) new.session before after
 writes_gone subject joined first since had taken head was old new before w after on wrote =
     let same = none_played old.session on.receives.settled in
     let down : old.session.parts.link.is_up ≡ false = ap (λ (s : Seen). s.parts.link.is_up) (sym same) ∙ wrote.0 in
     let is : new.session ≡ old.session = ap (λ (c : Logged). c.session) wrote.2 ∙ same in
     subst (λ (x : WriteTold). IsWritten subject joined first since had taken head was (Ok tt) new.session before x)
-        (sym wrote.1)
+    (sym wrote.1)
     (subst (λ (s : Seen). IsWritten subject joined first since had taken head was (Ok tt) s before w) (sym is)
-        (on.more, on.receives, on.wrote, on.faults, (λ it_is. absurd (false≢true (sym down ∙ it_is))), on.over))
+    (on.more, on.receives, on.wrote, on.faults, (λ it_is. absurd (false≢true (sym down ∙ it_is))), on.over))
 
 -- a write that is the last of them
 pub writes_done : (subject joined : List ℕ) (first since : List Operation) (had : List ℕ) (taken : ℕ) (head : List ℕ)
@@ -290,7 +290,7 @@ pub writes_done : (subject joined : List ℕ) (first since : List Operation) (ha
     (old new : Logged) (before w after : WriteTold) (once : WriteOnce)
     → (once ≡ writes.Idle) ⊎ ((once ≡ writes.Lost) ⊎ (once ≡ writes.Gone))
     → WritesOn subject joined first since had taken head was old.session before w
-        → WritesWhole old w after (Ok once) new
+    → WritesWhole old w after (Ok once) new
     → IsWritten subject joined first since had taken head was (Ok tt) new.session before after
 writes_done subject joined first since had taken head was old new before w after once (inl is) on wrote =
     writes_idle subject joined first since had taken head was old new before w after on
@@ -314,9 +314,9 @@ lines_more taken wanted left ms m before text fits is text_is =
     let rest = drop taken ms in
     let one : take 1 (drop k rest) ≡ m ∷ [] = ap (take 1) (drop-drop k taken ms) ∙ is in
     let line : flat_map message_line (take (k + 1) rest) ≡ flat_map message_line (take k rest) ++ message_line m =
-        ap (flat_map message_line) (take-add k 1 rest ∙ ap (λ (ms : List Message). take k rest ++ ms) one)
-        ∙ (flat_map-append message_line (take k rest) (m ∷ [])
-        ∙ ap (λ (t : List ℕ). flat_map message_line (take k rest) ++ t) (append-nil (message_line m))) in
+    ap (flat_map message_line) (take-add k 1 rest ∙ ap (λ (ms : List Message). take k rest ++ ms) one)
+    ∙ (flat_map-append message_line (take k rest) (m ∷ [])
+    ∙ ap (λ (t : List ℕ). flat_map message_line (take k rest) ++ t) (append-nil (message_line m))) in
     let count : k + 1 ≡ wanted - left = omega (arith, fits) in
     ap (λ (t : List ℕ). t ++ message_line m) text_is
     ∙ (append_assoc before (flat_map message_line (take k rest)) (message_line m)
@@ -326,7 +326,7 @@ lines_more taken wanted left ms m before text fits is text_is =
 pub printed_more : (taken more : ℕ) (ms : List Message) (before after : List ℕ)
     → before ≡ flat_map message_line (take taken ms)
     → after ≡ before ++ flat_map message_line (take more (drop taken ms))
-        → after ≡ flat_map message_line (take (taken + more) ms)
+    → after ≡ flat_map message_line (take (taken + more) ms)
 printed_more taken more ms before after was is =
     is
     ∙ (ap (λ (t : List ℕ). t ++ flat_map message_line (take more (drop taken ms))) was
@@ -340,7 +340,7 @@ takes_of r = Ok (message_in (answers.Take r))
 takes_by : (subject joined : List ℕ) (first since : List Operation) (had : List ℕ) (count : ℕ) (up : Bool)
     (r : TakeReply) (next : Seen)
     → Took1 subject joined first since had count up r next → TakesOne subject joined first since had count up
-        (takes_of r) (all_due next)
+    (takes_of r) (all_due next)
 takes_by subject joined first since had count up (takes.Message m) next took =
     let far = quiet_all subject joined first since had (count + 1) up next took.0 in (
       quiet_up subject joined first since had (count + 1) up (all_due next) far,
@@ -367,14 +367,13 @@ takes_reply subject joined first since had count old new reply receives plays =
     let is : new.session ≡ all_due next = settled_played old new (turns.Take 1) receives.settled plays.2 in
     let r = take_reply old.session.parts 1 in
     let up : receives.up ≡ old.session.parts.link.is_up = sym (ap (λ (s : Seen). s.parts.link.is_up) receives.is) in
-    let quiet = receives_quiet subject joined first since had count old.session receives in
-    (
+    let quiet = receives_quiet subject joined first since had count old.session receives in (
       r,
       settled_reply old (turns.Take 1) reply receives.settled plays.1,
       subst (TakesOne subject joined first since had count old.session.parts.link.is_up (takes_of r)) (sym is)
-      (subst (λ (b : Bool). TakesOne subject joined first since had count b (takes_of r) (all_due next)) up
+          (subst (λ (b : Bool). TakesOne subject joined first since had count b (takes_of r) (all_due next)) up
           (takes_by subject joined first since had count receives.up r next
-              (quiet_take subject joined first since had count receives.up old.session quiet))),
+          (quiet_take subject joined first since had count receives.up old.session quiet))),
     )
 
 -- what it comes to by its reply
@@ -385,13 +384,13 @@ pub took_one : (subject joined : List ℕ) (first since : List Operation) (had :
 took_one subject joined first since had count old new reply receives plays =
     let r = takes_reply subject joined first since had count old new reply receives plays in
     subst (λ (x : StepReply). TakesOne subject joined first since had count old.session.parts.link.is_up
-        (Ok (message_in x)) new.session)
+    (Ok (message_in x)) new.session)
     (sym r.1) r.2
 
 -- such a take may always come
 pub take_comes : (subject joined : List ℕ) (first since : List Operation) (had : List ℕ) (count : ℕ) (old : Logged)
     → Receives subject joined first since had count old.session
-        → is_valid_turn (all_due old.session).parts (turns.Take 1) ≡ true
+    → is_valid_turn (all_due old.session).parts (turns.Take 1) ≡ true
 take_comes subject joined first since had count old r =
     ap (λ (s : Seen). is_valid_turn s.parts (turns.Take 1)) (none_played old.session r.settled ∙ r.is)
 
@@ -428,10 +427,9 @@ takes_step subject joined first since had taken up wanted left less before text 
     let fits : suc less ≤ wanted = omega (arith, fewer, far.0) in
     let next : (taken + (wanted - left)) + 1 ≡ taken + (wanted - less) = omega (arith, fewer, far.0) in
     let queue = subst (λ (k : ℕ). take 1 (drop (taken + (wanted - k)) (messages 1 since)) ≡ m ∷ [])
-        (sym fewer) one.2 in
+    (sym fewer) one.2 in
     let so_far = subst (λ (k : ℕ). text ≡ before ++ flat_map message_line
-        (take (wanted - k) (drop taken (messages 1 since)))) (sym fewer) far.3 in
-    (
+    (take (wanted - k) (drop taken (messages 1 since)))) (sym fewer) far.3 in (
       omega (arith, fits),
       one.0 ∙ far.1,
       subst (λ (n : ℕ). Receives subject joined first since had n new) next one.1,
@@ -441,7 +439,7 @@ takes_step subject joined first since had taken up wanted left less before text 
 pub takes_end : (subject joined : List ℕ) (first since : List Operation) (had : List ℕ) (taken : ℕ) (up : Bool)
     (wanted left : ℕ)
     (before text : List ℕ) (old new : Seen) → TakesSoFar subject joined first since had taken up wanted before left
-        old text
+    old text
     → TakesOne subject joined first since had (taken + (wanted - left)) old.parts.link.is_up (Ok None) new
     → TakesAll subject joined first since had taken up wanted before (Ok left) new text
 takes_end subject joined first since had taken up wanted left before text old new far none =
@@ -450,11 +448,11 @@ takes_end subject joined first since had taken up wanted left before text old ne
 pub takes_done : (subject joined : List ℕ) (first since : List Operation) (had : List ℕ) (taken : ℕ) (up : Bool)
     (wanted left : ℕ)
     (before text : List ℕ) (seen : Seen) → left ≡ 0 → TakesSoFar subject joined first since had taken up wanted before
-        left seen text
+    left seen text
     → TakesAll subject joined first since had taken up wanted before (Ok 0) seen text
 takes_done subject joined first since had taken up wanted left before text seen none far =
     let all = subst (λ (k : ℕ). TakesSoFar subject joined first since had taken up wanted before k seen text) none far
-        in
+    in
     (all.0, all.1, all.2, all.3, inl refl)
 
 -- ---- reading a piece
@@ -509,24 +507,24 @@ nil_of (x ∷ xs) none = absurd (omega (arith, none))
 waits_none : (took waiting rest text : List ℕ) → took ++ (waiting ++ rest) ≡ text → took ≡ text → waiting ≡ []
 waits_none took waiting rest text is whole =
     nil_of waiting (omega
-        (arith, ap length is, ap length whole, length-append took (waiting ++ rest), length-append waiting rest))
+    (arith, ap length is, ap length whole, length-append took (waiting ++ rest), length-append waiting rest))
 
 -- and the subscription is open
 whole_opened : (subject joined : List ℕ) (first since : List Operation) (took : List ℕ) (taken : ℕ) (seen : Seen)
     → (r : Receives subject joined first since took taken seen) → r.up ≡ true
-        → took ≡ subscribed_text subject first since → r.opened ≡ true
+    → took ≡ subscribed_text subject first since → r.opened ≡ true
 whole_opened subject joined first since took taken seen r up whole =
     let queue = drop taken (messages 1 since) in
     let k = receiving r.up r.opened subject r.puts queue r.unread r.waiting in
     let none = waits_none took r.waiting (unasked r.opened subject) (subscribed_text subject first since)
-        (r.ups up).1 whole in
+    (r.ups up).1 whole in
     let idle = ap (λ (s : Seen). due s.parts) (sym r.is) ∙ r.settled in
     let there = nothing_there (front r.unread) r.mux r.noise k up idle refl in
     opened_by r.mux subject r.noise r.opened r.puts queue r.unread there
     (ap (λ (b : Bool). due (state r.mux r.noise (receiving b r.opened subject r.puts queue r.unread [])).parts)
-        (sym up)
+    (sym up)
     ∙ (ap (λ (w : List ℕ). due (state r.mux r.noise (receiving r.up r.opened subject r.puts queue r.unread w)).parts)
-        (sym none) ∙ idle))
+    (sym none) ∙ idle))
 
 -- a piece is read once all that waited was written and taken
 pub read_more : (subject joined : List ℕ) (first : List Operation) (taken : ℕ) (head buf : List ℕ) (n : ℕ)
@@ -547,15 +545,14 @@ read_more subject joined first taken head buf n old new r0 r after w far all who
     let short : length piece < 65536 = omega (arith, fits, length-take n buf) in
     let next = seen_all old.session (own_steps old.session.parts (turns.Piece piece)) in
     let heard = hearing_all subject (bytes ++ piece) first far.since far.took taken next
-        (hearing_fed subject bytes piece first far.since far.took taken old.session receives here is_opened all short) in
+    (hearing_fed subject bytes piece first far.since far.took taken old.session receives here is_opened all short) in
     let is : new.session ≡ all_due next =
-        ap (λ (c : Logged). c.session) read.4
-        ∙ ap (λ (s : Seen). all_due (seen_all s (own_steps s.parts (turns.Piece piece)))) same in
+    ap (λ (c : Logged). c.session) read.4
+    ∙ ap (λ (s : Seen). all_due (seen_all s (own_steps s.parts (turns.Piece piece)))) same in
     let joins = append_assoc joined far.bytes piece in
     let received = subst (λ (b : List ℕ). Receives subject b first heard.since far.took taken (all_due next)) joins
-        (hearing_receives subject (bytes ++ piece) first far.since far.took taken (all_due next) heard
-            (none_after_all next)) in
-    (
+    (hearing_receives subject (bytes ++ piece) first far.since far.took taken (all_due next) heard
+    (none_after_all next)) in (
       record {
         bytes = far.bytes ++ piece;
         since = heard.since;
@@ -567,7 +564,7 @@ read_more subject joined first taken head buf n old new r0 r after w far all who
         asked = inr (asked_by subject far.took first far.since whole);
         over = λ down. inr (inr (subst (λ (b : List ℕ). ends_in_fault b ≡ true) joins
             (hearing_over subject (bytes ++ piece) first far.since far.took taken (all_due next) heard
-                (ap (λ (s : Seen). s.parts.link.is_up) (sym is) ∙ down))));
+            (ap (λ (s : Seen). s.parts.link.is_up) (sym is) ∙ down))));
       },
       heard.more,
       heard.grew,
@@ -586,11 +583,10 @@ read_lost subject joined first taken head buf old new r0 r after w far read =
     let q = up_quiet subject bytes first far.since far.took taken old.session receives up in
     let next = seen_all old.session (own_steps old.session.parts turns.Lost) in
     let quiet = quiet_all subject bytes first far.since far.took taken false next
-        (quiet_lost subject bytes first far.since far.took taken old.session q) in
+    (quiet_lost subject bytes first far.since far.took taken old.session q) in
     let is : new.session ≡ all_due next =
-        ap (λ (c : Logged). c.session) read.2
-        ∙ ap (λ (s : Seen). all_due (seen_all s (own_steps s.parts turns.Lost))) same in
-    (
+    ap (λ (c : Logged). c.session) read.2
+    ∙ ap (λ (s : Seen). all_due (seen_all s (own_steps s.parts turns.Lost))) same in (
       record {
         bytes = far.bytes;
         since = far.since;
@@ -598,7 +594,7 @@ read_lost subject joined first taken head buf old new r0 r after w far read =
         gave = gave_none far.bytes r0 r after far.gave (same_pieces r after read.1);
         receives = subst (λ (s : Seen). Receives subject bytes first far.since far.took taken s) (sym is)
             (quiet_receives subject bytes first far.since far.took taken false (all_due next) quiet
-                (none_after_all next));
+            (none_after_all next));
         wrote = far.wrote;
         asked = far.asked;
         over = λ down. gives_over bytes r after w read.1;
@@ -613,9 +609,9 @@ pub printed_same : (taken : ℕ) (since more later : List Operation) (text : Lis
 printed_same taken since more later text fits is text_is =
     text_is
     ∙ ap (flat_map message_line)
-        (sym (ap (λ (ops : List Operation). take taken (messages 1 ops)) is
-        ∙ (ap (take taken) (messages_more 1 since more) ∙ take-append-le taken (messages 1 since)
-            (messages 1 more) fits)))
+    (sym (ap (λ (ops : List Operation). take taken (messages 1 ops)) is
+    ∙ (ap (take taken) (messages_more 1 since more) ∙ take-append-le taken (messages 1 since)
+    (messages 1 more) fits)))
 
 -- ---- what was written, while receiving
 
@@ -646,7 +642,7 @@ over_more joined r before after was le over (inr failed) = inl (omega (arith, fa
 -- a subscribe that was played
 pub subscribed_by : (most : ℕ) (joined subject : List ℕ) (old new : Logged) (text : List ℕ) (reply : StepReply)
     → HasBegun most joined old.session → text ≡ subject → PlaysWhole old (turns.Do (call.Subscribe text None))
-        (Ok reply) new
+    (Ok reply) new
     → Subscribes joined subject (subscribe_answer reply) old.session new.session
 subscribed_by most joined subject old new text reply b is plays =
     let turn = turns.Do (call.Subscribe subject None) in
@@ -654,6 +650,6 @@ subscribed_by most joined subject old new text reply b is plays =
     subst (λ (s : Seen). Subscribes joined subject (subscribe_answer reply) old.session s)
     (sym (settled_played old new turn b.settled here.2))
     (subst (λ (r : StepReply). Subscribes joined subject (subscribe_answer r) old.session
-            (all_due (seen_all old.session (own_steps old.session.parts turn))))
-        (sym (settled_reply old turn reply b.settled here.1))
-        (subscribes most joined subject old.session b))
+    (all_due (seen_all old.session (own_steps old.session.parts turn))))
+    (sym (settled_reply old turn reply b.settled here.1))
+    (subscribes most joined subject old.session b))

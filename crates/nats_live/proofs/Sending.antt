@@ -95,7 +95,7 @@ publish_handled text took mux n phase m unread waiting flushed seen same e kind 
   ups = λ up. (
     e,
     ap (λ (u : List ℕ). took ++ ((waiting ++ publish_text m) ++ u)) none
-    ∙ (ap (λ (w : List ℕ). took ++ w) (append-nil (waiting ++ publish_text m)) ∙ is),
+        ∙ (ap (λ (w : List ℕ). took ++ w) (append-nil (waiting ++ publish_text m)) ∙ is),
   );
   downs = λ down. absurd (true≢false down);
 }
@@ -133,7 +133,7 @@ going_round text took flushed true seen g =
     let room = nat_lt (length g.waiting) write_limit in
     subst (Going text took flushed true)
     (sym (ap due_round g.is ∙ (round_up g.mux g.noise k refl
-        ∙ ap (λ (f : Front). round_by f (state g.mux g.noise k)) facts.0)))
+    ∙ ap (λ (f : Front). round_by f (state g.mux g.noise k)) facts.0)))
     (going_called text took g.mux g.noise room g.phase g.unread g.waiting flushed facts.0 g.kind g.fits facts.1)
 going_round text took flushed false seen g =
     let k = at_phase g.phase false g.unread g.waiting in
@@ -157,7 +157,7 @@ pub split_text : (took w u : List ℕ) (k : ℕ) → (took ++ take k w) ++ (drop
 split_text took w u k =
     append_assoc took (take k w) (drop k w ++ u)
     ∙ ap (λ (t : List ℕ). took ++ t)
-        (sym (append_assoc (take k w) (drop k w) u) ∙ ap (λ (t : List ℕ). t ++ u) (take-append-drop k w))
+    (sym (append_assoc (take k w) (drop k w) u) ∙ ap (λ (t : List ℕ). t ++ u) (take-append-drop k w))
 
 abbrev pub noise_taken : List ℕ → ℕ → Noise → Noise
 noise_taken mux k n = record {
@@ -202,12 +202,12 @@ reached mux n unread waiting k ahead b = state mux n (record {
 taken_awaiting : (text took mux : List ℕ) (n : Noise) (unread waiting : List ℕ) (k : ℕ) → front unread ≡ unfinished
     → took ++ (waiting ++ []) ≡ text
     → Going text (took ++ take k waiting) true true
-        (seen_after (state mux n (at_phase flush_awaits true unread waiting)) (taken k))
+    (seen_after (state mux n (at_phase flush_awaits true unread waiting)) (taken k))
 taken_awaiting text took mux n unread waiting k e is = by (nat_le (length waiting) k) refl
   where
     by : (b : Bool) → nat_le (length waiting) k ≡ b
         → Going text (took ++ take k waiting) true true
-            (seen_after (state mux n (at_phase flush_awaits true unread waiting)) (taken k))
+        (seen_after (state mux n (at_phase flush_awaits true unread waiting)) (taken k))
     by true le =
         taken_plain text took mux n flush_done unread waiting k
         (seen_after (state mux n (at_phase flush_awaits true unread waiting)) (taken k))
@@ -224,7 +224,7 @@ going_taken : (text took mux : List ℕ) (n : Noise) (phase : Phase) (unread wai
     → front unread ≡ unfinished
     → has_flush phase ≡ true → FitsPhase phase waiting → took ++ (waiting ++ unwritten_at phase) ≡ text
     → Going text (took ++ take k waiting) true true
-        (seen_after (state mux n (at_phase phase true unread waiting)) (taken k))
+    (seen_after (state mux n (at_phase phase true unread waiting)) (taken k))
 going_taken text took mux n (sending m) unread waiting k e kind fits is = absurd (false≢true kind)
 going_taken text took mux n sent unread waiting k e kind fits is = absurd (false≢true kind)
 going_taken text took mux n (both m) unread waiting k e kind fits is =
@@ -244,18 +244,18 @@ going_taken text took mux n flush_done unread waiting k e kind fits is =
 pub going_write : (text took : List ℕ) (n : ℕ) (seen : Seen) → Going text took true true seen
     → n ≤ length seen.parts.link.wire.waiting
     → Going text (took ++ take n seen.parts.link.wire.waiting) true true
-        (seen_all seen (own_steps seen.parts (turns.Write n)))
+    (seen_all seen (own_steps seen.parts (turns.Write n)))
 going_write text took n seen g le =
     let facts = g.ups refl in
     let k = at_phase g.phase true g.unread g.waiting in
     let fits : n ≤ length g.waiting = subst (λ (s : Seen). n ≤ length s.parts.link.wire.waiting) g.is le in
     let all : min n (length g.waiting) ≡ n = omega (arith, fits) in
     subst (λ (s : Seen). Going text (took ++ take n s.parts.link.wire.waiting) true true
-        (seen_all s (own_steps s.parts (turns.Write n))))
+    (seen_all s (own_steps s.parts (turns.Write n))))
     (sym g.is)
     (subst (λ (i : ℕ). Going text (took ++ take n g.waiting) true true (seen_after (state g.mux g.noise k) (taken i)))
-        (sym all)
-        (going_taken text took g.mux g.noise g.phase g.unread g.waiting n facts.0 g.kind g.fits facts.1))
+    (sym all)
+    (going_taken text took g.mux g.noise g.phase g.unread g.waiting n facts.0 g.kind g.fits facts.1))
 
 -- ---- the link ends
 
@@ -317,28 +317,35 @@ pub flushes_going : (text took : List ℕ) (up : Bool) (seen : Seen) → Going t
     → due seen.parts ≡ None
     → Flushes text took seen
 flushes_going text took up seen g none =
-    let here = going_up text took true up seen g in
-    (g.phase, has g.phase g.kind, record {
-      settled = none;
-      ups = λ it_is.
-          let is_up : up ≡ true = sym here ∙ it_is in (
-            g.mux,
-            g.noise,
-            g.unread,
-            g.waiting,
-            g.is ∙ ap (λ (b : Bool). state g.mux g.noise (at_phase g.phase b g.unread g.waiting)) is_up,
-            g.fits,
-            (g.ups is_up).1,
-          );
-      downs = λ down. none_flushed seen.ready (ap (λ (s : Seen). s.ready) g.is ∙ g.downs (sym here ∙ down));
-    })
+    let here = going_up text took true up seen g in (
+      g.phase,
+      has g.phase g.kind,
+      record {
+        settled = none;
+        ups = λ it_is.
+            let is_up : up ≡ true = sym here ∙ it_is in (
+              g.mux,
+              g.noise,
+              g.unread,
+              g.waiting,
+              g.is ∙ ap (λ (b : Bool). state g.mux g.noise (at_phase g.phase b g.unread g.waiting)) is_up,
+              g.fits,
+              (g.ups is_up).1,
+            );
+        downs = λ down. none_flushed seen.ready (ap (λ (s : Seen). s.ready) g.is ∙ g.downs (sym here ∙ down));
+      },
+    )
 
 pub flushes_off : (text took : List ℕ) (seen : Seen) → IsOff seen → Flushes text took seen
-flushes_off text took seen off = (flush_done, tt, record {
-  settled = off_due seen off.down;
-  ups = λ up. absurd (false≢true (sym off.down ∙ up));
-  downs = λ down. off.none;
-})
+flushes_off text took seen off = (
+  flush_done,
+  tt,
+  record {
+    settled = off_due seen off.down;
+    ups = λ up. absurd (false≢true (sym off.down ∙ up));
+    downs = λ down. off.none;
+  },
+)
 
 pub going_flushes : (text took : List ℕ) (seen : Seen) → Flushes text took seen → seen.parts.link.is_up ≡ true
     → Going text took true true seen

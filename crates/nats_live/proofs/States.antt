@@ -83,7 +83,7 @@ unasked : (sid : ℕ) (waiting : List ℕ) → written true (unsubscribe_command
     waiting ≡ waiting ++ []
 unasked sid waiting =
     ap (λ (o : Option Sub). written true (unsubscribe_command (is_closing_at o) sid None) waiting) (no_item sid)
-        ∙ sym (append-nil waiting)
+    ∙ sym (append-nil waiting)
 
 -- such a session by what an operation may change of it
 abbrev begun_with : List ℕ → Noise → List Sub → List (ℕ × List ℕ) → List (ℕ × CallReply) → List ℕ → List ℕ → Seen
@@ -106,17 +106,17 @@ begun_read mux n unread waiting (message sid m) k = λ i. begun_with mux (noise_
     (push_all (none_settled (message sid m) i) []) (past (front unread) unread) (unasked sid waiting i)
 begun_read mux n unread waiting (info_op info) k =
     ap (λ (w : List ℕ). state mux (noise_read mux [] (info_op info) n) (begun true (past (front unread) unread) w))
-        (sym (append-nil waiting))
+    (sym (append-nil waiting))
 begun_read mux n unread waiting (error_op e) k =
     ap (λ (w : List ℕ). state mux (noise_read mux [] (error_op e) n) (begun true (past (front unread) unread) w))
-        (sym (append-nil waiting))
+    (sym (append-nil waiting))
 begun_read mux n unread waiting ok_op k =
     ap (λ (w : List ℕ). state mux (noise_read mux [] ok_op n) (begun true (past (front unread) unread) w))
-        (sym (append-nil waiting))
+    (sym (append-nil waiting))
 begun_read mux n unread waiting ping_op k = refl
 begun_read mux n unread waiting pong_op k =
     ap (λ (w : List ℕ). state mux (noise_read mux [] pong_op n) (begun true (past (front unread) unread) w))
-        (sym (append-nil waiting))
+    (sym (append-nil waiting))
 
 abbrev pub noise_end : List ℕ → Noise → Noise
 noise_end mux n = record {

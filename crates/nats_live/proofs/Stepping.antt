@@ -55,18 +55,24 @@ pub writes_once : (old core mid new : Logged) (before after : WriteTold) (up : B
     → WritesWhole old before after (Ok once) new
 writes_once old core mid new before after up (writes.Wrote n) is told it_is wrote caught =
     subst (λ (c : Logged). Writes c before after (Ok (writes.Wrote n)) mid → WritesWhole old before after
-        (Ok (writes.Wrote n)) new) (sym is)
-    (λ w. (up_of old core up is told ∙ it_is, w.0, w.1, w.2, caught ∙ caught_due
-        (played (turns.Write n) (caught_up old)) mid w.3)) wrote
+    (Ok (writes.Wrote n)) new) (sym is)
+    (λ w. (
+      up_of old core up is told ∙ it_is,
+      w.0,
+      w.1,
+      w.2,
+      caught ∙ caught_due
+          (played (turns.Write n) (caught_up old)) mid w.3,
+    )) wrote
 writes_once old core mid new before after up writes.Idle is told it_is wrote caught =
     subst (λ (c : Logged). Writes c before after (Ok writes.Idle) mid → WritesWhole old before after (Ok writes.Idle)
-        new) (sym is)
+    new) (sym is)
     (λ w. (up_of old core up is told ∙ it_is, w.0, w.1, caught ∙ (ap caught_up w.2 ∙ caught_twice old))) wrote
 writes_once old core mid new before after up writes.Lost is told it_is wrote caught =
     subst (λ (c : Logged). Writes c before after (Ok writes.Lost) mid → WritesWhole old before after (Ok writes.Lost)
-        new) (sym is)
+    new) (sym is)
     (λ w. (up_of old core up is told ∙ it_is, w.1, caught ∙ caught_due (played turns.Lost (caught_up old)) mid w.2))
-        wrote
+    wrote
 writes_once old core mid new before after up writes.Gone is told it_is wrote caught = absurd wrote
 
 pub writes_wanting : (old new : Logged) (before after : WriteTold) (r : Result WriteOnce NoMemory) → IsErr r
@@ -85,12 +91,18 @@ pub reads_once : (old core mid new : Logged) (buf : List ℕ) (before after : Re
     → ReadsWhole old buf before after (Ok once) new
 reads_once old core mid new buf before after up (reads.Played n) is told it_is read caught =
     subst (λ (c : Logged). Reads c buf before after (Ok (reads.Played n)) mid → ReadsWhole old buf before after
-        (Ok (reads.Played n)) new) (sym is)
-    (λ r. (up_of old core up is told ∙ it_is, r.0, r.1, r.2, caught ∙ caught_due
-        (played (turns.Piece (take n buf)) (caught_up old)) mid r.4)) read
+    (Ok (reads.Played n)) new) (sym is)
+    (λ r. (
+      up_of old core up is told ∙ it_is,
+      r.0,
+      r.1,
+      r.2,
+      caught ∙ caught_due
+          (played (turns.Piece (take n buf)) (caught_up old)) mid r.4,
+    )) read
 reads_once old core mid new buf before after up reads.Lost is told it_is read caught =
     subst (λ (c : Logged). Reads c buf before after (Ok reads.Lost) mid → ReadsWhole old buf before after
-        (Ok reads.Lost) new) (sym is)
+    (Ok reads.Lost) new) (sym is)
     (λ r. (up_of old core up is told ∙ it_is, r.0, caught ∙ caught_due (played turns.Lost (caught_up old)) mid r.1)) read
 reads_once old core mid new buf before after up reads.Gone is told it_is read caught = absurd read
 

@@ -428,5 +428,5 @@ ReceivedOver joined head subject n (Err (refused.Publish e)) r0 r w = ⊥
 ReceivedOver joined head subject n (Err (refused.Connect e)) r0 r w = ⊥
 ReceivedOver joined head subject n (Err refused.LinkEnded) r0 r w = ((r ≡ r0) × (ends_in_fault joined ≡ true))
     ⊎ ((far : CameSoFar subject joined head r0 r w) × (length (messages 1 far.since) < n)
-        × IsOver (joined ++ far.bytes) r w)
+    × IsOver (joined ++ far.bytes) r w)
 ReceivedOver joined head subject n (Err refused.NoMemory) r0 r w = Unit {0}

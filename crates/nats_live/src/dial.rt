@@ -11,9 +11,7 @@ ghost use Rattle.nats_live.specs.Pooled.{IsPoolOf};
 
 use crate::error::{LiveError, connect_refused};
 use nats_client::World;
-use nats_dial::{
-    ConnectError, ConnectErrorKind, ConnectOptions, Linked, Reach, try_connect,
-};
+use nats_dial::{ConnectError, ConnectErrorKind, ConnectOptions, Linked, Reach, try_connect};
 use nats_names::{AddrError, Cause, NoMemory};
 use nats_outside::seen;
 use nats_pool::{Pool, ServerAddr, ServerInfo};

@@ -72,9 +72,7 @@ pub fn publish<R: Wait, W: World>(
         mut write,
     } = dial(alloc, addr, world)?;
     let seed = seen::draw(world);
-    let result = publish_over(
-        rt, alloc, info, rest, seed, subject, payload, &mut write,
-    );
+    let result = publish_over(rt, alloc, info, rest, seed, subject, payload, &mut write);
     hand_back(world, read, write);
     result
 }

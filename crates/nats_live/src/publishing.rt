@@ -68,12 +68,7 @@ fn ticket_of(reply: StepReply) -> Result<u64, LiveError>
 }
 
 // Makes both calls, and answers the flush's ticket.
-fn submit(
-    alloc: Global,
-    core: &mut Core,
-    subject: &str,
-    payload: &[u8],
-) -> Result<u64, LiveError>
+fn submit(alloc: Global, core: &mut Core, subject: &str, payload: &[u8]) -> Result<u64, LiveError>
     ensures { (most : ℕ) (joined : List ℕ) → HasBegun most joined core.old.session
         → Accepts most joined subject.now payload.now result core.old.session core.new.session }
 {

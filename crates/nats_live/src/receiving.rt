@@ -182,13 +182,5 @@ pub(crate) fn receive_on<R: Wait, L: LinkRead, T: LinkWrite>(
     if !core.handler().is_up() {
         return Err(LiveError::LinkEnded);
     }
-    receive_all(
-        rt,
-        alloc,
-        core,
-        count,
-        read,
-        write,
-        buf.as_mut_slice(),
-    )
+    receive_all(rt, alloc, core, count, read, write, buf.as_mut_slice())
 }

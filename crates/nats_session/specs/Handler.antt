@@ -130,8 +130,10 @@ with_buffers wire seen = record seen { parts = record seen.parts { link = record
 -- one more operation was read
 abbrev pub counted : Seen → Seen
 counted seen =
-    record seen { parts = record seen.parts
-        { link = record seen.parts.link { reads = cut (suc seen.parts.link.reads) } } }
+    record seen {
+      parts = record seen.parts
+          { link = record seen.parts.link { reads = cut (suc seen.parts.link.reads) } };
+    }
 
 -- the first unread bytes are taken away, as one more operation was read
 abbrev pub read_past : ℕ → Seen → Seen
@@ -218,7 +220,7 @@ pong_read old = record old {
     link = record old.parts.link { pings = drop 1 old.parts.link.pings };
     subs =
         with_rows (change (drained_by (first old.parts.link.pings))
-            (λ sub. kept (altered alterations.End sub)) old.parts.subs.rows)
+        (λ sub. kept (altered alterations.End sub)) old.parts.subs.rows)
         old.parts.subs;
   };
 }
@@ -321,4 +323,4 @@ abbrev pub HandsReply : ℕ → Seen → Option CallReply → Seen → Type 0
 HandsReply ticket old reply new =
     (c : Config) (out : HandedOut) (h : History) → StandsFor c out h old
     → (reply ≡ reply_in ticket (without_all out.tickets (settled_tickets c h)))
-        × StandsFor c (handed_reply ticket reply out) h new
+    × StandsFor c (handed_reply ticket reply out) h new

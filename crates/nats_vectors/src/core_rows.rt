@@ -30,10 +30,7 @@ fn say_refusal(out: &mut Vec<u8>, error: StepError) -> Result<(), NoMemory> {
     }
 }
 
-fn say_outcome(
-    out: &mut Vec<u8>,
-    answer: &Result<StepReply, StepError>,
-) -> Result<(), NoMemory> {
+fn say_outcome(out: &mut Vec<u8>, answer: &Result<StepReply, StepError>) -> Result<(), NoMemory> {
     match answer {
         Ok(reply) => say_answer(out, reply),
         Err(error) => say_refusal(out, *error),

@@ -8,7 +8,8 @@ use std::sync::Wait;
 use std::test::Fail;
 
 /// What a new connection writes first, on default options.
-const OPENING: &str = "CONNECT {\"verbose\":false,\"pedantic\":false,\"jwt\":null,\"nkey\":null,\"sig\":null,\"name\":null,\
+const OPENING: &str =
+    "CONNECT {\"verbose\":false,\"pedantic\":false,\"jwt\":null,\"nkey\":null,\"sig\":null,\"name\":null,\
 \"echo\":true,\"lang\":\"rust\",\"version\":\"0.51.0\",\"protocol\":1,\"tls_required\":false,\"user\":null,\"pass\":null,\
 \"auth_token\":null,\"headers\":true,\"no_responders\":true}\r\nPING\r\n";
 
@@ -139,7 +140,12 @@ const ROWS: [Row; 14] = [
 
 // A world with one link that gives these texts, each by a read of its own, and fails at this read and this
 // write, counted from 1.
-fn in_memory(alloc: Global, gives: &[&str], read: u64, write: u64) -> Result<MemoryWorld, NoMemory> {
+fn in_memory(
+    alloc: Global,
+    gives: &[&str],
+    read: u64,
+    write: u64,
+) -> Result<MemoryWorld, NoMemory> {
     let mut text = Vec::new(alloc);
     let mut cuts = Vec::new(alloc);
     for piece in gives {
@@ -169,14 +175,7 @@ fn plays<R: Wait>(
     }
     let mut source = MemorySource::new(Vec::new(alloc), 1);
     let mut sink = MemorySink::new(alloc, 65_536);
-    let status = replay(
-        rt,
-        alloc,
-        words.as_slice(),
-        &mut source,
-        &mut sink,
-        world,
-    );
+    let status = replay(rt, alloc, words.as_slice(), &mut source, &mut sink, world);
     Ok((status, sink))
 }
 

@@ -74,11 +74,7 @@ fn say_printed(alloc: Global, out: &mut Vec<u8>, printed: &str) -> Result<(), No
 
 /// The same as `carried`, played by `replay` from the bytes of a script, and read out of the bytes that it writes
 /// alone: the replies to calls, then the commands of each link. Where it does not end with 0, what it writes.
-pub fn carried_through<R: Wait>(
-    rt: &R,
-    alloc: Global,
-    script: &str,
-) -> Result<Vec<u8>, NoMemory> {
+pub fn carried_through<R: Wait>(rt: &R, alloc: Global, script: &str) -> Result<Vec<u8>, NoMemory> {
     let mut words = Vec::new(alloc);
     words.push(String::from_str(alloc, "run")?)?;
     let bytes = Vec::from_slice(alloc, script.as_bytes())?;

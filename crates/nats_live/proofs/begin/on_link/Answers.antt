@@ -15,20 +15,20 @@ use Rattle.nats_live.proofs.begin.on_link.Goals as goal
 pub returns-clause-begun : goal.returns-clause-begun
 returns-clause-begun c =
     (up_begun c.in_ok-core.core c.play.new.core c.in_ok-core.ensures.0 c.args.info c.in_ok-play.field-0
-        c.in_ok-core.ensures.1
-        c.in_ok-play.ensures).0
+    c.in_ok-core.ensures.1
+    c.in_ok-play.ensures).0
 
 pub returns-clause-up : goal.returns-clause-up
 returns-clause-up c =
     (up_begun c.in_ok-core.core c.play.new.core c.in_ok-core.ensures.0 c.args.info c.in_ok-play.field-0
-        c.in_ok-core.ensures.1
-        c.in_ok-play.ensures).1
+    c.in_ok-core.ensures.1
+    c.in_ok-play.ensures).1
 
 pub returns-in_err-play-clause-err : goal.returns-in_err-play-clause-err
 returns-in_err-play-clause-err c =
     err_by (λ r. IfErr r (λ e. e ≡ refused.NoMemory)) (step_refused c.in_err-play.field-0.0)
     c.from_residual-in_err-play.result c.from_residual-in_err-play.ensures.0 c.from_residual-in_err-play.ensures.1
     (refused_play c.in_ok-core.core c.play.new.core (turns.Up c.args.info) c.in_err-play.field-0.0
-        (subst (λ (k : Logged). is_valid_turn (parts_in (caught_up k)) (turns.Up c.args.info) ≡ true)
-            (sym c.in_ok-core.ensures.1) refl)
-        c.in_err-play.ensures)
+    (subst (λ (k : Logged). is_valid_turn (parts_in (caught_up k)) (turns.Up c.args.info) ≡ true)
+    (sym c.in_ok-core.ensures.1) refl)
+    c.in_err-play.ensures)

@@ -18,10 +18,10 @@ returns-clause-onward g c =
 pub returns-clause-refused : goal.returns-clause-refused
 returns-clause-refused g c =
     rw c.connect_refused.ensures
-        (subst (λ (a : Seen). WhyNotDialed c.args.addr.now a (connect_refused c.in-Err.error)
-        (g.W.Reach.seen c.round.new.world))
-        c.draw-start.ensures.told
-        (not_dialed c.args.addr.now c.in_ok-server.server (g.W.Reach.seen c.draw-start.new.world)
-            (g.W.Reach.seen c.round.new.world)
-            c.in-Err.error (pool_told c.in_ok-pool.pool) (pool_told c.round.new.pool) c.in_ok-server.ensures.ok
-            (c.in-Err.ensures.failed c.in_ok-server.server c.in_ok-pool.ensures)))
+    (subst (λ (a : Seen). WhyNotDialed c.args.addr.now a (connect_refused c.in-Err.error)
+    (g.W.Reach.seen c.round.new.world))
+    c.draw-start.ensures.told
+    (not_dialed c.args.addr.now c.in_ok-server.server (g.W.Reach.seen c.draw-start.new.world)
+    (g.W.Reach.seen c.round.new.world)
+    c.in-Err.error (pool_told c.in_ok-pool.pool) (pool_told c.round.new.pool) c.in_ok-server.ensures.ok
+    (c.in-Err.ensures.failed c.in_ok-server.server c.in_ok-pool.ensures)))

@@ -20,7 +20,7 @@ returns-clause-refused g c =
     let l = c.in_ok-info.field-0 in
     let up = c.in_ok-info.ensures.up in
     not_received_clause c.args.addr.now l.info l.rest.items c.args.subject.now c.args.count
-        (g.W.Read.LinkRead.read_told l.read)
+    (g.W.Read.LinkRead.read_told l.read)
     (g.W.Read.LinkRead.read_told c.receive_over-result.new.read)
     (g.W.Write.LinkWrite.write_told l.write) (g.W.Write.LinkWrite.write_told c.receive_over-result.new.write)
     (g.W.Reach.seen c.args.world.now) (g.W.Reach.seen c.draw-seed.new.world) (g.W.Reach.seen c.hand_back.new.world)

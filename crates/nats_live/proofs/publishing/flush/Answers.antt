@@ -22,7 +22,7 @@ writes-preserved g c = record {
   far = λ text took head first flushes took_so.
       flush_step text head (parts_in c.args.core.now).link.is_up c.writes.core c.settled.new.core c.write_some.new.core
       (g.T.LinkWrite.write_told c.writes.write) (g.T.LinkWrite.write_told c.write_some.new.write)
-          c.in_ok-write_some-in-None-settled.field-0
+      c.in_ok-write_some-in-None-settled.field-0
       (subst (λ (t : ℕ). IsSettled t c.writes.core None c.settled.new.core) first c.in-None-settled.ensures)
       (c.writes.invariant.far text took head first flushes took_so) c.in_ok-write_some-in-None-settled.ensures;
 }
@@ -37,5 +37,5 @@ returns-in-Some-settled g c = λ text took head first flushes took_so.
 pub returns-in_err-write_some-in-None-settled : goal.returns-in_err-write_some-in-None-settled
 returns-in_err-write_some-in-None-settled g c = λ text took head first flushes took_so.
     err_by (λ r. FlushEnds (parts_in c.args.core.now).link.is_up (head ++ text) r
-        (g.T.LinkWrite.write_told c.write_some.new.write))
+    (g.T.LinkWrite.write_told c.write_some.new.write))
     refused.NoMemory c.from_residual.result c.from_residual.ensures.0 c.from_residual.ensures.1 tt

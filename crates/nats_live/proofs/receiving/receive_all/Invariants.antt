@@ -18,6 +18,6 @@ invariant-rounds g l = record {
       → Receives subject joined first [] [] 0 l.fn.core.session
       → IsTrue (parts_in l.fn.core).link.is_up → Took head (g.T.LinkWrite.write_told l.fn.write)
       → RoundsOn subject joined first head l.count l.wanted l.text.items l.core.session
-          (g.L.LinkRead.read_told l.fn.read)
+      (g.L.LinkRead.read_told l.fn.read)
       (g.L.LinkRead.read_told l.read) (g.T.LinkWrite.write_told l.write);
 }

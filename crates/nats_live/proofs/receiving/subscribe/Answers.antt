@@ -22,11 +22,11 @@ returns-in_err-reply c = λ most joined b.
     err_by F (step_refused c.in_err-reply.field-0.0) c.from_residual-in_err-reply.result
     c.from_residual-in_err-reply.ensures.0 c.from_residual-in_err-reply.ensures.1
     (subst (λ (e : LiveError). F (Err e))
-        (sym (refused_play c.args.core.now c.play.new.core
-            (turns.Do (call.Subscribe c.in_ok-from_text.field-0 None))
-            c.in_err-reply.field-0.0 refl c.in_err-reply.ensures)) tt)
+    (sym (refused_play c.args.core.now c.play.new.core
+    (turns.Do (call.Subscribe c.in_ok-from_text.field-0 None))
+    c.in_err-reply.field-0.0 refl c.in_err-reply.ensures)) tt)
 
 pub returns : goal.returns
 returns c = λ most joined b.
     rw c.subscribe_answer.ensures (subscribed_by most joined c.args.subject.now c.args.core.now c.play.new.core
-        c.in_ok-from_text.field-0 c.in_ok-reply.reply b c.in_ok-from_text.ensures c.in_ok-reply.ensures)
+    c.in_ok-from_text.field-0 c.in_ok-reply.reply b c.in_ok-from_text.ensures c.in_ok-reply.ensures)

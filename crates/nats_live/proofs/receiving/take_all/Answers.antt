@@ -10,7 +10,7 @@ pub takes-init : goal.takes-init
 takes-init c = record {
   far = λ subject joined took first since taken receives.
       takes_begin subject joined first since took taken c.args.wanted c.args.text.now.items c.args.core.now.session
-          receives;
+      receives;
 }
 
 pub takes-preserved : goal.takes-preserved
@@ -18,9 +18,9 @@ takes-preserved c = record {
   far = λ subject joined took first since taken receives.
       let far = c.takes.invariant.far subject joined took first since taken receives in
       takes_step subject joined first since took taken (parts_in c.args.core.now).link.is_up c.args.wanted
-          c.takes.left _
+      c.takes.left _
       c.args.text.now.items c.takes.text.items _ c.takes.core.session c.take_one.new.core.session c.in-Some.message
-          (omega arith) far
+      (omega arith) far
       (rw c.in-Some.is at (c.in_ok-message.ensures subject joined took first since _ far.2)) c.in_ok-print_taken-in-Some.ensures;
 }
 
@@ -41,6 +41,6 @@ pub returns-in_err-message : goal.returns-in_err-message
 returns-in_err-message c = λ subject joined took first since taken receives.
     let far = c.takes.invariant.far subject joined took first since taken receives in
     err_by (λ r. TakesAll subject joined first since took taken (parts_in c.args.core.now).link.is_up c.args.wanted
-        c.args.text.now.items r c.take_one.new.core.session c.takes.text.items)
+    c.args.text.now.items r c.take_one.new.core.session c.takes.text.items)
     c.in_err-message.field-0.0 c.from_residual.result c.from_residual.ensures.0 c.from_residual.ensures.1
     (c.in_err-message.ensures subject joined took first since _ far.2)

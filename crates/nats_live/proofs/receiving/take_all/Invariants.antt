@@ -11,7 +11,7 @@ invariant-takes l = record {
   far : (subject joined took : List ℕ) (first since : List Operation) (taken : ℕ)
       → Receives subject joined first since took taken l.fn.core.session
       → TakesSoFar subject joined first since took taken (parts_in l.fn.core).link.is_up l.wanted l.fn.text.items
-          l.left
+      l.left
       l.core.session l.text.items;
 }
 

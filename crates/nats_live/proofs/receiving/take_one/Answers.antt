@@ -11,13 +11,13 @@ use Rattle.nats_live.proofs.receiving.take_one.Goals as goal
 pub returns-in_err-reply : goal.returns-in_err-reply
 returns-in_err-reply c = λ subject joined took first since taken receives.
     err_by (λ r. TakesOne subject joined first since took taken (parts_in c.args.core.now).link.is_up r
-        c.play.new.core.session)
+    c.play.new.core.session)
     (step_refused c.in_err-reply.field-0.0) c.from_residual.result c.from_residual.ensures.0 c.from_residual.ensures.1
     (refused_play c.args.core.now c.play.new.core (turns.Take 1) c.in_err-reply.field-0.0
-        (take_comes subject joined first since took taken c.args.core.now receives) c.in_err-reply.ensures)
+    (take_comes subject joined first since took taken c.args.core.now receives) c.in_err-reply.ensures)
 
 pub returns : goal.returns
 returns c = λ subject joined took first since taken receives.
     rw c.message_in.ensures
-        (took_one subject joined first since took taken c.args.core.now c.play.new.core c.in_ok-reply.reply
-        receives c.in_ok-reply.ensures)
+    (took_one subject joined first since took taken c.args.core.now c.play.new.core c.in_ok-reply.reply
+    receives c.in_ok-reply.ensures)

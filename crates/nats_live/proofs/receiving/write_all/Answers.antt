@@ -10,7 +10,7 @@ writes-init g c = record {
   finite = search rules;
   far = λ subject joined took head first since taken receives wrote.
       writes_begin subject joined first since took taken head c.args.core.now.session
-          (g.T.LinkWrite.write_told c.args.write.now)
+      (g.T.LinkWrite.write_told c.args.write.now)
       receives wrote;
 }
 
@@ -20,7 +20,7 @@ writes-preserved g c = record {
   finite = search rules;
   far = λ subject joined took head first since taken receives wrote.
       writes_more subject joined first since took taken head (parts_in c.args.core.now).link.is_up c.writes.core
-          c.write_some.new.core
+      c.write_some.new.core
       (g.T.LinkWrite.write_told c.args.write.now) (g.T.LinkWrite.write_told c.writes.write)
       (g.T.LinkWrite.write_told c.write_some.new.write) c.in-Wrote.field-0
       (c.writes.invariant.far subject joined took head first since taken receives wrote) (rw c.in-Wrote.is at c.in_ok-write_some.ensures);
@@ -29,7 +29,7 @@ writes-preserved g c = record {
 pub returns-in-Idle : goal.returns-in-Idle
 returns-in-Idle g c = λ subject joined took head first since taken receives wrote.
     writes_done subject joined first since took taken head (parts_in c.args.core.now).link.is_up c.writes.core
-        c.write_some.new.core
+    c.write_some.new.core
     (g.T.LinkWrite.write_told c.args.write.now) (g.T.LinkWrite.write_told c.writes.write)
     (g.T.LinkWrite.write_told c.write_some.new.write) c.in_ok-write_some.field-0 c.in-Idle.is
     (c.writes.invariant.far subject joined took head first since taken receives wrote) c.in_ok-write_some.ensures

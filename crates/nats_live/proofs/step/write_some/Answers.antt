@@ -16,5 +16,5 @@ returns-then-not-is_up g c = writes_gone c.args.core.now c.catch_up.new.self
 pub returns : goal.returns
 returns g c = writes_once c.args.core.now c.catch_up.new.self c.write_link.new.self c.catch_up-2.new.self
     (g.T.LinkWrite.write_told c.args.write.now) (g.T.LinkWrite.write_told c.write_link.new.out) c.is_up.result
-        c.in_ok-once.once
+    c.in_ok-once.once
     c.in_ok-catch_up.ensures.ok (c.is_up.ensures ∙ ap (λ (s : Seen). s.parts.link.is_up) c.handler.ensures.session) c.if-not-is_up.false c.in_ok-once.ensures c.in_ok-catch_up-2.ensures.ok

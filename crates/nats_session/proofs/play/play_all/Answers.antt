@@ -17,8 +17,8 @@ turns-init c = record {
 pub returns-then-not-is_valid : goal.returns-then-not-is_valid
 returns-then-not-is_valid c config parts sheet =
     stops_at config c.args.turns.now c.turns.index c.index-turns-index.result c.turns.handler.parts c.turns.draft
-        (c.turns.invariant.running config parts sheet) (omega (arith, c.turns-test.true)) c.index-turns-index.is
-        (sym c.is_valid.ensures ∙ c.if-not-is_valid.true)
+    (c.turns.invariant.running config parts sheet) (omega (arith, c.turns-test.true)) c.index-turns-index.is
+    (sym c.is_valid.ensures ∙ c.if-not-is_valid.true)
 
 pub turns-preserved : goal.turns-preserved
 turns-preserved c =
@@ -31,20 +31,20 @@ turns-preserved c =
       none = ap due moved ∙ none_left (own_parts turn p);
       running = λ config parts sheet.
           subst (λ i. Running config c.args.turns.now i c.play_turn.new.handler.parts c.play_turn.new.draft)
-              (sym (add-one c.turns.index))
-              (goes_on config c.args.turns.now c.turns.index turn p c.play_turn.new.handler.parts c.turns.draft
-                  c.play_turn.new.draft (c.turns.invariant.running config parts sheet)
-                  (omega (arith, c.turns-test.true)) c.index-turns-index.is
-                  (sym c.is_valid.ensures ∙ c.if-not-is_valid.false) moved
-                  (played.sheet ∙ ap (λ place. turn_sheet place turn p c.turns.draft) (add-one c.turns.index)));
+          (sym (add-one c.turns.index))
+          (goes_on config c.args.turns.now c.turns.index turn p c.play_turn.new.handler.parts c.turns.draft
+          c.play_turn.new.draft (c.turns.invariant.running config parts sheet)
+          (omega (arith, c.turns-test.true)) c.index-turns-index.is
+          (sym c.is_valid.ensures ∙ c.if-not-is_valid.false) moved
+          (played.sheet ∙ ap (λ place. turn_sheet place turn p c.turns.draft) (add-one c.turns.index)));
     }
 
 pub returns : goal.returns
 returns c config parts sheet =
     ends_at config c.args.turns.now c.turns.index c.turns.handler.parts c.turns.draft
-        (c.turns.invariant.running config parts sheet) (omega (arith, c.turns-test.false))
+    (c.turns.invariant.running config parts sheet) (omega (arith, c.turns-test.false))
 
 pub returns-in_err-play_turn : goal.returns-in_err-play_turn
 returns-in_err-play_turn c config parts sheet =
     wanted config c.args.turns.now c.from_residual.result c.play_turn.new.handler.parts
-        c.play_turn.new.draft c.from_residual.ensures
+    c.play_turn.new.draft c.from_residual.ensures

@@ -15,4 +15,4 @@ returns-in_err-finish-in-Ok c config parts =
 pub returns-in-Err : goal.returns-in-Err
 returns-in-Err c config parts =
     refused_so config c.args.turns.now c.in-Err.refused c.play_all.new.handler.parts c.play_all.new.draft
-        (c.in-Err.ensures config parts c.new-draft.ensures)
+    (c.in-Err.ensures config parts c.new-draft.ensures)
