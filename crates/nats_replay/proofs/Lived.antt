@@ -21,10 +21,10 @@ bulk_not_live (word ∷ number ∷ []) n is = refl
 bulk_not_live (word ∷ number ∷ third ∷ more) n is = cc
 
 publishes_live : (addr subject payload : List ℕ) → publishes addr subject payload ≢ others
-publishes_live addr subject payload = cc
+publishes_live addr subject payload = (λ is. cc)
 
 receives_live : (addr subject : List ℕ) (n : ℕ) → receives addr subject n ≢ others
-receives_live addr subject n = cc
+receives_live addr subject n = (λ is. cc)
 
 pub pub_live : (words : List (List ℕ)) (addr subject payload : List ℕ) → live_of words ≡ publishes addr subject payload
     → live_of words ≢ others
