@@ -1,4 +1,5 @@
-//! Reads addresses, one a line with its bytes spelled, and prints what each says: a table to compare with the crate's answers.
+//! Reads addresses, one a line with its bytes spelled, and prints what each says: a table to compare with the
+//! crate's answers.
 #![tactic(auto)]
 
 use nats_addr::{AddrError, ServerAddr};

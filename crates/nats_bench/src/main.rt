@@ -1,10 +1,11 @@
-//! Measures the session: a mixed list of turns is made in memory and played, and as many subscriptions are made and dropped
-//! again, one after another. `count N` prints what N turns showed and what N subscriptions left, `time N` how long they took.
-//! `links N` carries N subscriptions over N links and prints how long that took; `count N` does so with 20 at most. `flushes N`
-//! has N flushes wait behind one command and prints how long it took to settle and to hand out all; `requests N` makes N requests,
-//! a thousand of which wait at a time, and prints how long it took to answer all; `count N` does both too.
-//! `decode MIX N`, `encode MIX N` and `publish MIX N` measure the wire alone over N operations of a mix, `small`, `large`, `hmsg` or
-//! `mixed`; `count N` prints what each of these comes to, too.
+//! Measures the session: a mixed list of turns is made in memory and played, and as many subscriptions are made and
+//! dropped again, one after another. `count N` prints what N turns showed and what N subscriptions left, `time N`
+//! how long they took. `links N` carries N subscriptions over N links and prints how long that took; `count N` does
+//! so with 20 at most. `flushes N` has N flushes wait behind one command and prints how long it took to settle and
+//! to hand out all; `requests N` makes N requests, a thousand of which wait at a time, and prints how long it took
+//! to answer all; `count N` does both too. `decode MIX N`, `encode MIX N` and `publish MIX N` measure the wire
+//! alone over N operations of a mix, `small`, `large`, `hmsg` or `mixed`; `count N` prints what each of these comes
+//! to, too.
 #![tactic(auto)]
 
 ghost use Rattle.std.specs.Prelude.{◌≤◌, IfSome};

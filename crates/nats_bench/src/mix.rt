@@ -41,8 +41,8 @@ fn opening(alloc: Global) -> Result<Vec<Turn>, NoMemory> {
     Ok(turns)
 }
 
-/// The turns that then come round and round: a message for each subscription, which is taken at once, and at the end a take
-/// where none waits.
+/// The turns that then come round and round: a message for each subscription, which is taken at once, and at the
+/// end a take where none waits.
 fn round(alloc: Global) -> Result<Vec<Turn>, NoMemory>
     ensures { IfOk result (λ turns. 0 < length turns.items) }
 {
@@ -66,8 +66,8 @@ fn turn_at<'a>(opening: &'a [Turn], round: &'a [Turn], index: usize) -> &'a Turn
     }
 }
 
-/// The mixed list of `count` turns: the opening, then the round again and again, cut where it is long enough. Equal pieces
-/// share their bytes.
+/// The mixed list of `count` turns: the opening, then the round again and again, cut where it is long enough. Equal
+/// pieces share their bytes.
 pub fn mixed_turns(alloc: Global, count: usize) -> Result<Vec<Turn>, NoMemory>
     ensures { IfOk result (λ turns. length turns.items ≡ count) }
 {

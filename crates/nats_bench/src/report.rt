@@ -75,7 +75,8 @@ fn per_second(count: usize, elapsed: Duration) -> u128
     count as u128 * 1_000_000_000 / elapsed.as_nanos().max(1)
 }
 
-/// How many hundredths of `whole` a time is, cut at the greatest number; a `whole` of nothing is taken as one nanosecond.
+/// How many hundredths of `whole` a time is, cut at the greatest number; a `whole` of nothing is taken as one
+/// nanosecond.
 fn percent_of(whole: Duration, time: Duration) -> u128 {
     time.as_nanos().saturating_mul(100) / whole.as_nanos().max(1)
 }

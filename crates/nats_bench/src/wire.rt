@@ -160,7 +160,7 @@ impl Tally {
 /// Reads all that stands whole in the unread bytes.
 fn read_all(alloc: Global, connection: &mut Connection, tally: &mut Tally) -> Result<()> {
     for _ in 0..connection.unread() {
-        match connection.try_read_op(alloc)? {
+        match connection.read_op(alloc)? {
             Some(op) => tally.note(&op),
             None => return Ok(()),
         }

@@ -9,8 +9,8 @@ use Rattle.nats_block.specs.Lines.{cut_at, goes_on, joined}
 abbrev pub Pair : Type 0
 Pair = List ℕ × List ℕ
 
--- a field whose line is cut at its first colon, with the lines that go on with its value: white space at the value's start
--- counts in the first line alone, and white space at its end behind the last
+-- a field whose line is cut at its first colon, with the lines that go on with its value: white space at the
+-- value's start counts in the first line alone, and white space at its end behind the last
 abbrev pub tested : Pair → Option Pair
 tested field = if is_header_name field.0 && is_header_value field.1 then Some field else None
 
@@ -26,8 +26,8 @@ onto_fields (Some field) (Some fields) = Some (field ∷ fields)
 onto_fields (Some field) None = None
 onto_fields None fields = None
 
--- the fields of some lines, where `is_open` says that a field stands in the line before, or goes on there: an empty line is
--- skipped, a line that goes on belongs to the field before it, and each other line begins a field
+-- the fields of some lines, where `is_open` says that a field stands in the line before, or goes on there: an empty
+-- line is skipped, a line that goes on belongs to the field before it, and each other line begins a field
 abbrev pub fields_from : Bool → List (List ℕ) → Option (List Pair)
 fields_from is_open [] = Some []
 fields_from is_open (line ∷ lines) =

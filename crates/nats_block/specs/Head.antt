@@ -12,7 +12,8 @@ head_with None description = Some (record { status = None; description = descrip
 head_with (Some text) description =
     option_map (λ status. record { status = Some status; description = description }) (status_of text)
 
--- a text around its first space: the status before it and the description behind it, each without white space at its ends
+-- a text around its first space: the status before it and the description behind it, each without white space at
+-- its ends
 abbrev pub head_of_parts : List ℕ → Option (List ℕ × List ℕ) → Option Head
 head_of_parts text None = head_with (some_text text) None
 head_of_parts text (Some parts) = head_with (some_text (trim parts.0)) (some_text (trim parts.1))

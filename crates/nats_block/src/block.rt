@@ -38,14 +38,15 @@ fn read_text(alloc: Global, text: &str) -> Result<Block, BlockError>
     })
 }
 
-/// Reads the header block of a message, by the NATS protocol: a line `NATS/1.0`, perhaps with a status of three digits and a
-/// description, then lines `Name: value`. It ends with the last byte; the empty line that ends a block may be missing.
+/// Reads the header block of a message, by the NATS protocol: a line `NATS/1.0`, perhaps with a status of three
+/// digits and a description, then lines `Name: value`. It ends with the last byte; the empty line that ends a block
+/// may be missing.
 ///
 /// # Errors
 ///
-/// `Malformed` exactly where the bytes aren't UTF-8, no line stands there, the first line has another version or a bad status,
-/// or another line that isn't empty has no colon, no name of a header before it or a CR within its value. `NoMemory` for want of
-/// memory.
+/// `Malformed` exactly where the bytes aren't UTF-8, no line stands there, the first line has another version or a
+/// bad status, or another line that isn't empty has no colon, no name of a header before it or a CR within its
+/// value. `NoMemory` for want of memory.
 pub fn read_block(alloc: Global, block: &[u8]) -> Result<Block, BlockError>
     ensures { Gives (block_of block.now) result }
 {

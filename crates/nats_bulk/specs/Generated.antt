@@ -1,4 +1,5 @@
--- A list of turns made by a rule: a link comes up, two subscriptions are made, and then eight kinds of turns come round and round.
+-- A list of turns made by a rule: a link comes up, two subscriptions are made, and then eight kinds of turns come
+-- round and round.
 use Rattle.std.specs.Prelude.{ℕ, zero, suc, ◌==◌, ◌%◌, false, List, [], ◌∷◌, ◌++◌, length, None, codes, decimal, if◌then◌else◌}
 use Rattle.nats_info.specs.Info.{default_info}
 use Rattle.nats_history.specs.declared.config.Config.{Config}
@@ -45,7 +46,9 @@ abbrev pub turn_at : ℕ → Turn
 turn_at k = turn_by (k % 8) k
 
 abbrev pub opening : List Turn
-opening = Up (record default_info { max_payload = 1048576 }) ∷ subscribing_to (codes "bulk.a") ∷ subscribing_to (codes "bulk.b") ∷ []
+opening =
+    Up (record default_info { max_payload = 1048576 }) ∷ subscribing_to (codes "bulk.a")
+    ∷ subscribing_to (codes "bulk.b") ∷ []
 
 -- the opening, and a turn of each number up to this
 abbrev pub generated : ℕ → List Turn

@@ -67,11 +67,13 @@ line word n = word ++ (codes " " ++ (decimal n ++ codes "\n"))
 
 abbrev pub first_lines : Figures → List ℕ
 first_lines f =
-    ((line (codes "turns") f.turns ++ line (codes "calls") f.calls) ++ line (codes "puts") f.puts) ++ line (codes "takes") f.takes
+    ((line (codes "turns") f.turns ++ line (codes "calls") f.calls) ++ line (codes "puts") f.puts)
+    ++ line (codes "takes") f.takes
 
 abbrev pub figures_text : Figures → List ℕ
 figures_text f =
-    (((first_lines f ++ line (codes "drops") f.drops) ++ line (codes "settled") f.settled) ++ line (codes "out") f.taken)
+    (((first_lines f ++ line (codes "drops") f.drops) ++ line (codes "settled") f.settled)
+    ++ line (codes "out") f.taken)
     ++ line (codes "left") f.left
 
 -- the eight lines of so many turns with this transcript

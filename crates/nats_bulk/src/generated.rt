@@ -23,8 +23,8 @@ fn mux_id() -> Token
     }
 }
 
-/// The settings under which the list is played: 2,048 calls and 65,536 messages of a subscription may wait, and subjects are
-/// tested.
+/// The settings under which the list is played: 2,048 calls and 65,536 messages of a subscription may wait, and
+/// subjects are tested.
 pub fn bulk_config(alloc: Global) -> Result<Config, NoMemory>
     ensures { IfOk result (λ config. config ≡ words.bulk_config) }
 {
@@ -93,8 +93,9 @@ fn opening(alloc: Global) -> Result<Vec<Turn>, NoMemory>
     Ok(turns)
 }
 
-/// The list: a link comes up, two subscriptions are made, and then a turn for each number from 1 to `count`, of eight kinds that
-/// come round and round: a publish, a message and its take for each subscription, writes and a flush.
+/// The list: a link comes up, two subscriptions are made, and then a turn for each number from 1 to `count`, of
+/// eight kinds that come round and round: a publish, a message and its take for each subscription, writes and a
+/// flush.
 ///
 /// # Errors
 ///

@@ -1,5 +1,5 @@
-//! A long list of turns made by a rule, and what its transcript comes to in eight numbers: for measures of a session's speed and
-//! memory. The rule and the numbers are our own choice.
+//! A long list of turns made by a rule, and what its transcript comes to in eight numbers: for measures of a
+//! session's speed and memory. The rule and the numbers are our own choice.
 #![tactic(auto)]
 
 mod generated;

@@ -153,9 +153,9 @@ fn text_of(alloc: Global, figures: Figures) -> Result<String, NoMemory>
     Ok(out)
 }
 
-/// What a list of so many turns came to, eight lines of a word and a number each: `turns`; `calls`, those that were accepted;
-/// `puts`, messages that were put into queues; `takes`, those that a message answered; `drops`, messages that met a full queue;
-/// `settled` tickets; `out`, bytes that links took; `left`, bytes that they left.
+/// What a list of so many turns came to, eight lines of a word and a number each: `turns`; `calls`, those that were
+/// accepted; `puts`, messages that were put into queues; `takes`, those that a message answered; `drops`, messages
+/// that met a full queue; `settled` tickets; `out`, bytes that links took; `left`, bytes that they left.
 ///
 /// # Errors
 ///

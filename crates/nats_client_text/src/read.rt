@@ -41,10 +41,10 @@ pub struct ClientRead {
     pub end: ClientEnd,
 }
 
-/// The command at the front of `text`, for whoever reads what a client wrote: a test server, or an audit of a link. By
-/// the NATS client protocol as this library writes it: `PING`, `PONG`, `UNSUB`, `SUB`, `PUB` or `HPUB` in capitals, single
-/// spaces, numbers below 2^64 without leading zeros, CR LF behind the line and behind a body. A publish without a block
-/// has no headers; a block without lines is an empty map.
+/// The command at the front of `text`, for whoever reads what a client wrote: a test server, or an audit of a link.
+/// By the NATS client protocol as this library writes it: `PING`, `PONG`, `UNSUB`, `SUB`, `PUB` or `HPUB` in
+/// capitals, single spaces, numbers below 2^64 without leading zeros, CR LF behind the line and behind a body. A
+/// publish without a block has no headers; a block without lines is an empty map.
 ///
 /// `Unfinished` where no CR LF stands there, or less than a body and its CR LF behind a line that counts it; `Bad` for
 /// any other text that begins with no command. Own call.

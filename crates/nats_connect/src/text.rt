@@ -76,8 +76,8 @@ fn put_last(json: &mut Writer, info: &ConnectInfo) -> Result<(), NoMemory>
     Ok(())
 }
 
-/// The text of CONNECT: `CONNECT `, a JSON object without spaces whose fields stand in the protocol's order, and the end of
-/// the line. The NATS protocol.
+/// The text of CONNECT: `CONNECT `, a JSON object without spaces whose fields stand in the protocol's order, and
+/// the end of the line. The NATS protocol.
 pub fn connect_text(alloc: Global, info: &ConnectInfo) -> Result<Vec<u8>, NoMemory>
     ensures { IfOk result (λ text. text.items ≡ connect_text info.now) }
 {

@@ -41,7 +41,7 @@ impl Reader {
         self.connection.feed(alloc, piece).map_err(|_| no_memory())?;
         self.to_come = self.to_come.saturating_sub(piece.len());
         for _ in 0..self.connection.unread() {
-            match self.connection.try_read_op(alloc) {
+            match self.connection.read_op(alloc) {
                 Ok(Some(op)) => push_op(alloc, out, &op)?,
                 Ok(None) => break,
                 Err(WireError::ReadFault) => {

@@ -1,6 +1,6 @@
-//! Shows what the bytes of a server say. Without words it reads standard input as one server's bytes and prints a line for each
-//! operation and one for the end; `nats_decode decodes` reads many cases, each with the places where its bytes are cut into
-//! pieces. docs/DECODED.md says how cases and lines are spelled.
+//! Shows what the bytes of a server say. Without words it reads standard input as one server's bytes and prints a
+//! line for each operation and one for the end; `nats_decode decodes` reads many cases, each with the places where
+//! its bytes are cut into pieces. docs/DECODED.md says how cases and lines are spelled.
 #![tactic(auto)]
 
 mod cases;

@@ -1,5 +1,5 @@
-//! Bytes as one word of a line: 0x21 to 0x7D but `%` stand for themselves, any other is `%` and two digits, the empty text is
-//! `%`, and `~` is an absent one.
+//! Bytes as one word of a line: 0x21 to 0x7D but `%` stand for themselves, any other is `%` and two digits, the
+//! empty text is `%`, and `~` is an absent one.
 use nats_wire::Text;
 use percent_encoding::{AsciiSet, CONTROLS, percent_encode};
 use std::alloc::AllocError;

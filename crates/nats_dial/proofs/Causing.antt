@@ -26,7 +26,8 @@ use Rattle.nats_dial.specs.declared.linked.Linked.{Linked}
 use Rattle.nats_dial.specs.Lines.{Broke}
 use Rattle.nats_dial.specs.Taking.{TookIn}
 use Rattle.nats_pool.specs.Handing.{RoundTold, IsBegun, HandsNext, left_of, handed_on, told_of}
-use Rattle.nats_dial.specs.Tries.{Unreached, Notes, Tries, TriesEach, Asks, VisitsWhere, Visits, GoesThrough, Connects, ends_round, returned, undialed, rested, failure_text, no_address, no_websocket, unresolved, all_failed, too_many}
+use Rattle.nats_dial.specs.Tries.{Unreached, Notes, Tries, TriesEach, Asks, VisitsWhere, Visits, GoesThrough, Connects, ends_round, returned, undialed, upped, rested, IsUp, failure_text, no_address, no_websocket, unresolved, all_failed, too_many}
+use Rattle.nats_dial.specs.Began.{BeganRound, wants, began}
 use Rattle.nats_dial.specs.Causes.{Onward, EachDialed, LastGave, LinkCause, ServerCause, plain, sockets, HasTried, IsSpent, Why, RoundCause}
 use Rattle.nats_dial.proofs.Onwards.{onward_same, onward_on, dialed_on, one_each, is_fine, failed_word, ended_word, link_on, server_since, server_on}
 
@@ -44,7 +45,20 @@ gave_last None taken links text g = tt
 record GoesOn (tried : List Planned) (before after : RoundTold) : Type 0 where
   handed : after.handed ≡ before.handed + length tried
   round : after.round ≡ before.round
+  limit : after.limit ≡ before.limit
   attempts : after.attempts ≤ before.attempts + (plain tried + sockets tried) + 1
+
+up_onward : (to : SocketAddr) (start look : ℕ) (a : Seen) → Onward a (upped to start look a)
+up_onward to start look a = record {
+  dial_faults = omega arith;
+  ends = omega arith;
+  dials = omega arith;
+  ask_faults = omega arith;
+  empties = omega arith;
+  askings = omega arith;
+  given = omega arith;
+  starts = omega arith;
+}
 
 dial_onward : (to : SocketAddr) (start : ℕ) (a : Seen) → Onward a (undialed to start a)
 dial_onward to start a = record {
@@ -353,6 +367,7 @@ module _ {P R T : Type 0} (Takes : P → P → List (List ℕ) → Result (Unit 
                 record {
                   handed = omega (arith, on.handed, ap (λ (t : RoundTold). t.handed) to);
                   round = on.round ∙ ap (λ (t : RoundTold). t.round) to;
+                  limit = on.limit ∙ ap (λ (t : RoundTold). t.limit) to;
                   attempts = omega (arith, on.attempts, ap (λ (t : RoundTold). t.attempts) to, each);
                 }
 
@@ -368,6 +383,7 @@ module _ {P R T : Type 0} (Takes : P → P → List (List ℕ) → Result (Unit 
                   record {
                     handed = omega (arith, ap (λ (t : RoundTold). t.handed) h.1);
                     round = ap (λ (t : RoundTold). t.round) h.1;
+                    limit = ap (λ (t : RoundTold). t.limit) h.1;
                     attempts = omega (arith, ap (λ (t : RoundTold). t.attempts) h.1);
                   },
                   inl (ap (err_of last) is, refl, refl, refl),
@@ -381,6 +397,7 @@ module _ {P R T : Type 0} (Takes : P → P → List (List ℕ) → Result (Unit 
                   record {
                     handed = omega (arith, ap (λ (t : RoundTold). t.handed) h.2);
                     round = ap (λ (t : RoundTold). t.round) h.2;
+                    limit = ap (λ (t : RoundTold). t.limit) h.2;
                     attempts = omega (arith, ap (λ (t : RoundTold). t.attempts) h.2);
                   },
                   inr (inl (ap (err_of too_many) is, rw h.2 h.1, omega arith)),
@@ -394,6 +411,7 @@ module _ {P R T : Type 0} (Takes : P → P → List (List ℕ) → Result (Unit 
                   goes_on_later s [] (told p) (told n) (told q) (told q) h.4 v.4 (record {
                     handed = omega arith;
                     round = refl;
+                    limit = refl;
                     attempts = omega arith;
                   }),
                   inr (inr (v.3, omega arith, λ goes. absurd (false≢true (sym goes ∙ ends)))),
@@ -446,3 +464,94 @@ module _ {P R T : Type 0} (Takes : P → P → List (List ℕ) → Result (Unit 
                   omega (arith, g.3.handed, begun.0),
                   why_of g.0 g.1 (told p) (told n) (told q) a e b begun g.3 g.2.askings g.4,
                 )
+
+            -- the round that was gone through, unless memory was wanting for it
+            pub connects_round : (last : ServerInfo) (a : Seen) (p : P) (e : Failure) (b : Seen) (q : P)
+                → Connects Takes Counts Hands Begins told Offers by_option name no_echo timeout read_of write_of last a p (Err e) b q
+                → (e ≡ wanting) ⊎ ((chosen : Choice) × (n : P) × Begins last p n chosen × ((told q).round ≡ (told n).round)
+                × ((told q).limit ≡ (told n).limit))
+            connects_round last a p e b q (inl (is, same, stays)) = inl (ap (err_of wanting) is)
+            connects_round last a p e b q (inr (chosen, n, begins, goes)) =
+                let g = goes_cause (left_of (told n)) all_failed a n e b q goes in
+                inr (chosen, n, begins, g.3.round, g.3.limit)
+
+            -- how it began, unless memory was wanting for it
+            pub connects_began : (last : ServerInfo) (a : Seen) (p : P) (e : Failure) (b : Seen) (q : P)
+                → Connects Takes Counts Hands Begins told Offers by_option name no_echo timeout read_of write_of last a p (Err e) b q
+                → BeganRound Begins told last p q e
+            connects_began last a p e b q (inl (is, same, stays)) = wants (ap (err_of wanting) is)
+            connects_began last a p e b q (inr (chosen, n, begins, goes)) =
+                let g = goes_cause (left_of (told n)) all_failed a n e b q goes in
+                began chosen n begins g.3.round g.3.limit
+
+            -- ---- a round that gave a link
+
+            abbrev UpFacts : Seen → Linked R T → Seen → Type 0
+            UpFacts a l b = Onward a b × IsUp Offers name no_echo l.info l.rest.items (read_of l.read) (write_of l.write)
+
+            tried_up : (addr : Parts) (to : SocketAddr) (a : Seen) (p : P) (l : Linked R T) (b : Seen) (q : P)
+                → Tries Takes Counts Hands Begins told Offers by_option name no_echo timeout read_of write_of addr to a p (Ok l) b q
+                → UpFacts a l b
+            tried_up addr to a p l b q (m, (start, look, is, up, takes), counts) = rw is (up_onward to start look a, up)
+
+            each_up : (addr : Parts) (xs : List SocketAddr) (last : Failure) (a : Seen) (p : P) (l : Linked R T) (b : Seen) (q : P)
+                → is_websocket addr ≡ false
+                → TriesEach Takes Counts Hands Begins told Offers by_option name no_echo timeout read_of write_of addr xs last a p (Ok l) b q
+                → UpFacts a l b
+            each_up addr [] last a p l b q no_ws (is, same, stays) = cc
+            each_up addr (to ∷ more) last a p l b q no_ws (inl (tries, ends)) = tried_up addr to a p l b q tries
+            each_up addr (to ∷ more) last a p l b q no_ws (inr (e1, c, m, tries, goes, rest)) =
+                let t = tried_cause addr to a p e1 c m no_ws tries in
+                let f = each_up addr more e1 c m l b q no_ws rest in
+                (onward_on a c b t.0 f.0, f.1)
+
+            asks_up : (s : Planned) (answer : Result (List SocketAddr) ResolveError) (a : Seen) (p : P) (l : Linked R T) (b : Seen) (q : P)
+                → is_websocket s.addr ≡ false
+                → Asks Takes Counts Hands Begins told Offers by_option name no_echo timeout read_of write_of s.addr answer a p (Ok l) b q
+                → UpFacts a l b
+            asks_up s (Ok xs) a p l b q no_ws tries =
+                let f = each_up s.addr xs no_address (asked s.addr xs a) p l b q no_ws tries in
+                (onward_on a (asked s.addr xs a) b (asked_onward s.addr xs a) f.0, f.1)
+            asks_up s (Err refusal.Failed) a p l b q no_ws (is, same, stays) = cc
+            asks_up s (Err refusal.NoMemory) a p l b q no_ws (is, same, stays) = cc
+
+            visits_up : (is_ws : Bool) (s : Planned) (a : Seen) (p : P) (l : Linked R T) (b : Seen) (q : P) → is_websocket s.addr ≡ is_ws
+                → VisitsWhere Takes Counts Hands Begins told Offers by_option name no_echo timeout read_of write_of is_ws s.addr a p (Ok l) b q
+                → UpFacts a l b
+            visits_up true s a p l b q ws (is, same, stays) = cc
+            visits_up false s a p l b q no_ws (answer, asks) = asks_up s answer a p l b q no_ws asks
+
+            visited_up : (s : Planned) (delay : ℕ) (a : Seen) (p : P) (l : Linked R T) (b : Seen) (q : P)
+                → Visits Takes Counts Hands Begins told Offers by_option name no_echo timeout read_of write_of s.addr delay a p (Ok l) b q
+                → UpFacts a l b
+            visited_up s delay a p l b q v =
+                let f = visits_up (is_websocket s.addr) s (rested delay a) p l b q refl v in
+                (onward_on a (rested delay a) b (rested_onward delay a) f.0, f.1)
+
+            goes_up : (left : List Planned) (last : Failure) (a : Seen) (p : P) (l : Linked R T) (b : Seen) (q : P)
+                → GoesThrough Takes Counts Hands Begins told Offers by_option name no_echo timeout read_of write_of left last a p (Ok l) b q
+                → UpFacts a l b
+            goes_up [] last a p l b q (hands, is, same) = cc
+            goes_up (s ∷ more) last a p l b q (inl (hands, is, same)) = cc
+            goes_up (s ∷ more) last a p l b q (inr (attempt, n, hands, there, inl (visits, ends))) =
+                visited_up s attempt.delay a n l b q visits
+            goes_up (s ∷ more) last a p l b q (inr (attempt, n, hands, there, inr (e1, c, m, visits, goes, later))) =
+                let v = visited_cause s attempt.delay a n e1 c m visits in
+                let i = goes_up more e1 c m l b q later in
+                (onward_on a c b v.0 i.0, i.1)
+
+            -- no count fell, and the link is up
+            pub connects_up : (last : ServerInfo) (a : Seen) (p : P) (l : Linked R T) (b : Seen) (q : P)
+                → Connects Takes Counts Hands Begins told Offers by_option name no_echo timeout read_of write_of last a p (Ok l) b q
+                → Onward a b × IsUp Offers name no_echo l.info l.rest.items (read_of l.read) (write_of l.write)
+            connects_up last a p l b q (inl (is, same, stays)) = cc
+            connects_up last a p l b q (inr (chosen, n, begins, goes)) = goes_up (left_of (told n)) all_failed a n l b q goes
+
+            -- no count fell, whatever came of it
+            pub connects_on : (last : ServerInfo) (a : Seen) (p : P) (result : Result (Linked R T) Failure) (b : Seen) (q : P)
+                → Connects Takes Counts Hands Begins told Offers by_option name no_echo timeout read_of write_of last a p result b q
+                → Onward a b
+            connects_on last a p (Ok l) b q c = (connects_up last a p l b q c).0
+            connects_on last a p (Err e) b q (inl (is, same, stays)) = rw same (onward_same a)
+            connects_on last a p (Err e) b q (inr (chosen, n, begins, goes)) =
+                (goes_cause (left_of (told n)) all_failed a n e b q goes).2.onward

@@ -12,7 +12,9 @@ use Rattle.nats_handshake.specs.declared.stage.Stage.{Stage}
 use Rattle.nats_handshake.specs.declared.stage.Stage.TheVariants as stage
 use Rattle.nats_handshake.specs.declared.stage.Shake.TheVariants as shake
 use Rattle.nats_handshake.specs.Errors.{Failure}
+use Rattle.nats_wire.specs.Operations.{front, sight}
 use Rattle.nats_handshake.specs.Heard.{Heard}
+use Rattle.nats_handshake.specs.Opened.{opened, opened_in}
 use Rattle.nats_handshake.specs.Shaking.{Talk, finished, by_content, new_talk}
 use Rattle.nats_dial.specs.Lines.{Line, IsAt, Broke}
 use Rattle.nats_dial.specs.Taking.{HasTook, TookIn}
@@ -41,6 +43,16 @@ nothing_given : (known : Option (List (List ℕ))) → (known ≡ None) ⊎ (kno
 nothing_given known (inl is) = rw is tt
 nothing_given known (inr is) = rw is refl
 
+-- and it isn't opened
+none_opened : opened_in [] [] ≡ None
+unfolding front sight
+none_opened = refl
+
+nothing_opened : (known : Option (List (List ℕ))) → (known ≡ None) ⊎ (known ≡ Some [])
+    → IfSome known (λ (x : List (List ℕ)). opened x ≡ opened_in [] [])
+nothing_opened known (inl is) = rw is tt
+nothing_opened known (inr is) = rw is (sym none_opened)
+
 pub fresh_line : (Offers : List ℕ → Result AuthValue (List ℕ) → Type 0) (name : Option (List ℕ)) (no_echo : Bool)
     (addr : Parts) (timeout start : ℕ) (t : Talk) (r : ReadTold) (w : WriteTold) → t ≡ new_talk addr timeout start → IsFresh r w
     → Line Offers name no_echo (is_tls addr) start timeout [] [] t r w
@@ -51,6 +63,8 @@ fresh_line Offers name no_echo addr timeout start t r w is fresh = rw is (record
   time = refl;
   is_tls = refl;
   gave = nothing_given r.pieces fresh.no_pieces;
+  opens = nothing_opened r.pieces fresh.no_pieces;
+  waits = λ going. none_opened;
   took = nothing_known w.taken fresh.no_taken;
   no_ends = fresh.no_ends;
   no_faults = fresh.no_faults;
@@ -88,6 +102,7 @@ module _ {P : Type 0} (Takes : P → P → List (List ℕ) → Result (Unit {0})
             offers = heard.1;
             succeeds = heard.2;
             gave = line.gave;
+            opens = line.opens;
             took = line.took;
             no_ends = line.no_ends;
             no_faults = line.no_faults;

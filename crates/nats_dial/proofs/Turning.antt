@@ -19,7 +19,9 @@ use Rattle.nats_handshake.specs.Course.{Course, greeting_at}
 use Rattle.nats_handshake.specs.Errors.{Failure}
 use Rattle.nats_handshake.specs.Shaking.{Talk, Goes, Greeted, Heeds, FedAt, with_bytes}
 use Rattle.nats_handshake.specs.Heard.{IsOpen}
+use Rattle.nats_handshake.specs.Opened.{opened, opened_in}
 use Rattle.nats_handshake.proofs.Hearing.{heard_next, refuses_next}
+use Rattle.nats_handshake.proofs.Opening.{opened_more, more_unopened}
 use Rattle.nats_dial.specs.Lines.{Line, IsAt, Turned, Refused, wrote_all}
 
 -- ---- what a handshake keeps of its link
@@ -96,6 +98,23 @@ gave_by (suc n) (Some ps) buf text some g =
     ∙ ap (λ (l : List ℕ). concat ps ++ l) (append-nil (take (suc n) buf))
     ∙ ap (λ (l : List ℕ). l ++ take (suc n) buf) g
 
+-- one more piece, where those before hold no success
+opens_by : (n : ℕ) (pieces : Option (List (List ℕ))) (buf text : List ℕ) → 0 < n
+    → IfSome pieces (λ (ps : List (List ℕ)). concat ps ≡ text)
+    → IfSome pieces (λ (ps : List (List ℕ)). opened ps ≡ opened_in text []) → opened_in text [] ≡ None
+    → IfSome (piece_more n buf pieces) (λ (ps : List (List ℕ)). opened ps ≡ opened_in (text ++ take n buf) [])
+opens_by zero pieces buf text some g opens waits = absurd (omega arith)
+opens_by (suc n) None buf text some g opens waits = tt
+opens_by (suc n) (Some ps) buf text some g opens waits =
+    opened_more [] ps (take (suc n) buf) (opens ∙ waits)
+    ∙ ap (λ (t : List ℕ). opened_in (t ++ take (suc n) buf) []) g
+
+-- after an answer the handshake is open only where more is due
+waits_by : (s : Shake) (at : Stage) (text : List ℕ) → IsAt s at → (s ≡ shake.More → opened_in text [] ≡ None)
+    → IsOpen at → opened_in text [] ≡ None
+waits_by shake.More at text is none going = none refl
+waits_by shake.Done at text is none going = absurd (subst IsOpen is.1 going)
+
 no_end : (n : ℕ) (buf : List ℕ) (ends : ℕ) → 0 < n → ends ≡ 0 → risen (ends_met n buf) ends ≡ 0
 no_end zero buf ends some e = absurd (omega arith)
 no_end (suc n) buf ends some e = rw e refl
@@ -136,6 +155,10 @@ module _ {P : Type 0} (Takes : P → P → List (List ℕ) → Result (Unit {0})
               time = k.timeout ∙ line.time;
               is_tls = k.is_tls ∙ line.is_tls;
               gave = gave_by n r.pieces buf text some line.gave;
+              opens = opens_by n r.pieces buf text some line.gave line.opens (line.waits going);
+              waits = waits_by s new.stage (text ++ bytes) at (λ is. more_unopened (Takes p q) (q ≡ p) Offers by_option name no_echo t.stage
+                  (with_bytes t bytes) new t.unread wrote text bytes [] going refl line.heard
+                  (subst (λ (x : Shake). Heeds (Takes p q) (q ≡ p) Offers by_option name no_echo t.stage (with_bytes t bytes) (Ok x) new) is h));
               took = subst (λ (l : List ℕ). IfSome (append_known w.taken l) (λ (b : List ℕ). b ≡ wrote ++ more.0)) (sym said)
                   (took_by w.taken wrote more.0 line.took);
               no_ends = no_end n buf r.ends some line.no_ends;

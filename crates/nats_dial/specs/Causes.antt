@@ -87,14 +87,15 @@ module _ {P : Type 0} (Takes : P → P → List (List ℕ) → Result (Unit {0})
     LastRefused by_scheme e b = (text : List ℕ) × IfSome b.dialer.ended (LastGave text)
         × ((p : P) × (q : P) × RefusesText (Takes p q) (q ≡ p) Offers by_option name no_echo by_scheme text e)
 
-    -- why no link came of a server: want of memory, a timeout, a failure, the link's end, or what the link gave is refused
+    -- why no link came of a server: want of memory, a timeout, a failure, the link's end, or what the link gave is
+    -- refused
     abbrev pub LinkCause : Bool → Seen → Failure → Seen → Type 0
     LinkCause by_scheme a e b = (e ≡ wanting) ⊎ (((e ≡ (kind.TimedOut, None)) × IsLate timeout a b)
         ⊎ (((e ≡ io cause.Fault) × LinkFailed a b)
         ⊎ (((at : Stage) × IsOpen at × (e ≡ io (end_cause at)) × LinkEnded a b) ⊎ LastRefused by_scheme e b)))
 
-    -- why no link came of a server, of which these were tried: also where the resolver failed or gave no address, or the last of them is
-    -- a websocket's
+    -- why no link came of a server, of which these were tried: also where the resolver failed or gave no address,
+    -- or the last of them is a websocket's
     abbrev pub ServerCause : List Planned → Seen → Failure → Seen → Type 0
     ServerCause tried a e b =
         ((e ≡ unresolved) × Rose a.resolver.faults b.resolver.faults × (b.resolver.word ≡ ask.Failed))
@@ -116,8 +117,8 @@ module _ {P : Type 0} (Takes : P → P → List (List ℕ) → Result (Unit {0})
     (Offers : List ℕ → Result AuthValue (List ℕ) → Type 0) (by_option : Bool) (name : Option (List ℕ)) (no_echo : Bool)
     (timeout : ℕ)
   where
-    -- why none of these servers gave a link, of which the first ones were tried: there was none; the attempts passed their limit; or one of
-    -- them ended the round, or the last one failed
+    -- why none of these servers gave a link, of which the first ones were tried: there was none; the attempts
+    -- passed their limit; or one of them ended the round, or the last one failed
     abbrev pub Why : List Planned → List Planned → RoundTold → RoundTold → Seen → Failure → Seen → Type 0
     Why tried rest before after a e b = ((e ≡ all_failed) × (tried ≡ []) × (rest ≡ []))
         ⊎ (((e ≡ too_many) × IsSpent tried before after a b × EachDialed a b)

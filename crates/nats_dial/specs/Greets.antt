@@ -31,4 +31,5 @@ module _ {P : Type 0} (Takes : P → P → List (List ℕ) → Result (Unit {0})
     abbrev pub Greets : P → Result (ServerInfo × Vec ℕ) Failure → ReadTold → WriteTold → ClockTold → P → Type 0
     Greets p (Ok ended) r w c q =
         IsUp Offers name no_echo ended.0 ended.1.items r w × Takes p q ended.0.connect_urls (Ok tt)
-    Greets p (Err e) r w c q = Unshaken Takes Offers by_option name no_echo timeout addr start e r w c × TookIn Takes p q
+    Greets p (Err e) r w c q =
+        Unshaken Takes Offers by_option name no_echo timeout addr start e r w c × TookIn Takes p q

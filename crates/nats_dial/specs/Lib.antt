@@ -1,3 +1,4 @@
+pub mod Began
 pub mod Causes
 pub mod Greets
 pub mod Lines

@@ -16,6 +16,7 @@ use Rattle.nats_handshake.specs.Course.{io}
 use Rattle.nats_handshake.specs.Errors.{Failure}
 use Rattle.nats_handshake.specs.Shaking.{Talk, wanting, end_cause}
 use Rattle.nats_handshake.specs.Heard.{IsOpen, Heard, RefusesText}
+use Rattle.nats_handshake.specs.Opened.{opened, opened_in}
 
 -- a clock was looked at, some times
 abbrev pub Looked : ClockTold → ClockTold → Type 0
@@ -51,12 +52,17 @@ ReadsInTime buf old (Err e) new before after c = IsOpen old.stage → NoBytes e 
 abbrev pub Gave : List ℕ → ReadTold → Type 0
 Gave text r = IfSome r.pieces (λ (pieces : List (List ℕ)). concat pieces ≡ text)
 
+-- the pieces open the link as this text does: no fewer of them hold the success of the handshake
+abbrev pub Opens : List ℕ → ReadTold → Type 0
+Opens text r = IfSome r.pieces (λ (pieces : List (List ℕ)). opened pieces ≡ opened_in text [])
+
 -- what was taken is this text, where it is known
 abbrev pub Took : List ℕ → WriteTold → Type 0
 Took text w = IfSome w.taken (λ (bytes : List ℕ). bytes ≡ text)
 
 -- the halves of a link gave this text and took that one, all that its handshake heard and wrote
-pub record Line (Offers : List ℕ → Result AuthValue (List ℕ) → Type 0) (name : Option (List ℕ)) (no_echo by_scheme : Bool)
+pub record Line (Offers : List ℕ → Result AuthValue (List ℕ) → Type 0) (name : Option (List ℕ))
+    (no_echo by_scheme : Bool)
     (start timeout : ℕ) (text wrote : List ℕ) (t : Talk) (r : ReadTold) (w : WriteTold) : Type 0 where
   pub heard : Heard Offers name no_echo t.stage t.unread wrote text
   pub out : t.out ≡ []
@@ -64,6 +70,8 @@ pub record Line (Offers : List ℕ → Result AuthValue (List ℕ) → Type 0) (
   pub time : t.timeout ≡ timeout
   pub is_tls : t.is_tls ≡ by_scheme
   pub gave : Gave text r
+  pub opens : Opens text r
+  pub waits : IsOpen t.stage → opened_in text [] ≡ None
   pub took : Took wrote w
   pub no_ends : r.ends ≡ 0
   pub no_faults : r.faults ≡ 0
@@ -74,9 +82,9 @@ abbrev pub IsAt : Shake → Stage → Type 0
 IsAt shake.More at = IsOpen at
 IsAt shake.Done at = (info : ServerInfo) × (at ≡ stage.Linked info)
 
--- `Takes p q urls r` says what becomes of a list of servers p at the addresses of an INFO; `Offers nonce r` that r is what the
--- client authenticates by for a nonce; it wants TLS by an option, or doesn't; it has this name; it wants no echo; the address is of
--- `tls`, or isn't; the handshake began then and may take so long
+-- `Takes p q urls r` says what becomes of a list of servers p at the addresses of an INFO; `Offers nonce r` that r
+-- is what the client authenticates by for a nonce; it wants TLS by an option, or doesn't; it has this name; it
+-- wants no echo; the address is of `tls`, or isn't; the handshake began then and may take so long
 module _ {P : Type 0} (Takes : P → P → List (List ℕ) → Result (Unit {0}) AddrError → Type 0)
     (Offers : List ℕ → Result AuthValue (List ℕ) → Type 0) (by_option : Bool) (name : Option (List ℕ)) (no_echo : Bool)
     (by_scheme : Bool) (start timeout : ℕ)
@@ -94,7 +102,9 @@ module _ {P : Type 0} (Takes : P → P → List (List ℕ) → Result (Unit {0})
 
     -- what one read and its answer come to
     abbrev pub Turned : Result Shake Failure → Talk → ReadTold → WriteTold → ClockTold → Type 0
-    Turned (Ok s) new r w c = IsAt s new.stage × ((text : List ℕ) × (wrote : List ℕ) × Line Offers name no_echo by_scheme start timeout text wrote new r w)
+    Turned (Ok s) new r w c =
+        IsAt s new.stage × ((text : List ℕ) × (wrote : List ℕ)
+        × Line Offers name no_echo by_scheme start timeout text wrote new r w)
     Turned (Err e) new r w c = Broke e r w c
 
     -- what a handshake comes to at its end

@@ -26,13 +26,15 @@ use Rattle.nats_handshake.specs.Errors.{Failure, kind_text}
 use Rattle.nats_handshake.specs.Shaking.{wanting}
 use Rattle.nats_handshake.specs.Heard.{Wrote, Succeeds}
 use Rattle.nats_dial.specs.declared.linked.Linked.{Linked}
-use Rattle.nats_dial.specs.Lines.{Gave, Took, Broke}
+use Rattle.nats_dial.specs.Lines.{Gave, Opens, Took, Broke}
 use Rattle.nats_dial.specs.Taking.{TookIn}
 use Rattle.nats_pool.specs.Handing.{RoundTold, left_of}
 
 -- ---- a link
 
--- a link that is up: what its halves gave and took is a handshake that succeeds with this INFO and leaves this rest
+-- a link that is up: what its halves gave and took is a handshake that succeeds with this INFO and leaves this
+-- rest, and no
+-- fewer of its pieces hold that success
 pub record IsUp (Offers : List ℕ → Result AuthValue (List ℕ) → Type 0) (name : Option (List ℕ)) (no_echo : Bool)
     (info : ServerInfo) (rest : List ℕ) (r : ReadTold) (w : WriteTold) : Type 0 where
   pub text : List ℕ
@@ -41,6 +43,7 @@ pub record IsUp (Offers : List ℕ → Result AuthValue (List ℕ) → Type 0) (
   pub offers : Wrote Offers name no_echo info said wrote
   pub succeeds : Succeeds info rest said text
   pub gave : Gave text r
+  pub opens : Opens text r
   pub took : Took wrote w
   pub no_ends : r.ends ≡ 0
   pub no_faults : r.faults ≡ 0
@@ -83,7 +86,8 @@ all_failed = io cause.AllFailed
 abbrev pub too_many : Failure
 too_many = (kind.MaxReconnects, None)
 
--- ---- what the outside tells after a start of the clock at that time, the last look at it then, and what becomes of a link
+-- ---- what the outside tells after a start of the clock at that time, the last look at it then, and what
+-- becomes of a link
 
 abbrev pub timed : ℕ → ℕ → ClockTold → ClockTold
 timed start look c = record (started start c) { last = look }
@@ -120,7 +124,8 @@ rested ms a = record a { clock = slept ms a.clock }
 abbrev pub Unshaken : {P : Type 0} → (P → P → List (List ℕ) → Result (Unit {0}) AddrError → Type 0)
     → (List ℕ → Result AuthValue (List ℕ) → Type 0) → Bool → Option (List ℕ) → Bool → ℕ → Parts → ℕ → Failure
     → ReadTold → WriteTold → ClockTold → Type 0
-Unshaken Takes Offers by_option name no_echo timeout addr start e r w c = ((e ≡ no_websocket) × (is_websocket addr ≡ true))
+Unshaken Takes Offers by_option name no_echo timeout addr start e r w c =
+    ((e ≡ no_websocket) × (is_websocket addr ≡ true))
     ⊎ Broke Takes Offers by_option name no_echo (is_tls addr) start timeout e r w c
 
 -- a failure is counted with its text, unless memory is wanting
@@ -128,15 +133,19 @@ abbrev pub Notes : {P : Type 0} → (Parts → Outcome → P → P → Type 0) �
 Notes Counts addr f p e q =
     ((e ≡ wanting) × (q ≡ p)) ⊎ ((e ≡ f) × Counts addr (outcome.Failed (failure_text f)) p q)
 
--- ---- tries: `Takes`, `Begins`, `Hands` and `Counts` say what becomes of a pool; `Offers` what the client authenticates by; it wants
--- TLS by an option, or doesn't; it has this name; it wants no echo; a handshake may take so long; `read_of` and `write_of` say what its halves told
+-- ---- tries: `Takes`, `Begins`, `Hands` and `Counts` say what becomes of a pool; `Offers` what the client
+-- authenticates by; it wants
+-- TLS by an option, or doesn't; it has this name; it wants no echo; a handshake may take so long; `read_of` and
+-- `write_of` say what its halves told
 module _ {P R T : Type 0} (Takes : P → P → List (List ℕ) → Result (Unit {0}) AddrError → Type 0)
-    (Counts : Parts → Outcome → P → P → Type 0) (Hands : P → P → Next → Type 0) (Begins : ServerInfo → P → P → Choice → Type 0)
+    (Counts : Parts → Outcome → P → P → Type 0) (Hands : P → P → Next → Type 0)
+    (Begins : ServerInfo → P → P → Choice → Type 0)
     (told : P → RoundTold)
     (Offers : List ℕ → Result AuthValue (List ℕ) → Type 0) (by_option : Bool) (name : Option (List ℕ)) (no_echo : Bool)
     (timeout : ℕ) (read_of : R → ReadTold) (write_of : T → WriteTold)
   where
-    -- one address was dialed, once the clock was started, and gave no link: the dial failed, or its link was handed back
+    -- one address was dialed, once the clock was started, and gave no link: the dial failed, or its link was handed
+    -- back
     abbrev pub Unreached : Parts → SocketAddr → Seen → Failure → Seen → Type 0
     Unreached addr to a e b = ((start : ℕ) × (e ≡ io cause.Fault) × (b ≡ undialed to start a))
         ⊎ ((start : ℕ) × (look : ℕ) × (r : ReadTold) × (w : WriteTold) × (b ≡ returned to start look r w a)
@@ -145,28 +154,33 @@ module _ {P R T : Type 0} (Takes : P → P → List (List ℕ) → Result (Unit 
     -- one address was dialed, and gave a link or none
     abbrev pub Reaches : Parts → SocketAddr → Seen → P → Result (Linked R T) Failure → Seen → P → Type 0
     Reaches addr to a p (Ok l) b q = (start : ℕ) × (look : ℕ) × (b ≡ upped to start look a)
-        × IsUp Offers name no_echo l.info l.rest.items (read_of l.read) (write_of l.write) × Takes p q l.info.connect_urls (Ok tt)
+        × IsUp Offers name no_echo l.info l.rest.items (read_of l.read) (write_of l.write)
+        × Takes p q l.info.connect_urls (Ok tt)
     Reaches addr to a p (Err e) b q = Unreached addr to a e b × TookIn Takes p q
 
     -- the same, and the pool was told how it went
     abbrev pub Tries : Parts → SocketAddr → Seen → P → Result (Linked R T) Failure → Seen → P → Type 0
     Tries addr to a p (Ok l) b q = (m : P) × Reaches addr to a p (Ok l) b m × Counts addr outcome.Connected m q
-    Tries addr to a p (Err e) b q = (f : Failure) × (m : P) × Reaches addr to a p (Err f) b m × Notes Counts addr f m e q
+    Tries addr to a p (Err e) b q =
+        (f : Failure) × (m : P) × Reaches addr to a p (Err f) b m × Notes Counts addr f m e q
 
     -- a try ended the round: it gave a link, or an error that ends a round
     abbrev pub Ends : Result (Linked R T) Failure → Type 0
     Ends (Ok l) = Unit {0}
     Ends (Err e) = ends_round e.0 ≡ true
 
-    -- these addresses are tried in order, until one gives a link or ends the round; where none does, the last error is the answer
-    abbrev pub TriesEach : Parts → List SocketAddr → Failure → Seen → P → Result (Linked R T) Failure → Seen → P → Type 0
+    -- these addresses are tried in order, until one gives a link or ends the round; where none does, the last error
+    -- is the answer
+    abbrev pub TriesEach : Parts → List SocketAddr → Failure → Seen → P → Result (Linked R T) Failure → Seen → P
+        → Type 0
     TriesEach addr [] last a p result b q = (result ≡ Err last) × (b ≡ a) × (q ≡ p)
     TriesEach addr (to ∷ more) last a p result b q = (Tries addr to a p result b q × Ends result)
         ⊎ ((e : Failure) × (c : Seen) × (m : P) × Tries addr to a p (Err e) c m × (ends_round e.0 ≡ false)
         × TriesEach addr more e c m result b q)
 
     -- a server was asked for, with this answer of the resolver, and its addresses are tried
-    abbrev pub Asks : Parts → Result (List SocketAddr) ResolveError → Seen → P → Result (Linked R T) Failure → Seen → P → Type 0
+    abbrev pub Asks : Parts → Result (List SocketAddr) ResolveError → Seen → P → Result (Linked R T) Failure → Seen
+        → P → Type 0
     Asks addr (Ok addresses) a p result b q = TriesEach addr addresses no_address
         (record a { resolver = gave (host_name addr) (port_of addr) addresses a.resolver }) p result b q
     Asks addr (Err refusal.Failed) a p result b q = (result ≡ Err unresolved)
@@ -184,17 +198,20 @@ module _ {P R T : Type 0} (Takes : P → P → List (List ℕ) → Result (Unit 
     abbrev pub Visits : Parts → ℕ → Seen → P → Result (Linked R T) Failure → Seen → P → Type 0
     Visits addr delay a p result b q = VisitsWhere (is_websocket addr) addr (rested delay a) p result b q
 
-    -- the servers of a round are tried in order, each once it was handed out, until one gives a link or ends the round; where none
-    -- does, the last error is the answer
+    -- the servers of a round are tried in order, each once it was handed out, until one gives a link or ends the
+    -- round; where none does, the last error is the answer
     abbrev pub GoesThrough : List Planned → Failure → Seen → P → Result (Linked R T) Failure → Seen → P → Type 0
     GoesThrough [] last a p result b q = Hands p q next.Over × (result ≡ Err last) × (b ≡ a)
-    GoesThrough (planned ∷ more) last a p result b q = (Hands p q next.MaxReconnects × (result ≡ Err too_many) × (b ≡ a))
+    GoesThrough (planned ∷ more) last a p result b q =
+        (Hands p q next.MaxReconnects × (result ≡ Err too_many) × (b ≡ a))
         ⊎ ((attempt : Attempt) × (n : P) × Hands p n (next.Try attempt) × (attempt.addr ≡ planned.addr)
         × ((Visits planned.addr attempt.delay a n result b q × Ends result)
-        ⊎ ((e : Failure) × (c : Seen) × (m : P) × Visits planned.addr attempt.delay a n (Err e) c m × (ends_round e.0 ≡ false)
+        ⊎ ((e : Failure) × (c : Seen) × (m : P) × Visits planned.addr attempt.delay a n (Err e) c m
+        × (ends_round e.0 ≡ false)
         × GoesThrough more e c m result b q)))
 
     -- a round begins and is gone through; without memory for it, nothing is done
     abbrev pub Connects : ServerInfo → Seen → P → Result (Linked R T) Failure → Seen → P → Type 0
     Connects last a p result b q = ((result ≡ Err wanting) × (b ≡ a) × (q ≡ p))
-        ⊎ ((chosen : Choice) × (n : P) × Begins last p n chosen × GoesThrough (left_of (told n)) all_failed a n result b q)
+        ⊎ ((chosen : Choice) × (n : P) × Begins last p n chosen
+        × GoesThrough (left_of (told n)) all_failed a n result b q)

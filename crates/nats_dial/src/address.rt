@@ -28,7 +28,8 @@ fn reach<P: Rounds, W: Reach>(
     ensures reaches { Reaches P.Takes P.Counts P.Hands P.Begins P.round_told
         (Offers SignerAnswers AuthAnswers options.now.signer options.now.auth_callback (auth_value options.now.auth))
         options.now.tls_required options.now.name options.now.no_echo options.now.connection_timeout
-        W.Read.read_told W.Write.write_told addr.now to.now (W.seen world.old) pool.old result (W.seen world.new) pool.new }
+        W.Read.read_told W.Write.write_told addr.now to.now (W.seen world.old) pool.old result
+        (W.seen world.new) pool.new }
 {
     let start = seen::start_ms(world);
     match seen::dial(world, to) {
@@ -103,7 +104,8 @@ pub(crate) fn try_address<P: Rounds, W: Reach>(
     ensures tries { Tries P.Takes P.Counts P.Hands P.Begins P.round_told
         (Offers SignerAnswers AuthAnswers options.now.signer options.now.auth_callback (auth_value options.now.auth))
         options.now.tls_required options.now.name options.now.no_echo options.now.connection_timeout
-        W.Read.read_told W.Write.write_told addr.now to.now (W.seen world.old) pool.old result (W.seen world.new) pool.new }
+        W.Read.read_told W.Write.write_told addr.now to.now (W.seen world.old) pool.old result
+        (W.seen world.new) pool.new }
 {
     match reach(alloc, addr, to, options, pool, world) {
         Ok(linked) => {

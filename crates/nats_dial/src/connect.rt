@@ -1,10 +1,11 @@
 //! A round of connecting.
-ghost use Rattle.std.specs.Prelude.{◌≡◌, IfErr};
+ghost use Rattle.std.specs.Prelude.{◌≡◌, IfErr, IfOk};
 ghost use Rattle.nats_pool.specs.Auths.{auth_value};
 ghost use Rattle.nats_handshake.specs.Credentials.{SignerAnswers, AuthAnswers, Offers};
-ghost use Rattle.nats_dial.specs.Causes.{RoundCause};
+ghost use Rattle.nats_dial.specs.Began.{BeganRound};
+ghost use Rattle.nats_dial.specs.Causes.{Onward, RoundCause};
 ghost use Rattle.nats_pool.specs.Handing.{left_of};
-ghost use Rattle.nats_dial.specs.Tries.{Visits, GoesThrough, Connects, all_failed, too_many};
+ghost use Rattle.nats_dial.specs.Tries.{Visits, GoesThrough, Connects, IsUp, all_failed, too_many};
 
 use crate::link::wanting;
 use crate::server::{ends_round, visit};
@@ -98,19 +99,21 @@ fn connect<P: Rounds, W: Reach>(
     }
 }
 
-/// Makes one round of connecting over `world`: begins a round of `pool`, whose last INFO was `last`, and tries its servers in order, each
-/// once its delay was slept: asks for its addresses and dials each in order, until the handshake of a link succeeds. A link whose
-/// handshake fails is handed back. The pool is told of each address that was dialed, and takes in the servers that an INFO tells of. A
-/// refusal of what the client authenticates by ends the round. Times are milliseconds. The crate's steps.
+/// Makes one round of connecting over `world`: begins a round of `pool`, whose last INFO was `last`, and tries its
+/// servers in order, each once its delay was slept: asks for its addresses and dials each in order, until the
+/// handshake of a link succeeds. A link whose handshake fails is handed back. The pool is told of each address that
+/// was dialed, and takes in the servers that an INFO tells of. A refusal of what the client authenticates by ends
+/// the round. Times are milliseconds. The crate's steps.
 ///
 /// # Errors
 ///
-/// Where the round is used up, the last error: `Dns` where the resolver failed or gave no address; `Io` where a dial or a link failed or
-/// ended, the server said what is not due, or the round has no servers; `TimedOut` where the clock gave the start of the dial plus the
-/// options' time, or later; `Tls` where TLS is wanted; `ServerParse` where the address is of `ws` or `wss`, or one that the INFO tells of
-/// does not parse. At once: `AuthorizationViolation` where the server says so; `Authentication` where the signer or the
-/// authentication callback refuses; `MaxReconnects` where the pool's attempts pass their limit; `NoMemory`, after which the pool is as
-/// the round left it.
+/// Where the round is used up, the last error: `Dns` where the resolver failed or gave no address; `Io` where a
+/// dial or a link failed or ended, the server said what is not due, or the round has no servers; `TimedOut` where
+/// the clock gave the start of the dial plus the options' time, or later; `Tls` where TLS is wanted; `ServerParse`
+/// where the address is of `ws` or `wss`, or one that the INFO tells of does not parse. At once:
+/// `AuthorizationViolation` where the server says so; `Authentication` where the signer or the authentication
+/// callback refuses; `MaxReconnects` where the pool's attempts pass their limit; `NoMemory`, after which the pool
+/// is as the round left it.
 pub fn try_connect<P: Rounds, W: Reach>(
     alloc: Global,
     pool: &mut P,
@@ -119,6 +122,12 @@ pub fn try_connect<P: Rounds, W: Reach>(
     world: &mut W,
 ) -> Result<Linked<W::Read, W::Write>, ConnectError>
     ensures beside { W.beside_reach world.new ≡ W.beside_reach world.old }
+    ensures onward { Onward (W.seen world.old) (W.seen world.new) }
+    ensures up { IfOk result (λ linked. IsUp
+        (Offers SignerAnswers AuthAnswers options.now.signer options.now.auth_callback (auth_value options.now.auth))
+        options.now.name options.now.no_echo linked.info linked.rest.items
+        (W.Read.read_told linked.read) (W.Write.write_told linked.write)) }
+    ensures began { IfErr result (λ e. BeganRound P.Begins P.round_told last.now pool.old pool.new e) }
     ensures connects { Connects P.Takes P.Counts P.Hands P.Begins P.round_told
         (Offers SignerAnswers AuthAnswers options.now.signer options.now.auth_callback (auth_value options.now.auth))
         options.now.tls_required options.now.name options.now.no_echo options.now.connection_timeout

@@ -1,4 +1,5 @@
-//! Connecting: a round of servers, each of its addresses dialed, the handshake of each link, over an outside that is handed in.
+//! Connecting: a round of servers, each of its addresses dialed, the handshake of each link, over an outside that
+//! is handed in.
 #![tactic(auto)]
 
 mod address;

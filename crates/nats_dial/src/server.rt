@@ -62,7 +62,8 @@ fn try_each<P: Rounds, W: Reach>(
         (Offers SignerAnswers AuthAnswers options.now.signer options.now.auth_callback (auth_value options.now.auth))
         options.now.tls_required options.now.name options.now.no_echo options.now.connection_timeout
         W.Read.read_told W.Write.write_told addr.now addresses.now no_address
-        (W.seen world.old) pool.old result (W.seen world.new) pool.new }
+        (W.seen world.old) pool.old result
+        (W.seen world.new) pool.new }
 {
     let mut last = no_address();
     'addresses: for to in addresses {
@@ -91,7 +92,8 @@ fn ask<P: Rounds, W: Reach>(
     ensures asks { VisitsWhere P.Takes P.Counts P.Hands P.Begins P.round_told
         (Offers SignerAnswers AuthAnswers options.now.signer options.now.auth_callback (auth_value options.now.auth))
         options.now.tls_required options.now.name options.now.no_echo options.now.connection_timeout
-        W.Read.read_told W.Write.write_told false addr.now (W.seen world.old) pool.old result (W.seen world.new) pool.new }
+        W.Read.read_told W.Write.write_told false addr.now (W.seen world.old) pool.old result
+        (W.seen world.new) pool.new }
 {
     match seen::resolve(world, alloc, addr.host(), addr.port()) {
         Ok(addresses) => try_each(alloc, addr, addresses.as_slice(), options, pool, world),
@@ -113,7 +115,8 @@ pub(crate) fn visit<P: Rounds, W: Reach>(
     ensures visits { Visits P.Takes P.Counts P.Hands P.Begins P.round_told
         (Offers SignerAnswers AuthAnswers options.now.signer options.now.auth_callback (auth_value options.now.auth))
         options.now.tls_required options.now.name options.now.no_echo options.now.connection_timeout
-        W.Read.read_told W.Write.write_told addr.now delay (W.seen world.old) pool.old result (W.seen world.new) pool.new }
+        W.Read.read_told W.Write.write_told addr.now delay (W.seen world.old) pool.old result
+        (W.seen world.new) pool.new }
 {
     seen::sleep_ms(world, delay);
     if addr.is_websocket() {

@@ -28,7 +28,8 @@ pub(crate) fn turn<R: LinkRead, T: LinkWrite, C: Clock, P: ServerList>(
     ensures looked { Looked (C.clock_told clock.old) (C.clock_told clock.new) }
     ensures beside { C.beside_clock clock.new ≡ C.beside_clock clock.old }
     ensures turned { (by_scheme : Bool) (start timeout : ℕ) (text wrote : List ℕ) → IsOpen shaking.old.stage
-        → Line (Offers SignerAnswers AuthAnswers options.now.signer options.now.auth_callback (auth_value options.now.auth))
+        → Line (Offers SignerAnswers AuthAnswers options.now.signer options.now.auth_callback
+        (auth_value options.now.auth))
         options.now.name options.now.no_echo by_scheme start timeout text wrote
         shaking.old (R.read_told read.old) (T.write_told write.old)
         → Turned P.Takes

@@ -49,7 +49,8 @@ added_ticket (Numbered n) rows = rows ++ None ∷ []
 added_ticket reply rows = rows
 
 abbrev pub write_settled : ℕ → ℕ → CallReply → Sheet → Sheet
-write_settled place ticket reply sheet = record sheet { tickets = at_number ticket (settle_once (place, reply)) sheet.tickets }
+write_settled place ticket reply sheet =
+    record sheet { tickets = at_number ticket (settle_once (place, reply)) sheet.tickets }
 
 abbrev pub write_put : ℕ → Message → SubRow → SubRow
 write_put place m row = record row { puts = row.puts ++ (place, m) ∷ [] }
@@ -74,7 +75,13 @@ write_due place name sheet = sheet
 
 -- the transcript of all that is written; a link that is up has no row in it
 abbrev pub shown_of : Sheet → Transcript
-shown_of sheet = record { links = sheet.links; subs = sheet.subs; events = sheet.events; calls = sheet.calls; tickets = sheet.tickets }
+shown_of sheet = record {
+  links = sheet.links;
+  subs = sheet.subs;
+  events = sheet.events;
+  calls = sheet.calls;
+  tickets = sheet.tickets;
+}
 
 -- ---- a row by its number
 

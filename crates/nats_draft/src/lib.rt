@@ -1,5 +1,5 @@
-//! The transcript of a session as it is written, row by row, and what it leaves at the end. It knows what a transcript's rows
-//! are, and nothing of what plays them.
+//! The transcript of a session as it is written, row by row, and what it leaves at the end. It knows what a
+//! transcript's rows are, and nothing of what plays them.
 #![tactic(auto)]
 
 mod draft;

@@ -1,5 +1,5 @@
-//! Writes what a client's operations are on the wire: a line of standard input is an operation, standard output is their bytes.
-//! docs/ENCODED.md says how lines are spelled.
+//! Writes what a client's operations are on the wire: a line of standard input is an operation, standard output is
+//! their bytes. docs/ENCODED.md says how lines are spelled.
 #![tactic(auto)]
 
 mod connect;
@@ -37,7 +37,10 @@ fn run(rt: &HostRuntime) -> io::Result<()> {
     rt.stdin().read_to_string(&mut lines)?;
     let mut connection = Connection::new(alloc);
     enqueue(alloc, &mut connection, lines.as_str())?;
-    rt.stdout().write_all(connection.waiting())
+    let bytes = connection
+        .copy_waiting(alloc, connection.pending())
+        .map_err(no_memory)?;
+    rt.stdout().write_all(bytes.as_slice())
 }
 
 fn main(rt: HostRuntime) -> ExitCode {

@@ -1,5 +1,5 @@
-//! Words of a line as bytes: 0x21 to 0x7D but `%` stand for themselves, any other is `%` and two digits, the empty text is `%`,
-//! and `~` is an absent one.
+//! Words of a line as bytes: 0x21 to 0x7D but `%` stand for themselves, any other is `%` and two digits, the empty
+//! text is `%`, and `~` is an absent one.
 use nats_wire::{Bytes, Subject, Text};
 use percent_encoding::percent_decode;
 use std::alloc::Global;

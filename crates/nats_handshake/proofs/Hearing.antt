@@ -20,7 +20,7 @@ use Rattle.nats_handshake.specs.Errors.{Failure}
 use Rattle.nats_handshake.specs.Heard.{Knows, Wrote, Heard, HeardMore, IsOpen, RefusesIn, RefusesText}
 use Rattle.nats_handshake.proofs.Heard.{course_more}
 
-answer_waits : (v : Verdict) → IsAnswer v shake.More → v ≡ verdict.Waits
+pub answer_waits : (v : Verdict) → IsAnswer v shake.More → v ≡ verdict.Waits
 answer_waits verdict.Waits a = refl
 answer_waits verdict.Succeeds a = cc
 answer_waits (verdict.Refuses r) a = absurd a

@@ -1,5 +1,6 @@
 mod Courses
 pub mod Heard
 pub mod Hearing
+pub mod Opening
 mod Shakings
 mod Tellings

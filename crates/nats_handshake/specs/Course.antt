@@ -58,7 +58,8 @@ refusal_by server_error.AuthorizationViolation =
 refusal_by (server_error.SlowConsumer sid) = io (cause.Server (server_error.SlowConsumer sid))
 refusal_by (server_error.Other text) = io (cause.Server (server_error.Other text))
 
--- what one operation comes to, which takes n bytes: `+OK` and a further INFO are skipped, a PING is answered, a PONG is success
+-- what one operation comes to, which takes n bytes: `+OK` and a further INFO are skipped, a PING is answered, a
+-- PONG is success
 abbrev pub step_by : Operation → ℕ → Step
 step_by (message sid m) n = step.Refuses (io (cause.Unexpected word.Msg))
 step_by (info_op info) n = step.Skips n
@@ -80,8 +81,8 @@ taken_by (step.Answers n) = n
 taken_by (step.Succeeds n) = n
 taken_by (step.Refuses r) = 0
 
--- what the operations of a text come to: the verdict, how many operations may still come, the bytes behind those that were
--- read, and what is written to answer them
+-- what the operations of a text come to: the verdict, how many operations may still come, the bytes behind those
+-- that were read, and what is written to answer them
 pub record Course : Type 0 where
   pub verdict : Verdict
   pub left : ℕ
@@ -110,7 +111,8 @@ behind_out out c = record c { out = out ++ c.out }
 abbrev pub course_view : List ℕ → code.Course → Course
 course_view text c = record { verdict = c.verdict; left = c.left; rest = drop c.taken text; out = c.out.items }
 
--- a text with more behind it comes to what a course leaves with more behind it, and its answers stand behind those of the course
+-- a text with more behind it comes to what a course leaves with more behind it, and its answers stand behind those
+-- of the course
 abbrev pub GoesOnAlike : Course → List ℕ → Course → Type 0
 GoesOnAlike c more whole = whole ≡ behind_out c.out (course c.left (c.rest ++ more))
 

@@ -13,12 +13,13 @@ use Rattle.nats_handshake.specs.Course.{course, behind_out, greeting_at}
 use Rattle.nats_handshake.specs.Errors.{Failure}
 use Rattle.nats_handshake.specs.Shaking.{Talk, Declines, StopsOrWants, wanting, opening, operations_most}
 
--- the text begins with this INFO, and where more comes the operations behind it come to what those still to come do, behind
--- these answers
+-- the text begins with this INFO, and where more comes the operations behind it come to what those still to come
+-- do, behind these answers
 pub record Knows (info : ServerInfo) (left : ℕ) (unread said text : List ℕ) : Type 0 where
   pub len : ℕ
   pub first : front text ≡ got (info_op info) len
-  pub alike : (more : List ℕ) → course operations_most (drop len (text ++ more)) ≡ behind_out said (course left (unread ++ more))
+  pub alike : (more : List ℕ) → course operations_most (drop len (text ++ more))
+      ≡ behind_out said (course left (unread ++ more))
 
 -- the text begins with this INFO, the operations behind it come to success with these answers, and this is left
 pub record Succeeds (info : ServerInfo) (rest said text : List ℕ) : Type 0 where

@@ -4,3 +4,5 @@ pub mod Course
 pub mod Credentials
 pub mod Shaking
 pub mod Heard
+pub mod Opened
+pub mod Following

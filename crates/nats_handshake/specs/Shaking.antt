@@ -33,8 +33,9 @@ use Rattle.nats_handshake.specs.Greeting.{connect_info_of}
 abbrev pub operations_most : ℕ
 operations_most = 16
 
--- what contracts see of a handshake: how far it came, the bytes from the server that no operation took yet, the bytes for the
--- server that wait to be taken, when it began and how long it may take, and whether the address wants TLS
+-- what contracts see of a handshake: how far it came, the bytes from the server that no operation took yet, the
+-- bytes for the server that wait to be taken, when it began and how long it may take, and whether the address wants
+-- TLS
 pub record Talk : Type 0 where
   pub stage : Stage
   pub unread : List ℕ
@@ -166,9 +167,9 @@ Opens Offers name no_echo nonce (Ok out) =
     (auth : AuthValue) × Offers nonce (Ok auth) × (out.items ≡ opening name no_echo auth)
 Opens Offers name no_echo nonce (Err e) = RefusedAs e.0 e.1 (Offers nonce)
 
--- `Discovers urls r` says that the pool takes the addresses of these texts in with the answer r, `Stays` that it is as it was,
--- `Offers nonce r` that r is what the client authenticates by for a nonce; TLS is wanted by option, or isn't; the client has
--- this name, or wants no echo
+-- `Discovers urls r` says that the pool takes the addresses of these texts in with the answer r, `Stays` that it is
+-- as it was, `Offers nonce r` that r is what the client authenticates by for a nonce; TLS is wanted by option, or
+-- isn't; the client has this name, or wants no echo
 module _ (Discovers : List (List ℕ) → Result (Unit {0}) AddrError → Type 0) (Stays : Type 0)
     (Offers : List ℕ → Result AuthValue (List ℕ) → Type 0) (by_option : Bool) (name : Option (List ℕ)) (no_echo : Bool)
   where
@@ -183,7 +184,8 @@ module _ (Discovers : List (List ℕ) → Result (Unit {0}) AddrError → Type 0
     Declines by_scheme info kind.ServerParse source = (wants_tls by_option by_scheme info ≡ false)
         × ((e : AddrError) × IsUnspelled e × (source ≡ Some (cause.Addr e)) × Discovers info.connect_urls (Err e))
     Declines by_scheme info kind.Authentication source = (wants_tls by_option by_scheme info ≡ false)
-        × Discovers info.connect_urls (Ok tt) × ((e : List ℕ) × (source ≡ Some (cause.Auth e)) × Offers info.nonce (Err e))
+        × Discovers info.connect_urls (Ok tt)
+        × ((e : List ℕ) × (source ≡ Some (cause.Auth e)) × Offers info.nonce (Err e))
     Declines by_scheme info kind.NoMemory source = (source ≡ None) × (Stays ⊎ Discovers info.connect_urls (Ok tt))
     Declines by_scheme info other source = ⊥
 

@@ -1,5 +1,5 @@
 //! The CONNECT of a client.
-ghost use Rattle.std.specs.Prelude.{◌≡◌, IfOk, option_map, string_bytes};
+ghost use Rattle.std.specs.Prelude.{◌≡◌, IfOk, codes, option_map, string_bytes};
 ghost use Rattle.base64.specs.Engines.{url_safe_no_pad};
 ghost use Rattle.base64.specs.GeneralPurpose.{encode_of};
 ghost use Rattle.nats_pool.specs.Auths.{auth_value};
@@ -48,8 +48,55 @@ fn signature_text(alloc: Global, signature: &Option<Vec<u8>>) -> Result<Option<T
     }
 }
 
-/// What a client with these options tells of itself where it authenticates by `auth`: the signature goes as base64 of the
-/// alphabet for URLs without padding. The crate's rule.
+// What it shows itself by: its JWT, its nkey and its signature.
+fn proofs_of(
+    alloc: Global,
+    auth: &Auth,
+) -> Result<(Option<Text>, Option<Text>, Option<Text>), NoMemory>
+    ensures { IfOk result (λ r. r ≡ (
+      (auth_value auth.now).jwt,
+      (auth_value auth.now).nkey,
+      option_map (λ bytes. encode_of url_safe_no_pad bytes) (auth_value auth.now).signature,
+    )) }
+{
+    Ok((
+        text_of(alloc, &auth.jwt)?,
+        text_of(alloc, &auth.nkey)?,
+        signature_text(alloc, &auth.signature)?,
+    ))
+}
+
+// What it logs in by: its user, its password and its token.
+fn login_of(
+    alloc: Global,
+    auth: &Auth,
+) -> Result<(Option<Text>, Option<Text>, Option<Text>), NoMemory>
+    ensures { IfOk result (λ r. r ≡ (
+      (auth_value auth.now).username,
+      (auth_value auth.now).password,
+      (auth_value auth.now).token,
+    )) }
+{
+    Ok((
+        text_of(alloc, &auth.username)?,
+        text_of(alloc, &auth.password)?,
+        text_of(alloc, &auth.token)?,
+    ))
+}
+
+// Its name, its language and its version.
+fn names_of(alloc: Global, name: &Option<Text>) -> Result<(Option<Text>, Text, Text), NoMemory>
+    ensures { IfOk result (λ r. r ≡ (name.now, codes "rust", codes "0.51.0")) }
+{
+    Ok((
+        copy_name(alloc, name)?,
+        Text::from_text(alloc, CLIENT_LANG)?,
+        Text::from_text(alloc, CLIENT_VERSION)?,
+    ))
+}
+
+/// What a client with these options tells of itself where it authenticates by `auth`: the signature goes as base64
+/// of the alphabet for URLs without padding. The crate's rule.
 pub fn connect_info(
     alloc: Global,
     options: &ConnectOptions,
@@ -57,21 +104,24 @@ pub fn connect_info(
 ) -> Result<ConnectInfo, NoMemory>
     ensures { IfOk result (λ info. info ≡ connect_info_of options.now.name options.now.no_echo (auth_value auth.now)) }
 {
+    let (user_jwt, nkey, signature) = proofs_of(alloc, auth)?;
+    let (user, pass, auth_token) = login_of(alloc, auth)?;
+    let (name, lang, version) = names_of(alloc, &options.name)?;
     Ok(ConnectInfo {
         verbose: false,
         pedantic: false,
-        user_jwt: text_of(alloc, &auth.jwt)?,
-        nkey: text_of(alloc, &auth.nkey)?,
-        signature: signature_text(alloc, &auth.signature)?,
-        name: copy_name(alloc, &options.name)?,
+        user_jwt,
+        nkey,
+        signature,
+        name,
         echo: !options.no_echo,
-        lang: Text::from_text(alloc, CLIENT_LANG)?,
-        version: Text::from_text(alloc, CLIENT_VERSION)?,
+        lang,
+        version,
         protocol: Protocol::Dynamic,
         tls_required: false,
-        user: text_of(alloc, &auth.username)?,
-        pass: text_of(alloc, &auth.password)?,
-        auth_token: text_of(alloc, &auth.token)?,
+        user,
+        pass,
+        auth_token,
         headers: true,
         no_responders: true,
     })

@@ -6,6 +6,7 @@ ghost use Rattle.nats_handshake.specs.declared.error.ConnectErrorKind.TheVariant
 ghost use Rattle.nats_handshake.specs.Course.{greeting_at, greeted_within, course, behind_out};
 ghost use Rattle.nats_handshake.specs.Credentials.{SignerAnswers, AuthAnswers, Offers};
 ghost use Rattle.nats_handshake.specs.Shaking.{IsNew, Discovered, Opens, Welcomes, opening, Shakes, Took, WentOn, Follows, Hears, operations_most, Heeds, Settles, FedOpen, Feeds, Expires, ExpiresOpen, advanced, closed, is_late, is_wanting, end_cause, finished, by_content, left_by, refused_of, with_bytes};
+ghost use Rattle.nats_handshake.specs.Following.{Followed};
 ghost use Rattle.nats_wire.specs.Operations.{front};
 
 use crate::course::{
@@ -21,13 +22,12 @@ use nats_pool::{Auth, ConnectOptions, ServerAddr, ServerList};
 use nats_wire::ServerInfo;
 use std::alloc::Global;
 use std::marker::Model;
-use std::mem;
 
 /// What asks for the PONG that ends a handshake.
 const PING: &[u8] = b"PING\r\n";
 
-/// The handshake of a link: it is fed what the server sends and says what is to be written. It reads and writes nothing itself.
-/// Own type of this library: the crate does these steps on its socket.
+/// The handshake of a link: it is fed what the server sends and says what is to be written. It reads and writes
+/// nothing itself. Own type of this library: the crate does these steps on its socket.
 #[derive(Drop)]
 pub struct Handshake {
     stage: Stage,
@@ -158,8 +158,8 @@ impl Verdict {
 }
 
 impl Handshake {
-    /// The handshake of a link to this address, which began at `start` and may take the options' time, both in milliseconds. It
-    /// takes no memory.
+    /// The handshake of a link to this address, which began at `start` and may take the options' time, both in
+    /// milliseconds. It takes no memory.
     ///
     /// # Errors
     ///
@@ -206,8 +206,7 @@ impl Handshake {
     fn advance(&mut self, left: usize, shake: Shake)
         ensures { self.new ≡ record self.old { stage = advanced self.old.stage left shake } }
     {
-        let stage = mem::replace(&mut self.stage, Stage::Greets);
-        self.stage = stage.advanced(left, shake);
+        self.stage.advance(left, shake);
     }
 
     // The answer of one that knows the INFO, with so many operations to come.
@@ -221,7 +220,21 @@ impl Handshake {
         Ok(shake)
     }
 
-    // What the text behind an INFO of `len` bytes comes to, where `out` is what opens. A refusal changes nothing.
+    // What the text behind an INFO of `len` bytes comes to, where `out` is what opens: with how many operations to
+    // come. A refusal changes nothing.
+    fn follow(&mut self, alloc: Global, len: usize, out: Vec<u8>) -> Result<(usize, Shake), Refusal>
+        requires { len ≤ length self.old.unread }
+        ensures { Followed (behind_out out.items (course operations_most (drop len self.old.unread)))
+            self.old result self.new }
+    {
+        let text = behind(self.unread.as_slice(), len);
+        let course = read_course(alloc, text, HANDSHAKE_OPERATIONS, out)?;
+        let left = course.left;
+        let shake = self.take(begun(len, course))?;
+        Ok((left, shake))
+    }
+
+    // The same, and the INFO is known from now on.
     fn enter(
         &mut self,
         alloc: Global,
@@ -233,11 +246,8 @@ impl Handshake {
         ensures { Follows info (behind_out out.items (course operations_most (drop len self.old.unread)))
             self.old result self.new }
     {
-        let text = behind(self.unread.as_slice(), len);
-        let course = read_course(alloc, text, HANDSHAKE_OPERATIONS, out)?;
-        let left = course.left;
-        let shake = self.take(begun(len, course))?;
-        self.stage = staged(info, left, shake);
+        let (left, shake) = self.follow(alloc, len, out)?;
+        self.stage.put(staged(info, left, shake));
         Ok(shake)
     }
 
@@ -306,31 +316,33 @@ impl Handshake {
         }
     }
 
-    // A refusal is kept, but for want of memory, after which the handshake is as it was before the bytes behind the first
-    // `before` came.
+    // A refusal is kept, but for want of memory, after which the handshake is as it was before the bytes behind the
+    // first `before` came.
     fn leave(&mut self, kind: ConnectErrorKind, before: usize)
         ensures { self.new ≡ left_by kind (record self.old { unread = take before self.old.unread }) self.old }
     {
         if is_wanting(kind) {
             self.unread.truncate(before);
         } else {
-            self.stage = Stage::Refused(kind);
+            self.stage.put(Stage::Refused(kind));
         }
     }
 
     /// Takes what the server sent, cut anywhere, and answers whether more is due. `out` then has what is to be written.
     ///
-    /// The server's first operation is its INFO. Then CONNECT and PING are to be written, and the server's operations are read
-    /// until its PONG comes, 16 at most: `+OK` and a further INFO are skipped, a PING is answered. What comes behind the PONG
-    /// is the rest. The addresses that the INFO tells of are put into the pool, as `Pool::discover` does.
+    /// The server's first operation is its INFO. Then CONNECT and PING are to be written, and the server's
+    /// operations are read until its PONG comes, 16 at most: `+OK` and a further INFO are skipped, a PING is
+    /// answered. What comes behind the PONG is the rest. The addresses that the INFO tells of are put into the
+    /// pool, as `Pool::discover` does.
     ///
     /// # Errors
     ///
-    /// `Io` where the first operation is another, where a message or what is no operation comes, where the server sends an
-    /// error, or no PONG; the cause says which. `AuthorizationViolation` where the server says so. `Tls` where TLS is wanted
-    /// by an option, the scheme of the address or the INFO. `ServerParse` where an address that the INFO tells of does not
-    /// parse. `Authentication` where the signer or the authentication callback refuses. After each of these the handshake
-    /// refuses with the same kind. `NoMemory` leaves the handshake as it was; the pool may have the INFO's addresses.
+    /// `Io` where the first operation is another, where a message or what is no operation comes, where the server
+    /// sends an error, or no PONG; the cause says which. `AuthorizationViolation` where the server says so. `Tls`
+    /// where TLS is wanted by an option, the scheme of the address or the INFO. `ServerParse` where an address that
+    /// the INFO tells of does not parse. `Authentication` where the signer or the authentication callback refuses.
+    /// After each of these the handshake refuses with the same kind. `NoMemory` leaves the handshake as it was; the
+    /// pool may have the INFO's addresses.
     pub fn feed<P: ServerList>(
         &mut self,
         alloc: Global,
@@ -430,12 +442,11 @@ impl Handshake {
     fn close(&mut self, kind: ConnectErrorKind)
         ensures { self.new ≡ record self.old { stage = closed self.old.stage kind } }
     {
-        let stage = mem::replace(&mut self.stage, Stage::Greets);
-        self.stage = stage.closed(kind);
+        self.stage.close(kind);
     }
 
-    /// Looks at the clock: `TimedOut` exactly where `now` is the options' time past the start or later, and the handshake did
-    /// not end before. It refuses with the kind that it has where it was refused. Milliseconds.
+    /// Looks at the clock: `TimedOut` exactly where `now` is the options' time past the start or later, and the
+    /// handshake did not end before. It refuses with the kind that it has where it was refused. Milliseconds.
     pub fn expire(&mut self, now: u64) -> Result<(), ConnectError>
         ensures { Expires now self.old result self.new }
     {
@@ -454,7 +465,7 @@ impl Handshake {
         if !self.is_late(now) {
             return Ok(());
         }
-        self.stage = Stage::Refused(ConnectErrorKind::TimedOut);
+        self.stage.put(Stage::Refused(ConnectErrorKind::TimedOut));
         Err(ConnectError::new(ConnectErrorKind::TimedOut))
     }
 

@@ -114,9 +114,9 @@ fn told(alloc: Global, own: Auth, callback: &Option<AuthFn>, nonce: &[u8]) -> Re
     }
 }
 
-/// What a client with these options authenticates by, for a nonce: where there is a JWT with a signer, the JWT and what the
-/// signer makes of the nonce; where there is an authentication callback, what that answers in place of everything else. A
-/// refusal of either is one of kind `Authentication`. The crate's rule.
+/// What a client with these options authenticates by, for a nonce: where there is a JWT with a signer, the JWT and
+/// what the signer makes of the nonce; where there is an authentication callback, what that answers in place of
+/// everything else. A refusal of either is one of kind `Authentication`. The crate's rule.
 pub fn credentials(alloc: Global, options: &ConnectOptions, nonce: &[u8]) -> Result<Auth, Refusal>
     ensures { Tells result (Offers SignerAnswers AuthAnswers
         options.now.signer options.now.auth_callback (auth_value options.now.auth) nonce.now) }

@@ -5,6 +5,7 @@ ghost use Rattle.nats_handshake.specs.Shaking.{staged, advanced, closed, refused
 use crate::error::ConnectErrorKind;
 use nats_names::Cause;
 use nats_wire::ServerInfo;
+use std::mem;
 
 /// How far a handshake came. Own type of this library.
 #[derive(Debug, Drop)]
@@ -47,8 +48,31 @@ pub(crate) fn staged(info: ServerInfo, left: usize, shake: Shake) -> Stage
 }
 
 impl Stage {
+    // It is this one from now on.
+    pub(crate) fn put(&mut self, stage: Stage)
+        ensures { self.new ≡ stage }
+    {
+        *self = stage;
+    }
+
     // One that knows the INFO is further.
-    pub(crate) fn advanced(self, left: usize, shake: Shake) -> Stage
+    pub(crate) fn advance(&mut self, left: usize, shake: Shake)
+        ensures { self.new ≡ advanced self.old left shake }
+    {
+        let stage = mem::replace(self, Stage::Greets);
+        self.put(stage.advanced(left, shake));
+    }
+
+    // One that may still come to anything refuses with this kind.
+    pub(crate) fn close(&mut self, kind: ConnectErrorKind)
+        ensures { self.new ≡ closed self.old kind }
+    {
+        let stage = mem::replace(self, Stage::Greets);
+        self.put(stage.closed(kind));
+    }
+
+    // One that knows the INFO is further.
+    fn advanced(self, left: usize, shake: Shake) -> Stage
         ensures { result ≡ advanced self left shake }
     {
         match self {
@@ -60,7 +84,7 @@ impl Stage {
     }
 
     // One that may still come to anything refuses with this kind.
-    pub(crate) fn closed(self, kind: ConnectErrorKind) -> Stage
+    fn closed(self, kind: ConnectErrorKind) -> Stage
         ensures { result ≡ closed self kind }
     {
         match self {

@@ -19,7 +19,9 @@ pub same_headers-per : IsPartialEquivalence same_headers
 unfolding as_map
 same_headers-per = record {
   symm = λ a b. hash_map_eq_symm bytes_eq (pointwise bytes_eq) values_equiv.symm (as_map a) (as_map b);
-  trans = λ a b c. hash_map_eq_trans bytes_eq (pointwise bytes_eq) nat_list_eq_equiv (partial_equiv_from_equiv values_equiv).trans (as_map a) (as_map b) (as_map c);
+  trans =
+      λ a b c. hash_map_eq_trans bytes_eq (pointwise bytes_eq) nat_list_eq_equiv
+      (partial_equiv_from_equiv values_equiv).trans (as_map a) (as_map b) (as_map c);
 }
 
 pub same_headers-equiv : IsEquivalence same_headers

@@ -12,8 +12,8 @@ use std::marker::Model;
 
 type Table = IndexMap<HeaderName, Seq<HeaderValue>>;
 
-/// Names in the order of their first insertion, each with its values. No table is made before the first name, so that a map
-/// costs little to keep and to move where a message has none.
+/// Names in the order of their first insertion, each with its values. No table is made before the first name, so
+/// that a map costs little to keep and to move where a message has none.
 #[derive(Drop)]
 pub(crate) struct Fields {
     table: Option<Box<Table>>,
@@ -149,7 +149,8 @@ impl Fields {
         }
     }
 
-    /// The values of the name with this text, found by looking at each name, which takes no memory; none where it isn't there.
+    /// The values of the name with this text, found by looking at each name, which takes no memory; none where it
+    /// isn't there.
     pub(crate) fn values_under(&self, key: &str) -> &[HeaderValue]
         ensures { result.now ≡ values_of self.now key.now }
     {

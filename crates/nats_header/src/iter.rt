@@ -48,8 +48,8 @@ impl<'a, T> Iterator for GetAll<'a, T> {
     }
 }
 
-/// The names in the order of their first insertion, each with its values in order, and then it ends. Contracts see it as the
-/// list of those that are left. It stands for the crate's iterator over a hash map, which has no order.
+/// The names in the order of their first insertion, each with its values in order, and then it ends. Contracts see
+/// it as the list of those that are left. It stands for the crate's iterator over a hash map, which has no order.
 #[derive(Drop)]
 pub struct HeaderIter<'a> {
     inner: map::Iter<'a, HeaderName, Seq<HeaderValue>>,

@@ -34,7 +34,8 @@ impl HeaderName {
     ///
     /// # Errors
     ///
-    /// `NoMatch` exactly where it is no such string, as `A:` is none; `NoMemory` for want of memory. The crate's `Deserialize`.
+    /// `NoMatch` exactly where it is no such string, as `A:` is none; `NoMemory` for want of memory. The crate's
+    /// `Deserialize`.
     pub fn from_json(alloc: Global, v: &Value) -> Result<HeaderName, JsonError>
         ensures { Gives (name_in (view v.now)) result }
     {
@@ -50,8 +51,8 @@ impl HeaderValue {
     ///
     /// # Errors
     ///
-    /// `NoMatch` exactly where it is no such string; `NoMemory` for want of memory. The crate's `Deserialize`, which takes any
-    /// string.
+    /// `NoMatch` exactly where it is no such string; `NoMemory` for want of memory. The crate's `Deserialize`,
+    /// which takes any string.
     pub fn from_json(alloc: Global, v: &Value) -> Result<HeaderValue, JsonError>
         ensures { Gives (value_in (view v.now)) result }
     {
@@ -153,8 +154,9 @@ fn json_of_values(alloc: Global, values: &[HeaderValue]) -> Result<Value, NoMemo
 }
 
 impl HeaderMap {
-    /// The map as JSON: an object with a list of strings under each name, its values in order. An object of `serde_json` has its
-    /// keys in the order of their bytes. `from_json` reads an equal map from it. The crate's `Serialize`.
+    /// The map as JSON: an object with a list of strings under each name, its values in order. An object of
+    /// `serde_json` has its keys in the order of their bytes. `from_json` reads an equal map from it. The crate's
+    /// `Serialize`.
     pub fn to_json(&self, alloc: Global) -> Result<Value, NoMemory>
         ensures json { IfOk result (λ v. view v ≡ headers_json self.now) }
         ensures reads_back { IfOk result (λ v. ReadsAs (headers_in (view v)) self.now) }
@@ -167,14 +169,15 @@ impl HeaderMap {
         Ok(Value::Object(members))
     }
 
-    /// The map that a JSON value is. An object is one where each key is a name and each value a list of one or more strings that
-    /// are values of headers; the names come in the ascending order of their bytes. Where the value has such an object under the
-    /// key `inner`, the map is that one, and other keys are ignored; else it is the value itself.
+    /// The map that a JSON value is. An object is one where each key is a name and each value a list of one or more
+    /// strings that are values of headers; the names come in the ascending order of their bytes. Where the value
+    /// has such an object under the key `inner`, the map is that one, and other keys are ignored; else it is the
+    /// value itself.
     ///
     /// # Errors
     ///
-    /// `NoMatch` exactly where neither is such an object; `NoMemory` for want of memory. The crate's `Deserialize`, which takes
-    /// any strings as values and empty lists too.
+    /// `NoMatch` exactly where neither is such an object; `NoMemory` for want of memory. The crate's `Deserialize`,
+    /// which takes any strings as values and empty lists too.
     pub fn from_json(alloc: Global, v: &Value) -> Result<HeaderMap, JsonError>
         ensures map { Gives (headers_in (view v.now)) result }
         ensures order { IfOk result NamesAscend }

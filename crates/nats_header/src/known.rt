@@ -38,42 +38,48 @@ pub fn NATS_MESSAGE_ID() -> HeaderName
     HeaderName::from_static("Nats-Msg-Id")
 }
 
-/// `Nats-Last-Stream`: the number of the last message of the stream that was delivered. It takes no memory. The crate's constant.
+/// `Nats-Last-Stream`: the number of the last message of the stream that was delivered. It takes no memory. The
+/// crate's constant.
 pub fn NATS_LAST_STREAM() -> HeaderName
     ensures { result ≡ codes "Nats-Last-Stream" }
 {
     HeaderName::from_static("Nats-Last-Stream")
 }
 
-/// `Nats-Last-Consumer`: the number of the last message that a consumer was delivered. It takes no memory. The crate's constant.
+/// `Nats-Last-Consumer`: the number of the last message that a consumer was delivered. It takes no memory. The
+/// crate's constant.
 pub fn NATS_LAST_CONSUMER() -> HeaderName
     ensures { result ≡ codes "Nats-Last-Consumer" }
 {
     HeaderName::from_static("Nats-Last-Consumer")
 }
 
-/// `Nats-Last-Sequence`: the number of the message before on the same subject. It takes no memory. The crate's constant.
+/// `Nats-Last-Sequence`: the number of the message before on the same subject. It takes no memory. The crate's
+/// constant.
 pub fn NATS_LAST_SEQUENCE() -> HeaderName
     ensures { result ≡ codes "Nats-Last-Sequence" }
 {
     HeaderName::from_static("Nats-Last-Sequence")
 }
 
-/// `Nats-Expected-Last-Subject-Sequence`: the number that the last message on the subject is expected to have. It takes no memory. The crate's constant.
+/// `Nats-Expected-Last-Subject-Sequence`: the number that the last message on the subject is expected to have. It
+/// takes no memory. The crate's constant.
 pub fn NATS_EXPECTED_LAST_SUBJECT_SEQUENCE() -> HeaderName
     ensures { result ≡ codes "Nats-Expected-Last-Subject-Sequence" }
 {
     HeaderName::from_static("Nats-Expected-Last-Subject-Sequence")
 }
 
-/// `Nats-Expected-Last-Msg-Id`: the id that the last message of the stream is expected to have. It takes no memory. The crate's constant.
+/// `Nats-Expected-Last-Msg-Id`: the id that the last message of the stream is expected to have. It takes no memory.
+/// The crate's constant.
 pub fn NATS_EXPECTED_LAST_MESSAGE_ID() -> HeaderName
     ensures { result ≡ codes "Nats-Expected-Last-Msg-Id" }
 {
     HeaderName::from_static("Nats-Expected-Last-Msg-Id")
 }
 
-/// `Nats-Expected-Last-Sequence`: the number that the last message of the stream is expected to have. It takes no memory. The crate's constant.
+/// `Nats-Expected-Last-Sequence`: the number that the last message of the stream is expected to have. It takes no
+/// memory. The crate's constant.
 pub fn NATS_EXPECTED_LAST_SEQUENCE() -> HeaderName
     ensures { result ≡ codes "Nats-Expected-Last-Sequence" }
 {
@@ -122,14 +128,16 @@ pub fn NATS_SCHEDULE_TARGET() -> HeaderName
     HeaderName::from_static("Nats-Schedule-Target")
 }
 
-/// `Nats-Schedule-TTL`: how long a message that the schedule published is kept. It takes no memory. The crate's constant.
+/// `Nats-Schedule-TTL`: how long a message that the schedule published is kept. It takes no memory. The crate's
+/// constant.
 pub fn NATS_SCHEDULE_TTL() -> HeaderName
     ensures { result ≡ codes "Nats-Schedule-TTL" }
 {
     HeaderName::from_static("Nats-Schedule-TTL")
 }
 
-/// `Nats-Schedule-Source`: the subject whose last message a schedule publishes. It takes no memory. The crate's constant.
+/// `Nats-Schedule-Source`: the subject whose last message a schedule publishes. It takes no memory. The crate's
+/// constant.
 pub fn NATS_SCHEDULE_SOURCE() -> HeaderName
     ensures { result ≡ codes "Nats-Schedule-Source" }
 {
@@ -143,7 +151,8 @@ pub fn NATS_SCHEDULE_TIME_ZONE() -> HeaderName
     HeaderName::from_static("Nats-Schedule-Time-Zone")
 }
 
-/// `Nats-Schedule-Rollup`: that a scheduled message stands for those before it. It takes no memory. The crate's constant.
+/// `Nats-Schedule-Rollup`: that a scheduled message stands for those before it. It takes no memory. The crate's
+/// constant.
 pub fn NATS_SCHEDULE_ROLLUP() -> HeaderName
     ensures { result ≡ codes "Nats-Schedule-Rollup" }
 {
@@ -185,7 +194,8 @@ pub fn NATS_BATCH_COMMIT() -> HeaderName
     HeaderName::from_static("Nats-Batch-Commit")
 }
 
-/// `Nats-Required-Api-Level`: the level of the server's interface that a request needs. It takes no memory. The crate's constant.
+/// `Nats-Required-Api-Level`: the level of the server's interface that a request needs. It takes no memory. The
+/// crate's constant.
 pub fn NATS_REQUIRED_API_LEVEL() -> HeaderName
     ensures { result ≡ codes "Nats-Required-Api-Level" }
 {

@@ -6,8 +6,8 @@ ghost use Rattle.nats_header.specs.Block.{value_line, field_lines};
 use crate::{HeaderName, HeaderValue};
 use nats_names::NoMemory;
 
-/// The length of the value's line in bytes: the name, a colon and a space, the value, CR LF. Where that would pass `usize` it
-/// is the greatest one.
+/// The length of the value's line in bytes: the name, a colon and a space, the value, CR LF. Where that would pass
+/// `usize` it is the greatest one.
 pub(crate) fn line_len(name: &HeaderName, value: &HeaderValue) -> usize
     ensures len { result ≡ min (length (value_line name.now value.now)) (2 ^ 64 - 1) }
     ensures name { IsTrue (is_header_name name.now) }

@@ -24,10 +24,10 @@ const EMPTY_LEN: usize = 12;
 /// What the length of a map's block stays below. Own choice: a longer one fits no memory.
 const LEN_LIMIT: usize = 0x8000_0000_0000_0000;
 
-/// The headers of a message: names in the order of their first insertion, each with one value or more. Contracts see it as the
-/// list of the names with their values. Two maps are equal where they have the same values at each name, in whatever order
-/// the names are. The block of a map is shorter than 2^63 bytes; a call that would pass that answers want of memory. The crate's
-/// `HeaderMap`, whose names have no order.
+/// The headers of a message: names in the order of their first insertion, each with one value or more. Contracts
+/// see it as the list of the names with their values. Two maps are equal where they have the same values at each
+/// name, in whatever order the names are. The block of a map is shorter than 2^63 bytes; a call that would pass
+/// that answers want of memory. The crate's `HeaderMap`, whose names have no order.
 #[derive(Drop)]
 pub struct HeaderMap {
     fields: Fields,
@@ -117,9 +117,9 @@ impl HeaderMap {
         Ok(())
     }
 
-    /// Gives the name this value alone. The name keeps its place, or goes last where it wasn't there. `Name` comes exactly where
-    /// the first text is no name, `Value` exactly where it is one and the second no value; a refusal changes nothing. The
-    /// crate's call, which panics at such texts.
+    /// Gives the name this value alone. The name keeps its place, or goes last where it wasn't there. `Name` comes
+    /// exactly where the first text is no name, `Value` exactly where it is one and the second no value; a refusal
+    /// changes nothing. The crate's call, which panics at such texts.
     pub fn insert<K: IntoHeaderName, V: IntoHeaderValue>(
         &mut self,
         alloc: Global,
@@ -140,8 +140,8 @@ impl HeaderMap {
         Ok(())
     }
 
-    /// Puts the value last among those of the name, which goes last where it wasn't there. It refuses as `insert` does. The
-    /// crate's call, which panics at such texts.
+    /// Puts the value last among those of the name, which goes last where it wasn't there. It refuses as `insert`
+    /// does. The crate's call, which panics at such texts.
     pub fn append<K: IntoHeaderName, V: IntoHeaderValue>(
         &mut self,
         alloc: Global,
@@ -162,8 +162,8 @@ impl HeaderMap {
         Ok(())
     }
 
-    /// The first value of the name, `None` exactly where the name isn't there. The crate's call, which panics at a text that is
-    /// no name.
+    /// The first value of the name, `None` exactly where the name isn't there. The crate's call, which panics at a
+    /// text that is no name.
     pub fn get(&self, key: &str) -> Option<&HeaderValue>
         ensures first { option_copied result ≡ slice_get (values_of self.now key.now) 0 }
         ensures there { is_some result ≡ has_name self.now key.now }
@@ -171,8 +171,8 @@ impl HeaderMap {
         self.fields.values_under(key).first()
     }
 
-    /// The last value of the name, `None` exactly where the name isn't there. The crate's call, which panics at a text that is no
-    /// name.
+    /// The last value of the name, `None` exactly where the name isn't there. The crate's call, which panics at a
+    /// text that is no name.
     pub fn get_last(&self, key: &str) -> Option<&HeaderValue>
         ensures last { option_copied result
             ≡ slice_get (values_of self.now key.now) (length (values_of self.now key.now) - 1) }
@@ -181,7 +181,8 @@ impl HeaderMap {
         self.fields.values_under(key).last()
     }
 
-    /// All values of the name in order, none where the name isn't there. The crate's call, which panics at a text that is no name.
+    /// All values of the name in order, none where the name isn't there. The crate's call, which panics at a text
+    /// that is no name.
     pub fn get_all(&self, key: &str) -> GetAll<'_, HeaderValue>
         ensures { result ≡ values_of self.now key.now }
     {
@@ -243,8 +244,8 @@ impl HeaderMap {
         self.wire_len
     }
 
-    /// The map's block: the version's line, a line for each value, names in order, and an empty line. The crate's call, there a
-    /// private one.
+    /// The map's block: the version's line, a line for each value, names in order, and an empty line. The crate's
+    /// call, there a private one.
     pub fn to_bytes(&self, alloc: Global) -> Result<Vec<u8>, NoMemory>
         ensures block { IfOk result (λ bytes. bytes.items ≡ block_text self.now) }
         ensures valid { IsTrue (are_fields self.now) }
@@ -259,8 +260,8 @@ impl HeaderMap {
     }
 }
 
-/// Maps are equal where they have the same values in order at each name of either; the order of names doesn't matter. The
-/// crate's `PartialEq`.
+/// Maps are equal where they have the same values in order at each name of either; the order of names doesn't
+/// matter. The crate's `PartialEq`.
 impl PartialEq for HeaderMap {
     ghost eq = { same_headers };
 

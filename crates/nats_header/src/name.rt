@@ -20,8 +20,9 @@ use std::fmt;
 use std::hash::{Hash, Hasher};
 use std::marker::Model;
 
-/// The name of a header, as `Nats-Msg-Id`: any visible ASCII characters but the colon, or none at all. Contracts see it as its
-/// text. Names are equal where their texts are, so upper and lower case differ. The crate's `HeaderName`.
+/// The name of a header, as `Nats-Msg-Id`: any visible ASCII characters but the colon, or none at all. Contracts
+/// see it as its text. Names are equal where their texts are, so upper and lower case differ. The crate's
+/// `HeaderName`.
 #[derive(Drop)]
 pub struct HeaderName {
     text: ByteStr,
@@ -53,8 +54,8 @@ fn is_name(text: &str) -> bool
 }
 
 impl HeaderName {
-    /// The name with the text `v`, which the caller has proved to be one. It copies nothing and takes no memory. The crate's
-    /// call, which stops the build or the program at another text.
+    /// The name with the text `v`, which the caller has proved to be one. It copies nothing and takes no memory.
+    /// The crate's call, which stops the build or the program at another text.
     pub fn from_static(v: &'static str) -> HeaderName
         requires { IsTrue (is_header_name v.now) }
         ensures { result ≡ v.now }
@@ -78,7 +79,8 @@ impl HeaderName {
         }
     }
 
-    /// The name with the text `s`, whose bytes it keeps: `Name` exactly where it is none. The crate's `TryFrom<String>`.
+    /// The name with the text `s`, whose bytes it keeps: `Name` exactly where it is none. The crate's
+    /// `TryFrom<String>`.
     pub fn try_from_string(_alloc: Global, s: String) -> Result<HeaderName, HeaderError>
         ensures { NameAnswer (string_bytes s) result }
     {
@@ -179,8 +181,8 @@ impl Serialize for HeaderName {
     }
 }
 
-/// What a header's name can be made of. Its meaning is a text, and it answers the name with that text, or `Name` exactly where
-/// the text is none. The crate's `IntoHeaderName`, which panics there.
+/// What a header's name can be made of. Its meaning is a text, and it answers the name with that text, or `Name`
+/// exactly where the text is none. The crate's `IntoHeaderName`, which panics there.
 pub trait IntoHeaderName: Drop {
     ghost use Rattle.std.specs.Prelude.{List, ℕ};
 

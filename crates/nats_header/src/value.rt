@@ -17,8 +17,8 @@ use std::convert::AsStr;
 use std::fmt;
 use std::marker::Model;
 
-/// The value of a header: any UTF-8 text without CR and LF. Contracts see it as its text, by which values are equal. The
-/// crate's `HeaderValue`.
+/// The value of a header: any UTF-8 text without CR and LF. Contracts see it as its text, by which values are
+/// equal. The crate's `HeaderValue`.
 #[derive(Drop)]
 pub struct HeaderValue {
     text: ByteStr,
@@ -70,8 +70,8 @@ impl HeaderValue {
         self.text.as_str()
     }
 
-    /// A value with a copy of the text `s`: `Value` exactly where it has a CR or an LF, before any memory is taken. The crate's
-    /// `FromStr`.
+    /// A value with a copy of the text `s`: `Value` exactly where it has a CR or an LF, before any memory is taken.
+    /// The crate's `FromStr`.
     pub fn parse(alloc: Global, s: &str) -> Result<HeaderValue, HeaderError>
         ensures { ValueAnswer s.now result }
     {
@@ -209,8 +209,8 @@ impl Serialize for HeaderValue {
     }
 }
 
-/// What a header's value can be made of. Its meaning is a text, and it answers the value with that text, or `Value` exactly
-/// where the text has a CR or an LF. The crate's `IntoHeaderValue`, which panics there.
+/// What a header's value can be made of. Its meaning is a text, and it answers the value with that text, or `Value`
+/// exactly where the text has a CR or an LF. The crate's `IntoHeaderValue`, which panics there.
 pub trait IntoHeaderValue: Drop {
     ghost use Rattle.std.specs.Prelude.{List, ℕ};
 

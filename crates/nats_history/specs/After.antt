@@ -49,7 +49,16 @@ abbrev pub sub_after : Config → Step → Sub → Sub
 sub_after c step sub = kept (changed_sub c step sub)
 
 abbrev pub new_sub : Sub
-new_sub = record { interest = None; stage = Asked; is_shut = false; is_gone = false; is_draining = false; limit = None; puts = 0; waiting = [] }
+new_sub = record {
+  interest = None;
+  stage = Asked;
+  is_shut = false;
+  is_gone = false;
+  is_draining = false;
+  limit = None;
+  puts = 0;
+  waiting = [];
+}
 
 -- one more where a number is given
 abbrev pub grown : Step → List Sub → List Sub
@@ -100,7 +109,10 @@ bytes_after up commands (taken n) waiting = drop n waiting
 bytes_after up commands step waiting = written up commands waiting
 
 abbrev pub wire_after : Bool → List ClientOp → Step → Wire → Wire
-wire_after up commands step wire = record { unread = unread_after up step wire.unread; waiting = bytes_after up commands step wire.waiting }
+wire_after up commands step wire = record {
+  unread = unread_after up step wire.unread;
+  waiting = bytes_after up commands step wire.waiting;
+}
 
 abbrev pub link_after : List ClientOp → Step → Link → Link
 link_after commands step link = record {

@@ -45,7 +45,8 @@ abbrev pub out_messages : History → ℕ
 out_messages [] = 0
 out_messages ((place, step) ∷ h) = out_messages_after step (out_messages h)
 
--- how many bytes a message that is sent has: those of its subject, its reply, the header block that is sent, and its payload
+-- how many bytes a message that is sent has: those of its subject, its reply, the header block that is sent, and
+-- its payload
 abbrev pub sent_len : List ℕ → Option (List ℕ) → Option (List ℕ) → List ℕ → ℕ
 sent_len subject reply block payload = length subject + (length_or_0 reply + (length_or_0 block + length payload))
 

@@ -105,8 +105,8 @@ abbrev pub max_payload_after : Step → ℕ → ℕ
 max_payload_after (opened info) n = info.max_payload
 max_payload_after step n = n
 
--- the limit of a payload's size with its header block, in bytes: that of the newest link's server, a million and more before
--- any
+-- the limit of a payload's size with its header block, in bytes: that of the newest link's server, a million and
+-- more before any
 abbrev pub max_payload : History → ℕ
 max_payload [] = 1048576
 max_payload ((place, step) ∷ h) = max_payload_after step (max_payload h)
@@ -293,11 +293,16 @@ given_after (accepted call) at = if subscribes call then suc at.given else at.gi
 given_after step at = at.given
 
 abbrev pub subscribed_after : Step → At → ℕ
-subscribed_after (handled call) at = if subscribes call && nat_lt at.subscribed at.given then suc at.subscribed else at.subscribed
+subscribed_after (handled call) at =
+    if subscribes call && nat_lt at.subscribed at.given then suc at.subscribed else at.subscribed
 subscribed_after step at = at.subscribed
 
 abbrev pub at_after : Step → At → At
-at_after step at = record { given = given_after step at; subscribed = subscribed_after step at; pings = pings_after step at.pings }
+at_after step at = record {
+  given = given_after step at;
+  subscribed = subscribed_after step at;
+  pings = pings_after step at.pings;
+}
 
 abbrev pub at_of : History → At
 at_of [] = record { given = 0; subscribed = 0; pings = [] }
@@ -321,9 +326,9 @@ drained_by None = nobody
 drained_by (Some (pinged.Drain s)) = only s
 drained_by (Some ping) = nobody
 
--- whom a step is about: an accepted subscribe is of the number that it is given, a handled one of the next number that was
--- given; other calls and a message name their own; a PONG is about whom it drains; a new link, a link's end and the close are
--- about all
+-- whom a step is about: an accepted subscribe is of the number that it is given, a handled one of the next number
+-- that was given; other calls and a message name their own; a PONG is about whom it drains; a new link, a link's
+-- end and the close are about all
 abbrev pub about_read : List Ping → Operation → About
 about_read pings (message sid m) = only sid
 about_read pings pong_op = drained_by (first pings)
@@ -371,7 +376,17 @@ pub record Told : Type 0 where
 
 -- before anything happened to it
 abbrev pub nothing_told : Told
-nothing_told = record { interest = None; stage = Asked; is_shut = false; is_gone = false; is_draining = false; limit = None; puts = []; drops = []; takes = 0 }
+nothing_told = record {
+  interest = None;
+  stage = Asked;
+  is_shut = false;
+  is_gone = false;
+  is_draining = false;
+  limit = None;
+  puts = [];
+  drops = [];
+  takes = 0;
+}
 
 -- a subscription as it stands
 pub record Sub : Type 0 where
@@ -433,7 +448,8 @@ abbrev pub reached : Option ℕ → ℕ → Bool
 reached None n = false
 reached (Some limit) n = nat_le limit n
 
--- a subscription opens when its subscribe is handled; at the close one that did not open yet waits no more for that, and ends
+-- a subscription opens when its subscribe is handled; at the close one that did not open yet waits no more for
+-- that, and ends
 abbrev pub opens : Step → Bool
 opens (handled call) = subscribes call
 opens closed = true
@@ -446,9 +462,9 @@ call_ends (DropSub s) sub = true
 call_ends (Limit s n) sub = nat_le n sub.puts
 call_ends call sub = false
 
--- the ways for an open subscription to end: such a call is handled, or a message comes while it is shut, or one is put that
--- reaches its limit, or a new link comes up while it is shut, or the PONG of its drain comes, or the link ends while it is
--- drained, or the session closes
+-- the ways for an open subscription to end: such a call is handled, or a message comes while it is shut, or one is
+-- put that reaches its limit, or a new link comes up while it is shut, or the PONG of its drain comes, or the link
+-- ends while it is drained, or the session closes
 abbrev pub ends : Config → Sub → Step → Bool
 ends c sub (handled call) = call_ends call sub
 ends c sub (read (message sid m)) = sub.is_shut || (has_room c sub && reached sub.limit (cut (suc sub.puts)))
@@ -542,7 +558,16 @@ is_over sub = sub.is_gone && is_ended sub.stage
 
 -- so all of these are told alike
 abbrev pub forgotten : Sub
-forgotten = record { interest = None; stage = Ended; is_shut = true; is_gone = true; is_draining = false; limit = None; puts = 0; waiting = [] }
+forgotten = record {
+  interest = None;
+  stage = Ended;
+  is_shut = true;
+  is_gone = true;
+  is_draining = false;
+  limit = None;
+  puts = 0;
+  waiting = [];
+}
 
 abbrev pub kept : Sub → Sub
 kept sub = tidied is_over forgotten sub
@@ -615,7 +640,8 @@ limit_commands s puts (Some limit) = client.Unsubscribe s (Some (limit - puts)) 
 
 abbrev pub subscribed_again : ℕ → Sub → Option Interest → List ClientOp
 subscribed_again s sub None = []
-subscribed_again s sub (Some asked) = client.Subscribe s asked.subject asked.queue_group ∷ limit_commands s sub.puts sub.limit
+subscribed_again s sub (Some asked) =
+    client.Subscribe s asked.subject asked.queue_group ∷ limit_commands s sub.puts sub.limit
 
 -- the commands that subscribe one again on a new link: where it is open and not shut, with what is left of its limit
 abbrev pub again : ℕ → Sub → List ClientOp
@@ -625,8 +651,8 @@ again s sub = if listens sub then subscribed_again s sub sub.interest else []
 abbrev pub all_again : ℕ → List Sub → List ClientOp
 all_again s subs = commands_from again s subs
 
--- the commands that a step writes, where these are the subscriptions before it and a request was handled before or was not: a
--- new link asks for the replies again where one was
+-- the commands that a step writes, where these are the subscriptions before it and a request was handled before or
+-- was not: a new link asks for the replies again where one was
 abbrev pub commands : Config → Bool → At → List Sub → Step → List ClientOp
 commands c asked at subs (opened info) = all_again 1 subs ++ inbox_commands c asked
 commands c asked at subs (handled call) = call_commands c asked at subs call
@@ -711,7 +737,11 @@ flushed_at_once ticket (suc n) = []
 -- the oldest ticket whose call waits is of a flush, which is handled while so many bytes wait
 abbrev pub flush_handled : ℕ → Option Waits → Tickets → Tickets
 flush_handled waiting (Some waits.Flush) t =
-    record t { handled = suc t.handled; queued = drop 1 t.queued; flushing = t.flushing ++ awaiting (suc t.handled) waiting }
+    record t {
+      handled = suc t.handled;
+      queued = drop 1 t.queued;
+      flushing = t.flushing ++ awaiting (suc t.handled) waiting;
+    }
 flush_handled waiting next t = t
 
 abbrev pub flush_settled : ℕ → Option Waits → Tickets → List ℕ
@@ -728,7 +758,8 @@ request_at subject (request ∷ more) = if bytes_eq subject request.1 then Some 
 -- the other requests
 abbrev pub requests_elsewhere : List ℕ → List (ℕ × List ℕ) → List (ℕ × List ℕ)
 requests_elsewhere subject [] = []
-requests_elsewhere subject (request ∷ more) = if bytes_eq subject request.1 then more else request ∷ requests_elsewhere subject more
+requests_elsewhere subject (request ∷ more) =
+    if bytes_eq subject request.1 then more else request ∷ requests_elsewhere subject more
 
 -- the request of a ticket waits for its reply
 abbrev pub waits_for_reply : ℕ → List (ℕ × List ℕ) → Bool
@@ -740,8 +771,8 @@ abbrev pub requests_but : ℕ → List (ℕ × List ℕ) → List (ℕ × List �
 requests_but ticket [] = []
 requests_but ticket (request ∷ more) = if ticket == request.0 then more else request ∷ requests_but ticket more
 
--- the oldest ticket whose call waits is of a request, which is handled: it waits for its reply, but where its deadline came
--- before; an older one that waits for a reply to the same subject waits no more
+-- the oldest ticket whose call waits is of a request, which is handled: it waits for its reply, but where its
+-- deadline came before; an older one that waits for a reply to the same subject waits no more
 abbrev pub request_handled : List ℕ → Option Waits → Tickets → Tickets
 request_handled subject (Some waits.Request) t = record t {
   handled = suc t.handled;
@@ -797,7 +828,8 @@ queued_with (Some next) queued = queued ++ next ∷ []
 
 abbrev pub ticket_handled : Config → ℕ → Call → Tickets → Tickets
 ticket_handled c waiting Flush t = flush_handled waiting (first t.queued) t
-ticket_handled c waiting (Request subject payload headers token) t = request_handled (inbox_of c token) (first t.queued) t
+ticket_handled c waiting (Request subject payload headers token) t =
+    request_handled (inbox_of c token) (first t.queued) t
 ticket_handled c waiting call t = t
 
 -- a message to number 0 is the reply to the request that waits for it
@@ -849,10 +881,10 @@ handled_settles c waiting (Request subject payload headers token) t =
     replied_if Dropped (displaced (inbox_of c token) (first t.queued) t)
 handled_settles c waiting call t = []
 
--- the tickets that a step settles, where these are the waiting bytes and the tickets before it: a flush is flushed where it is
--- handled and no byte waits, or else by the bytes that are taken; it fails as its link ends, and at the close. A request
--- settles by a message to number 0 whose subject is that of its reply, by its deadline, or it is dropped by a later one that
--- waits for a reply to the same subject, and at the close
+-- the tickets that a step settles, where these are the waiting bytes and the tickets before it: a flush is flushed
+-- where it is handled and no byte waits, or else by the bytes that are taken; it fails as its link ends, and at the
+-- close. A request settles by a message to number 0 whose subject is that of its reply, by its deadline, or it is
+-- dropped by a later one that waits for a reply to the same subject, and at the close
 abbrev pub settles : Config → ℕ → Step → Tickets → List (ℕ × CallReply)
 settles c waiting (handled call) t = handled_settles c waiting call t
 settles c waiting (read operation) t = settled_by operation t.asking
@@ -884,7 +916,8 @@ settle_once reply (Some earlier) = Some earlier
 
 abbrev pub settle_rows : ℕ → List (ℕ × CallReply) → List (Option (ℕ × CallReply)) → List (Option (ℕ × CallReply))
 settle_rows place [] rows = rows
-settle_rows place ((ticket, reply) ∷ more) rows = settle_rows place more (at_number ticket (settle_once (place, reply)) rows)
+settle_rows place ((ticket, reply) ∷ more) rows =
+    settle_rows place more (at_number ticket (settle_once (place, reply)) rows)
 
 -- the tickets by their numbers, each with the place at which it settled and its reply, if it did
 abbrev pub ticket_rows : Config → History → List (Option (ℕ × CallReply))

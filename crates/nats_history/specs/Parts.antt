@@ -25,7 +25,8 @@ pub record Link : Type 0 where
   -- the unread and the waiting bytes while it is up
   pub wire : Wire
 
--- the subscriptions: how many numbers were given, how many of them were subscribed, and the subscriptions by their numbers
+-- the subscriptions: how many numbers were given, how many of them were subscribed, and the subscriptions by their
+-- numbers
 pub record Subs : Type 0 where
   pub given : ℕ
   pub subscribed : ℕ

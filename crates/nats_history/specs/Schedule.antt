@@ -37,8 +37,8 @@ abbrev pub passes : (List ℕ → Bool) → Option (List ℕ) → Bool
 passes test None = true
 passes test (Some text) = test text
 
--- the subjects of a call may stand there; those of replies to requests begin with a prefix that is publishable, whatever the
--- settings skip
+-- the subjects of a call may stand there; those of replies to requests begin with a prefix that is publishable,
+-- whatever the settings skip
 abbrev pub has_subjects : Config → Call → Bool
 has_subjects c (Publish m) = may_publish_to c m.subject && passes (may_publish_to c) m.reply
 has_subjects c (Request subject payload headers token) = may_publish_to c subject && is_publishable c.inbox_prefix
@@ -58,7 +58,8 @@ size_of call = 0
 
 -- it would be given a number or a ticket and none is left
 abbrev pub has_no_number : Parts → Call → Bool
-has_no_number p call = (subscribes call && nat_le (2 ^ 64 - 1) p.subs.given) || (takes_ticket call && nat_le (2 ^ 64 - 1) p.tickets.given)
+has_no_number p call =
+    (subscribes call && nat_le (2 ^ 64 - 1) p.subs.given) || (takes_ticket call && nat_le (2 ^ 64 - 1) p.tickets.given)
 
 -- no further call is accepted: the session closed, or a drain of the whole session was accepted
 abbrev pub takes_no_call : Parts → Bool
@@ -77,7 +78,8 @@ refusal p call =
 -- the reply of a call that is accepted
 abbrev pub accepted_reply : Parts → Call → CallReply
 accepted_reply p call =
-    if subscribes call then Numbered (suc p.subs.given) else (if takes_ticket call then Numbered (suc p.tickets.given) else Accepted)
+    if subscribes call then Numbered (suc p.subs.given)
+    else (if takes_ticket call then Numbered (suc p.tickets.given) else Accepted)
 
 abbrev pub reply_by : Option CallReply → CallReply → CallReply
 reply_by None reply = reply
@@ -279,7 +281,8 @@ steps c turns = steps_from c 1 turns []
 abbrev pub out_of_turn_from : Config → ℕ → List Turn → History → Option ℕ
 out_of_turn_from c place [] h = None
 out_of_turn_from c place (turn ∷ turns) h =
-    if is_valid_turn (parts_of c h) turn then out_of_turn_from c (suc place) turns (after_turn c place turn h) else Some place
+    if is_valid_turn (parts_of c h) turn then out_of_turn_from c (suc place) turns (after_turn c place turn h)
+    else Some place
 
 abbrev pub out_of_turn : Config → List Turn → Option ℕ
 out_of_turn c turns = out_of_turn_from c 1 turns []

@@ -18,9 +18,14 @@ use Rattle.nats_history.specs.Schedule.{call_reply, take_reply, after_turn, step
 
 -- ---- links
 
--- the row of the newest link, with this word at its end: the first bytes of its text, as many as were taken, and the rest
+-- the row of the newest link, with this word at its end: the first bytes of its text, as many as were taken, and
+-- the rest
 abbrev pub link_row : Config → LinkWord → History → LinkRow
-link_row c end h = record { end = end; taken = take (taken_count c h) (link_text c h); left = drop (taken_count c h) (link_text c h) }
+link_row c end h = record {
+  end = end;
+  taken = take (taken_count c h) (link_text c h);
+  left = drop (taken_count c h) (link_text c h);
+}
 
 -- the rows of the links that ended
 abbrev pub ended_links : Config → History → List LinkRow
@@ -47,7 +52,8 @@ answer_of c h turn = nothing
 -- the answers of all turns in order, each with its place
 abbrev pub answers_from : Config → ℕ → List Turn → History → List (ℕ × Answer)
 answers_from c place [] h = []
-answers_from c place (turn ∷ turns) h = (place, answer_of c h turn) ∷ answers_from c (suc place) turns (after_turn c place turn h)
+answers_from c place (turn ∷ turns) h =
+    (place, answer_of c h turn) ∷ answers_from c (suc place) turns (after_turn c place turn h)
 
 abbrev pub answers : Config → List Turn → List (ℕ × Answer)
 answers c turns = answers_from c 1 turns []

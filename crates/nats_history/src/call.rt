@@ -17,14 +17,14 @@ pub enum Call {
         subject: Subject,
         queue_group: Option<Subject>,
     },
-    /// No further messages for the subscription of this number: it is shut as soon as the call is accepted, and those that
-    /// wait can still be taken.
+    /// No further messages for the subscription of this number: it is shut as soon as the call is accepted, and
+    /// those that wait can still be taken.
     Unsubscribe(u64),
     /// The subscription of this number ends once so many messages were put into its queue in all, those before the call
     /// counted.
     Limit(u64, u64),
-    /// The subscription of this number is drained: the server is asked for no further messages of it, those that it sent are
-    /// still put into its queue, and then it ends; it ends also where its link does.
+    /// The subscription of this number is drained: the server is asked for no further messages of it, those that it
+    /// sent are still put into its queue, and then it ends; it ends also where its link does.
     Drain(u64),
     /// All subscriptions are drained, then the link ends and the session closes. Later calls are refused.
     DrainAll,
@@ -38,8 +38,8 @@ pub enum Call {
         headers: Option<HeaderMap>,
         token: Token,
     },
-    /// The user lets the subscription of this number go, whatever the reply: its waiting messages go, and no later call may
-    /// name it.
+    /// The user lets the subscription of this number go, whatever the reply: its waiting messages go, and no later
+    /// call may name it.
     DropSub(u64),
     /// The link is to end once the calls before this one are handled, so that another is tried.
     Reconnect,
@@ -65,8 +65,8 @@ pub enum CallReply {
     Flushed,
     /// The message by which a request was replied.
     Replied(Message),
-    /// A subject or a reply may not be published to, or a subject may not be subscribed to; or a request's inbox prefix may not
-    /// be published to.
+    /// A subject or a reply may not be published to, or a subject may not be subscribed to; or a request's inbox
+    /// prefix may not be published to.
     InvalidSubject,
     /// A queue group has no letter, or a space, a tab, a CR or an LF.
     InvalidQueueName,

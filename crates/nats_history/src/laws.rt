@@ -1,5 +1,5 @@
-//! What holds of the words on histories, whatever the history. Each function does nothing: its contract is the law, so the
-//! law is proved where the function is.
+//! What holds of the words on histories, whatever the history. Each function does nothing: its contract is the law,
+//! so the law is proved where the function is.
 ghost use Rattle.nats_history.specs.Laws.{PartsAfter, SameSettled, NoneLeft, NoneAfterTurn, LimitHolds, DrainPuts, FlushesReached, CutAnyhow, UncutInTurn};
 
 /// What the words on a longer history give is what its newest step makes of the parts before it: so a handler needs no
@@ -24,32 +24,35 @@ pub fn none_after_turn()
     ensures { NoneAfterTurn }
 {}
 
-/// Once a limit is handled for a subscription that is open, its puts never pass the greater of it and the puts then, over any
-/// links, until another limit is handled for it.
+/// Once a limit is handled for a subscription that is open, its puts never pass the greater of it and the puts
+/// then, over any links, until another limit is handled for it.
 pub fn limit_holds()
     ensures { LimitHolds }
 {}
 
-/// A subscription that is drained is put each message of its number that is read on its link after its subscribe was handled
-/// and before the PONG of its drain, where its queue has room, it is not shut and it has no earlier end.
+/// A subscription that is drained is put each message of its number that is read on its link after its subscribe
+/// was handled and before the PONG of its drain, where its queue has room, it is not shut and it has no earlier
+/// end.
 pub fn drain_puts()
     ensures { DrainPuts }
 {}
 
-/// The flushes that some bytes settle are all those that await no more of them: flushes await bytes in the order in which they
-/// were handled.
+/// The flushes that some bytes settle are all those that await no more of them: flushes await bytes in the order in
+/// which they were handled.
 pub fn flushes_reached()
     ensures { FlushesReached }
 {}
 
-/// Two lists of turns, each turn of which may come where it stands, and which differ only in how pieces that stand side by side
-/// cut the same bytes, have the same steps, but for those by which bytes joined a link, and for the places.
+/// Two lists of turns, each turn of which may come where it stands, and which differ only in how pieces that stand
+/// side by side cut the same bytes, have the same steps, but for those by which bytes joined a link, and for the
+/// places.
 pub fn cut_anyhow()
     ensures { CutAnyhow }
 {}
 
-/// Where each turn of a list may come where it stands, each still may once all pieces that stand side by side are one. The
-/// other way round it need not be so: a link may end within a piece, and a piece behind that would come out of turn.
+/// Where each turn of a list may come where it stands, each still may once all pieces that stand side by side are
+/// one. The other way round it need not be so: a link may end within a piece, and a piece behind that would come
+/// out of turn.
 pub fn uncut_in_turn()
     ensures { UncutInTurn }
 {}

@@ -1,6 +1,6 @@
-//! What a NATS session is told by: its settings, calls, turns and transcript as plain values, what tells calls apart, and
-//! beside them the words on histories and their laws. It plays nothing. Lengths are in bytes; subscriptions, tickets, links and
-//! places of turns are numbered from 1.
+//! What a NATS session is told by: its settings, calls, turns and transcript as plain values, what tells calls
+//! apart, and beside them the words on histories and their laws. It plays nothing. Lengths are in bytes;
+//! subscriptions, tickets, links and places of turns are numbered from 1.
 #![tactic(auto)]
 
 mod call;

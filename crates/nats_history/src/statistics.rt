@@ -9,8 +9,8 @@ use crate::config::Config;
 use crate::refusals::size_of;
 use nats_wire::{Subject, Token};
 
-/// What was counted of a session over all its links. Each count stops at 2^64 - 1. The crate's `Statistics`, which it keeps in
-/// atomic cells.
+/// What was counted of a session over all its links. Each count stops at 2^64 - 1. The crate's `Statistics`, which
+/// it keeps in atomic cells.
 #[derive(Clone, Copy, Debug, PartialEq, Eq, Default)]
 pub struct Statistics {
     /// The bytes of the messages that were read, each with its subject, its reply and its header block.

@@ -92,7 +92,13 @@ with_client value info = do
   client_id ← count "client_id" value
   max_payload ← count "max_payload" value
   proto ← field small_whole (pos 0) (get (codes "proto") value)
-  Some (record info { nonce = nonce; client_ip = client_ip; client_id = client_id; max_payload = max_payload; proto = proto })
+  Some (record info {
+    nonce = nonce;
+    client_ip = client_ip;
+    client_id = client_id;
+    max_payload = max_payload;
+    proto = proto;
+  })
 
 abbrev pub with_switches : Data → ServerInfo → Option ServerInfo
 with_switches value info = do
@@ -101,7 +107,13 @@ with_switches value info = do
   headers ← switch "headers" value
   jetstream ← switch "jetstream" value
   lame_duck_mode ← switch "ldm" value
-  Some (record info { auth_required = auth_required; tls_required = tls_required; headers = headers; jetstream = jetstream; lame_duck_mode = lame_duck_mode })
+  Some (record info {
+    auth_required = auth_required;
+    tls_required = tls_required;
+    headers = headers;
+    jetstream = jetstream;
+    lame_duck_mode = lame_duck_mode;
+  })
 
 abbrev pub with_fields : Data → ServerInfo → Option ServerInfo
 with_fields value info = do

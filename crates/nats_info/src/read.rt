@@ -95,13 +95,14 @@ fn read_text(alloc: Global, text: &str) -> Result<ServerInfo, InfoError>
     info_of(alloc, &value)
 }
 
-/// The INFO that a text spells: a JSON object in UTF-8 whose fields are as the NATS protocol has them. A missing field has its
-/// default, an unknown one may be anything, and of a repeated one the last counts. For what follows `INFO ` in a server's line.
+/// The INFO that a text spells: a JSON object in UTF-8 whose fields are as the NATS protocol has them. A missing
+/// field has its default, an unknown one may be anything, and of a repeated one the last counts. For what follows
+/// `INFO ` in a server's line.
 ///
 /// # Errors
 ///
-/// `Unreadable` exactly where the text is no such object: it is no JSON, or no object, or a field is of another kind, out of
-/// range, or a number with a fraction or an exponent. `NoMemory` for want of memory.
+/// `Unreadable` exactly where the text is no such object: it is no JSON, or no object, or a field is of another
+/// kind, out of range, or a number with a fraction or an exponent. `NoMemory` for want of memory.
 pub fn read_info(alloc: Global, text: &[u8]) -> Result<ServerInfo, InfoError>
     ensures { Gives (info_at text.now) result }
 {

@@ -1,5 +1,5 @@
-//! Reads JSON of header maps and messages: a line of standard input is `headers` or `message`, a space and a JSON text. For each
-//! it prints the JSON of what was read, or `refused` where the text is no JSON or says nothing.
+//! Reads JSON of header maps and messages: a line of standard input is `headers` or `message`, a space and a JSON
+//! text. For each it prints the JSON of what was read, or `refused` where the text is no JSON or says nothing.
 #![tactic(auto)]
 
 use nats_wire::{HeaderMap, JsonError, Message};

@@ -7,7 +7,8 @@ use crate::Cause;
 use std::fmt;
 use std::marker::Model;
 
-/// The error of a call: its kind, and where it is known, what it came of. The crate's `Error`. Contracts see it as the pair.
+/// The error of a call: its kind, and where it is known, what it came of. The crate's `Error`. Contracts see it as
+/// the pair.
 #[derive(Debug, Drop)]
 pub struct Error<Kind> {
     kind: Kind,

@@ -14,8 +14,8 @@ const LEAST_STATUS: u16 = 100;
 /// The greatest status code. The crate's rule.
 const GREATEST_STATUS: u16 = 999;
 
-/// A status code, 100 to 999, as a server sends it in place of a message. Contracts see it as its number, by which codes are
-/// compared, ordered and hashed. The crate's `StatusCode`.
+/// A status code, 100 to 999, as a server sends it in place of a message. Contracts see it as its number, by which
+/// codes are compared, ordered and hashed. The crate's `StatusCode`.
 #[derive(Clone, Copy, PartialEq, Eq, PartialOrd, Ord, Hash)]
 pub struct StatusCode {
     number: u16,

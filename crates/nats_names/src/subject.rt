@@ -73,8 +73,8 @@ impl Subject {
         }
     }
 
-    /// The same of a text that may be subscribed to: the caller has proved it. The crate's call, which stops the build or
-    /// the program at another text.
+    /// The same of a text that may be subscribed to: the caller has proved it. The crate's call, which stops the
+    /// build or the program at another text.
     pub fn from_static_validated(subject: &'static str) -> Subject
         requires { IsTrue (is_valid subject.now) }
         ensures text { result ≡ subject.now }
@@ -94,8 +94,8 @@ impl Subject {
         }
     }
 
-    /// The subject whose text is `input`, with nothing copied, or where the bytes stop being UTF-8: `Err` exactly where they
-    /// are not UTF-8 whole. The crate's call.
+    /// The subject whose text is `input`, with nothing copied, or where the bytes stop being UTF-8: `Err` exactly
+    /// where they are not UTF-8 whole. The crate's call.
     pub fn from_utf8(input: Bytes) -> Result<Subject, Utf8Error>
         ensures ok { IfOk result (λ t. t ≡ input) }
         ensures exact { IsOk result ↔ IsUtf8 input }
@@ -109,7 +109,8 @@ impl Subject {
         }
     }
 
-    /// A subject with a copy of the text `s`, which is not tested. Own call of this library, for the Rust's `From<&str>`.
+    /// A subject with a copy of the text `s`, which is not tested. Own call of this library, for the Rust's
+    /// `From<&str>`.
     pub fn from_text(alloc: Global, s: &str) -> Result<Subject, NoMemory>
         ensures { IfOk result (λ t. t ≡ s.now) }
     {
@@ -118,8 +119,8 @@ impl Subject {
         })
     }
 
-    /// A subject with a copy of the text `s`, where it may be subscribed to: `InvalidFormat` exactly where it may not, before
-    /// any memory is taken. The crate's call.
+    /// A subject with a copy of the text `s`, where it may be subscribed to: `InvalidFormat` exactly where it may
+    /// not, before any memory is taken. The crate's call.
     pub fn validated(alloc: Global, s: &str) -> Result<Subject, SubjectError>
         ensures ok { IfOk result (λ t. t ≡ s.now) }
         ensures invalid { IsErrOf result SubjectError.InvalidFormat ↔ (is_valid s.now ≡ false) }
@@ -160,8 +161,8 @@ impl Subject {
         are_publishable(self.as_str().as_bytes())
     }
 
-    /// Whether it may be subscribed to: it is publishable, and no token between its dots is empty. Rule of the protocol,
-    /// the crate's `Subject::is_valid`.
+    /// Whether it may be subscribed to: it is publishable, and no token between its dots is empty. Rule of the
+    /// protocol, the crate's `Subject::is_valid`.
     pub fn is_valid(&self) -> bool
         ensures { result ≡ is_valid self.now }
     {

@@ -10,7 +10,8 @@ use std::fmt;
 /// Why `Subject::validated` made no subject. The crate's `SubjectError`.
 #[derive(Clone, Copy, Debug, PartialEq, Eq)]
 pub enum SubjectError {
-    /// The text may not be subscribed to: it is empty, holds a space, tab, CR or LF, or has an empty token between its dots.
+    /// The text may not be subscribed to: it is empty, holds a space, tab, CR or LF, or has an empty token between
+    /// its dots.
     InvalidFormat,
     /// Want of memory. Own variant.
     NoMemory,

@@ -1,9 +1,9 @@
 -- Pieces, none of them empty.
 use Rattle.std.specs.Prelude.{OnErr}
-use Rattle.std.proofs.Common.{Result, Ok, Err, Bool, true, false, eqb, ◌≡◌, ℕ, zero, suc, ◌+◌, ◌-◌, ◌<◌, ◌≤◌, min, List, [], ◌∷◌, ◌++◌, length, take, drop, All, ap, ◌∙◌, sym, refl, arith, append-nil, length-append, take-append-drop, take_at}
+use Rattle.std.proofs.Common.{Result, Ok, Err, false, eqb, ◌≡◌, ℕ, zero, suc, ◌+◌, ◌-◌, ◌<◌, ◌≤◌, min, List, [], ◌∷◌, ◌++◌, length, take, drop, All, ap, ◌∙◌, sym, refl, arith, append-nil, length-append, append_assoc}
+use Rattle.std.specs.Prelude.{slice_index_or}
 use Rattle.std.proofs.Math.Seq.{take-append-add, take-append_seam}
 use Rattle.std.proofs.lemmas.List.{length-take, take_all}
-use Rattle.std.proofs.lemmas.List.Folds.{concat-append}
 use Rattle.std.proofs.lemmas.List.Elements.{All-push, All-head, All-take}
 use Rattle.std.specs.List.{concat}
 use Rattle.nats_outbuf.specs.Buffers.{one_piece, Holds, IsFront}
@@ -49,6 +49,40 @@ first_pieces xs len n most holds count some =
 -- where fewer than so many are the first ones, they are all
 pub all_pieces : (xs : List (List ℕ)) (n most : ℕ) → n ≡ min (length xs) most → length (take n xs) < most → concat (take n xs) ≡ concat xs
 all_pieces xs n most count fewer = ap concat (take_all n xs (omega (arith, length-take n xs)))
+
+-- ---- a copy of the first bytes
+
+-- the bytes of the pieces from one on: its own, and those of the pieces behind it
+from_piece : (xs : List (List ℕ)) (i : ℕ) (piece : List ℕ) → i < length xs → piece ≡ slice_index_or xs i piece
+    → concat (drop i xs) ≡ piece ++ concat (drop (suc i) xs)
+from_piece [] i piece inside is = absurd (omega arith)
+from_piece (x ∷ xs) zero piece inside is = ap (λ (l : List ℕ). l ++ concat xs) (sym is)
+from_piece (x ∷ xs) (suc i) piece inside is = from_piece xs i piece (omega arith) is
+
+-- the first bytes of two texts are of the first one, as many as it has, and then of the other
+pub take_two : (xs ys : List ℕ) (n : ℕ) → take n (xs ++ ys) ≡ take (min n (length xs)) xs ++ take (n - min n (length xs)) ys
+take_two [] ys n =
+    let e : min n 0 ≡ 0 = omega arith in
+    let d : n - 0 ≡ n = omega arith in
+    rw (e, d) refl
+take_two (x ∷ xs) ys zero = let e : min 0 (suc (length xs)) ≡ 0 = omega arith in rw e refl
+take_two (x ∷ xs) ys (suc n) =
+    let e : min (suc n) (suc (length xs)) ≡ suc (min n (length xs)) = omega arith in
+    let d : suc n - suc (min n (length xs)) ≡ n - min n (length xs) = omega arith in
+    rw (e, d) (ap (λ (l : List ℕ). x ∷ l) (take_two xs ys n))
+
+-- one more piece is copied, as much of it as is wanted
+pub copy_step : (xs : List (List ℕ)) (i next left count : ℕ) (piece before copied all : List ℕ) → i < length xs → next ≡ suc i
+    → piece ≡ slice_index_or xs i piece → count ≡ min left (length piece) → before ++ take left (concat (drop i xs)) ≡ all → copied ≡ before ++ take count piece
+    → copied ++ take (left - count) (concat (drop next xs)) ≡ all
+copy_step xs i next left count piece before copied all inside after is less whole more =
+    let rest = concat (drop (suc i) xs) in
+    ap (λ (k : ℕ). copied ++ take (left - count) (concat (drop k xs))) after
+    ∙ ap (λ (l : List ℕ). l ++ take (left - count) rest) more
+    ∙ append_assoc before (take count piece) (take (left - count) rest)
+    ∙ ap (λ (k : ℕ). before ++ (take k piece ++ take (left - k) rest)) less
+    ∙ ap (λ (l : List ℕ). before ++ l) (sym (take_two piece rest left) ∙ ap (take left) (sym (from_piece xs i piece inside is)))
+    ∙ whole
 
 -- ---- the last piece
 

@@ -107,6 +107,24 @@ impl Chunks {
         Ok(pieces)
     }
 
+    /// Puts a copy of the first `n` bytes behind those of `copy`.
+    pub fn copy_to(&self, n: usize, copy: &mut Vec<u8>) -> Result<(), NoMemory>
+        requires { n ≤ length self.now }
+        ensures { OnOk result (copy.new.items ≡ copy.old.items ++ take n self.now) }
+    {
+        let mut left = n;
+        for i in 0..self.pieces.len() {
+            if left == 0 {
+                return Ok(());
+            }
+            let piece = self.pieces[i].as_slice();
+            let count = left.min(piece.len());
+            copy.extend_from_slice(&piece[..count])?;
+            left -= count;
+        }
+        Ok(())
+    }
+
     // Takes up to `n` bytes of the first piece, and answers how many.
     fn advance_first(&mut self, n: usize) -> usize
         requires { (0 < n) × (n ≤ length self.old) }

@@ -1,26 +1,29 @@
 //! The bytes that came over a link and are not used yet.
-ghost use Rattle.std.specs.Prelude.{◌≡◌, ◌+◌, ◌==◌, ◌^◌, ◌<◌, ◌≤◌, ◌++◌, [], length, take, drop, IsTrue, OnOk, OnErr, IfOk};
+ghost use Rattle.std.specs.Prelude.{◌≡◌, ◌+◌, ◌==◌, ◌^◌, ◌<◌, ◌≤◌, ◌++◌, [], length, take, drop, IsTrue, OnOk, OnErr, IfOk, IfSome};
 ghost use Rattle.nats_outbuf.specs.Buffers.{is_crlf_at};
+ghost use Rattle.nats_outbuf.specs.Store.{store_bytes};
 
 use crate::steps::Steps;
-use bytes::BytesMut;
+use crate::store::Store;
 use nats_names::{Bytes, NoMemory};
 use std::alloc::Global;
 use std::marker::Model;
+use std::mem;
 use std::sync::ledger::Ledger;
 
 /// Bytes that came and are not used yet. Contracts see them as a list. Own type; the crate has a `BytesMut` there.
 #[derive(Drop)]
 pub struct InBuf {
-    bytes: BytesMut,
+    store: Store,
 }
 
 impl Model for InBuf {
     ghost use Rattle.std.specs.Prelude.{List, ℕ};
+    ghost use Rattle.nats_outbuf.specs.Store.{store_bytes};
 
     ghost Value = { List ℕ };
 
-    ghost view = { λ b. b.bytes.items };
+    ghost view = { λ b. store_bytes b.store };
 }
 
 impl InBuf {
@@ -29,17 +32,18 @@ impl InBuf {
         ensures { result ≡ [] }
     {
         InBuf {
-            bytes: BytesMut::new(alloc),
+            store: Store::new(alloc),
         }
     }
 
     /// Appends bytes that came, whole or not at all.
-    pub fn feed(&mut self, _alloc: Global, bytes: &[u8]) -> Result<(), NoMemory>
+    pub fn feed(&mut self, alloc: Global, bytes: &[u8]) -> Result<(), NoMemory>
         ensures ok { OnOk result (self.new ≡ self.old ++ bytes.now) }
         ensures err { OnErr result (self.new ≡ self.old) }
     {
-        self.bytes.extend_from_slice(bytes)?;
-        Ok(())
+        let (store, fed) = mem::replace(&mut self.store, Store::new(alloc)).fed(alloc, bytes);
+        self.store = store;
+        fed
     }
 
     /// How many bytes there are.
@@ -47,32 +51,32 @@ impl InBuf {
         ensures value { result ≡ length self.now }
         ensures bound { result < 2 ^ 63 }
     {
-        self.bytes.len()
+        self.store.as_slice().len()
     }
 
     /// Whether there are none.
     pub fn is_empty(&self) -> bool
         ensures { result ≡ (length self.now == 0) }
     {
-        self.bytes.is_empty()
+        self.store.as_slice().is_empty()
     }
 
     /// All of them.
     pub fn as_slice(&self) -> &[u8]
         ensures { result.now ≡ self.now }
     {
-        self.bytes.as_slice()
+        self.store.as_slice()
     }
 
-    /// Whether the end of a line, CR LF, stands at `place`. It is one step: whoever looks for lines by this call alone has
-    /// told what the search costs.
+    /// Whether the end of a line, CR LF, stands at `place`. It is one step: whoever looks for lines by this call
+    /// alone has told what the search costs.
     pub fn crlf_at<L: Ledger>(&self, place: usize, steps: &mut Steps<L>) -> bool
         requires { place + 1 < length self.now }
         ensures tells { result ≡ is_crlf_at self.now place }
         ensures step { steps.new ≡ steps.old + 1 }
     {
         steps.tick();
-        self.bytes.as_slice()[place..].starts_with(b"\r\n")
+        self.store.as_slice()[place..].starts_with(b"\r\n")
     }
 
     /// The bytes before the end of a line that stands at `end`.
@@ -81,7 +85,7 @@ impl InBuf {
         requires ended { IsTrue (is_crlf_at self.now end) }
         ensures { result.now ≡ take end self.now }
     {
-        &self.bytes.as_slice()[..end]
+        &self.store.as_slice()[..end]
     }
 
     /// Takes the first `n` bytes out, with no copy: what is left and what was taken share one memory.
@@ -91,6 +95,32 @@ impl InBuf {
         ensures rest { OnOk result (self.new ≡ drop n self.old) }
         ensures err { OnErr result (self.new ≡ self.old) }
     {
-        Ok(self.bytes.freeze_to(n)?)
+        self.store.split(n)
+    }
+
+    /// Takes the first `n` bytes away. Own call.
+    pub fn advance(&mut self, n: usize)
+        requires { n ≤ length self.old }
+        ensures { self.new ≡ drop n self.old }
+    {
+        self.store.advance(n);
+    }
+
+    /// From now on parts of the bytes share their memory, where the memory for the count of its owners is found.
+    /// What comes next is put behind a copy of them, unless all parts were let go. Own call.
+    pub fn share(&mut self)
+        ensures { self.new ≡ self.old }
+    {
+        self.store = mem::replace(&mut self.store, Store::Shared(Bytes::new())).shared();
+    }
+
+    /// All of them, where parts of them share their memory. Own call.
+    pub fn shared(&self) -> Option<&Bytes>
+        ensures { IfSome result (λ bytes. bytes.now ≡ self.now) }
+    {
+        match &self.store {
+            Store::Shared(bytes) => Some(bytes),
+            Store::Growing(_) => None,
+        }
     }
 }

@@ -1,5 +1,5 @@
-//! The two buffers of a link: bytes that came and are not used yet, and bytes that wait to be written, kept as pieces that are
-//! shared and not copied. Lengths are in bytes.
+//! The two buffers of a link: bytes that came and are not used yet, and bytes that wait to be written, kept as
+//! pieces that are shared and not copied. Lengths are in bytes.
 #![tactic(auto)]
 
 mod chunks;
@@ -7,6 +7,7 @@ mod inbuf;
 pub mod laws;
 mod outbuf;
 mod steps;
+mod store;
 
 pub use inbuf::InBuf;
 pub use nats_names::{Bytes, NoMemory};

@@ -31,8 +31,8 @@ pub enum ShouldFlush {
     No,
 }
 
-/// The bytes that wait to be written. Contracts see them as a list. Short texts are joined, long ones are kept as pieces of
-/// their own, which are shared and not copied. Own type, for the crate's write buffer.
+/// The bytes that wait to be written. Contracts see them as a list. Short texts are joined, long ones are kept as
+/// pieces of their own, which are shared and not copied. Own type, for the crate's write buffer.
 #[derive(Drop)]
 pub struct OutBuf {
     chunks: Chunks,
@@ -79,8 +79,8 @@ impl OutBuf {
         Ok(())
     }
 
-    /// Appends a text, whole or not at all: one of `CHUNK_LEAST` bytes or more as a piece that shares its memory, a shorter
-    /// one as `put_small` does.
+    /// Appends a text, whole or not at all: one of `CHUNK_LEAST` bytes or more as a piece that shares its memory, a
+    /// shorter one as `put_small` does.
     pub fn put_chunk(&mut self, alloc: Global, text: Bytes) -> Result<(), NoMemory>
         ensures ok { OnOk result (self.new ≡ self.old ++ text) }
         ensures err { OnErr result (self.new ≡ self.old) }
@@ -110,8 +110,8 @@ impl OutBuf {
         self.pending() >= SOFT_WRITE_BUF_LIMIT
     }
 
-    /// The first waiting bytes in `PIECES_MOST` pieces at most, each nonempty, which share their memory; none where nothing
-    /// waits. Joined they are what waits first. They stay until `taken` takes them.
+    /// The first waiting bytes in `PIECES_MOST` pieces at most, each nonempty, which share their memory; none where
+    /// nothing waits. Joined they are what waits first. They stay until `taken` takes them.
     pub fn pieces(&mut self, alloc: Global) -> Result<Vec<Bytes>, NoMemory>
         ensures front { IfOk result (λ pieces. IsFront PIECES_MOST pieces.items self.old) }
         ensures memory { OnErr result (0 < length self.old) }
@@ -119,6 +119,18 @@ impl OutBuf {
     {
         self.chunks.seal(&mut self.tail)?;
         self.chunks.first(alloc, PIECES_MOST)
+    }
+
+    /// A copy of the first `n` bytes. Own call, for whoever keeps what a link took.
+    pub fn copy_first(&self, alloc: Global, n: usize) -> Result<Vec<u8>, NoMemory>
+        requires { n ≤ length self.now }
+        ensures { IfOk result (λ copy. copy.items ≡ take n self.now) }
+    {
+        let whole = n.min(self.chunks.len());
+        let mut copy = Vec::with_capacity(alloc, n)?;
+        self.chunks.copy_to(whole, &mut copy)?;
+        copy.extend_from_slice(&self.tail.as_slice()[..n - whole])?;
+        Ok(copy)
     }
 
     /// Takes the first `n` bytes away, which were written.

@@ -19,3 +19,8 @@ links_of (Some b) = links_through b.value
 -- the bytes that one link took
 abbrev pub taken_of : Past → List ℕ
 taken_of (Past' pieces taken before) = taken.items
+
+-- those that the last of them took
+abbrev pub last_taken_of : Option (Box Past) → Option (List ℕ)
+last_taken_of None = None
+last_taken_of (Some b) = Some (taken_of b.value)

@@ -47,7 +47,8 @@ abbrev pub write_of : {E : Type 0} → Result ℕ E → List ℕ → WriteTold �
 write_of (Ok n) bytes w = record w { taken = append_known w.taken (take n bytes) }
 write_of (Err e) bytes w = record w { faults = risen 1 w.faults }
 
--- ---- a dialer: its counts, its last word, the address that it dialed last, and the links handed back: of each the pieces
+-- ---- a dialer: its counts, its last word, the address that it dialed last, and the links handed back: of each
+-- the pieces
 -- that it gave and the bytes that it took, where all of them are known
 
 pub record DialerTold : Type 0 where

@@ -17,8 +17,8 @@ pub enum DialWord {
     Failed,
 }
 
-/// Dials links, and takes each back whose use is over. Each count stops at 2^64-1. Own trait: the Rust opens sockets of its
-/// runtime.
+/// Dials links, and takes each back whose use is over. Each count stops at 2^64-1. Own trait: the Rust opens
+/// sockets of its runtime.
 pub trait Dialer {
     /// The reading half of its links.
     type Read: LinkRead + Drop;

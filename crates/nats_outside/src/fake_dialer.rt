@@ -1,5 +1,7 @@
 //! A dialer in memory.
 ghost use Rattle.std.specs.Prelude.{◌≡◌, [], false, IfOk};
+ghost use Rattle.std.specs.Option.{option_copied};
+ghost use Rattle.nats_outside.specs.Past.{last_taken_of};
 ghost use Rattle.nats_outside.specs.Fakes.{IsNewDialer, IsLinkOf, DialsFirst, fails_next, dialer_told_of, read_told_of, write_told_of};
 ghost use Rattle.nats_addr.specs.Resolving.{risen};
 ghost use Rattle.nats_outside.specs.Told.{IsFresh, dialed, word_of};
@@ -37,6 +39,16 @@ impl FakeDialer {
         }
     }
 
+    /// The bytes that the link took that was handed back last; none before any.
+    pub fn last_taken(&self) -> Option<&[u8]>
+        ensures { option_copied result ≡ last_taken_of self.now.ended }
+    {
+        match &self.ended {
+            Some(past) => Some(past.taken.as_slice()),
+            None => None,
+        }
+    }
+
     fn fail(&mut self) -> Failed
         ensures { self.new ≡ record (self.old) { faults = risen 1 self.old.faults; word = word.Failed } }
     {
@@ -54,6 +66,7 @@ fn halves(alloc: Global, link: FakeLink) -> (FakeRead, FakeWrite)
     let FakeLink {
         bytes,
         most,
+        cuts,
         failing_reads,
         failing_writes,
         mut room,
@@ -62,6 +75,7 @@ fn halves(alloc: Global, link: FakeLink) -> (FakeRead, FakeWrite)
     let read = FakeRead {
         bytes,
         most,
+        cuts: cuts.into_iter(),
         failing: failing_reads,
         reads: 0,
         pieces: Vec::new(alloc),

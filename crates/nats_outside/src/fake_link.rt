@@ -40,10 +40,20 @@ impl FakeLink {
         Ok(FakeLink {
             bytes,
             most,
+            cuts: Vec::new(alloc),
             failing_reads,
             failing_writes,
             room: Box::new(alloc, past)?,
         })
+    }
+
+    /// The same link, whose first reads give at most so many bytes each, though at least one where one is left.
+    pub fn with_cuts(self, cuts: Vec<usize>) -> FakeLink
+        ensures { result ≡ record self { cuts = cuts } }
+    {
+        let mut link = self;
+        link.cuts = cuts;
+        link
     }
 }
 
@@ -56,6 +66,17 @@ fn copy_front(buf: &mut [u8], piece: &[u8])
 }
 
 impl FakeRead {
+    // At most how many bytes the next read gives.
+    fn most_next(&mut self) -> usize
+        ensures some { 0 < result }
+        ensures rest { self.new ≡ record (self.old) { cuts = self.new.cuts } }
+    {
+        match self.cuts.next() {
+            Some(cut) => cut.max(1),
+            None => self.most,
+        }
+    }
+
     // The next piece: it is kept, and no longer left. None where nothing is left or wanted.
     fn cut(&mut self, count: usize) -> Result<Bytes, NoMemory>
         requires { count ≤ length self.old.bytes }
@@ -87,7 +108,8 @@ impl LinkRead for FakeRead {
         ensures answer { IfOk result (λ n. fails_next self.old.failing.items self.old.reads ≡ false) }
     {
         let has_room = !buf.is_empty();
-        let count = self.bytes.len().min(buf.len()).min(self.most);
+        let most = self.most_next();
+        let count = self.bytes.len().min(buf.len()).min(most);
         self.reads = self.reads.saturating_add(1);
         if !self.failing.as_slice().contains(&self.reads)
             && let Ok(piece) = self.cut(count)

@@ -16,23 +16,26 @@ pub struct Past {
     pub(crate) before: Option<Box<Past>>,
 }
 
-/// A link in memory that waits to be dialed: what it will give, at most how much at a call, and which calls fail.
+/// A link in memory that waits to be dialed: what it will give, at most how much at a call, how much at its first reads, and which
+/// calls fail.
 #[derive(Drop)]
 pub struct FakeLink {
     pub(crate) bytes: Bytes,
     pub(crate) most: usize,
+    pub(crate) cuts: Vec<usize>,
     pub(crate) failing_reads: Vec<u64>,
     pub(crate) failing_writes: Vec<u64>,
     pub(crate) room: Box<Past>,
     ghost has_most: { 0 < most },
 }
 
-/// The reading half of a link in memory: it gives its bytes in pieces, fails at the reads that it was told to fail at and
-/// where memory is wanting, and tells all.
+/// The reading half of a link in memory: it gives its bytes in pieces, fails at the reads that it was told to fail
+/// at and where memory is wanting, and tells all.
 #[derive(Drop)]
 pub struct FakeRead {
     pub(crate) bytes: Bytes,
     pub(crate) most: usize,
+    pub(crate) cuts: vec::IntoIter<usize>,
     pub(crate) failing: Vec<u64>,
     pub(crate) reads: u64,
     pub(crate) pieces: Vec<Bytes>,
@@ -42,8 +45,8 @@ pub struct FakeRead {
     ghost has_most: { 0 < most },
 }
 
-/// The writing half of a link in memory: it keeps what it takes, fails at the writes that it was told to fail at and where
-/// memory is wanting, and tells all.
+/// The writing half of a link in memory: it keeps what it takes, fails at the writes that it was told to fail at
+/// and where memory is wanting, and tells all.
 #[derive(Drop)]
 pub struct FakeWrite {
     pub(crate) alloc: Global,

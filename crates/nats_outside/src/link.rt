@@ -8,14 +8,14 @@ ghost use Rattle.nats_outside.specs.Told.{ReadTold, WriteTold, read_of, write_of
 use bytes::Bytes;
 use nats_names::Failed;
 
-/// The reading half of a link. Each count stops at 2^64-1. Own trait: a clause that names the cause of a failure needs a
-/// count, which std's `Read` has not.
+/// The reading half of a link. Each count stops at 2^64-1. Own trait: a clause that names the cause of a failure
+/// needs a count, which std's `Read` has not.
 pub trait LinkRead {
     /// The bytes left and the pieces given, where they are known, and the counts.
     ghost read_told: { Self → ReadTold };
 
-    /// Gives the next bytes into the front of `buf`, at most as many as it holds, and answers how many they are. None in a
-    /// nonempty `buf` is the end. A read that fails gives no byte, and is counted.
+    /// Gives the next bytes into the front of `buf`, at most as many as it holds, and answers how many they are.
+    /// None in a nonempty `buf` is the end. A read that fails gives no byte, and is counted.
     fn read(&mut self, buf: &mut [u8]) -> Result<usize, Failed>
         ensures bound { ReadsAtMost result buf.new }
         ensures bytes { ReadConsumes ((read_told self.old).left) ((read_told self.new).left) result buf.new }
@@ -28,8 +28,8 @@ pub trait LinkWrite {
     /// The bytes taken, where they are known, and the failures.
     ghost write_told: { Self → WriteTold };
 
-    /// Takes bytes from the front of the joined pieces, and answers how many they are. Taking none of nonempty bytes is a
-    /// failure. A write that fails takes none, and is counted.
+    /// Takes bytes from the front of the joined pieces, and answers how many they are. Taking none of nonempty
+    /// bytes is a failure. A write that fails takes none, and is counted.
     fn write_pieces(&mut self, pieces: &[Bytes]) -> Result<usize, Failed>
         ensures bound { IfOk result (λ n. n ≤ length (concat pieces.now)) }
         ensures progress { 0 < length (concat pieces.now) → IfOk result (λ n. 0 < n) }

@@ -1,5 +1,5 @@
-//! Each call of the outside, over all that its parts tell. Own functions: a caller that goes by them alone knows what every
-//! part tells after each call.
+//! Each call of the outside, over all that its parts tell. Own functions: a caller that goes by them alone knows
+//! what every part tells after each call.
 ghost use Rattle.std.specs.Prelude.{◌≡◌, IfOk};
 ghost use Rattle.nats_addr.specs.Resolving.{resolved};
 ghost use Rattle.nats_outside.specs.Told.{IsFresh, dialed, hung_up, started, looked, slept};
@@ -64,4 +64,12 @@ pub fn sleep_ms<W: Reach>(world: &mut W, ms: u64)
     ensures beside { W.beside_reach world.new ≡ W.beside_reach world.old }
 {
     world.sleep_ms(ms)
+}
+
+/// A number.
+pub fn draw<W: Reach>(world: &mut W) -> u64
+    ensures told { W.seen world.new ≡ W.seen world.old }
+    ensures beside { W.beside_reach world.new ≡ W.beside_reach world.old }
+{
+    world.draw()
 }

@@ -12,8 +12,8 @@ use Rattle.nats_pool.specs.declared.server.Server.{Server}
 use Rattle.nats_pool.specs.declared.server.ReconnectToServer.{ReconnectToServer}
 use Rattle.nats_pool.specs.Pools.{passes, one_more, attempts_after, round_of, handed_of, attempts_of, options_of}
 
--- the servers of the last round, how many of them were handed out, how many attempts were made since the last success, and how
--- many may be made
+-- the servers of the last round, how many of them were handed out, how many attempts were made since the last
+-- success, and how many may be made
 pub record RoundTold : Type 0 where
   pub round : List Planned
   pub handed : ℕ
@@ -38,7 +38,8 @@ handed_on t = record t { attempts = one_more t.attempts; handed = t.handed + 1 }
 -- what is handed out next: the next server, while the attempts do not pass their limit
 abbrev pub HandsNext : RoundTold → Next → RoundTold → Type 0
 HandsNext before (next.Try attempt) after = (planned : Planned) × (left_of before ≡ planned ∷ left_of after)
-    × (attempt.addr ≡ planned.addr) × (passes before.limit (one_more before.attempts) ≡ false) × (after ≡ handed_on before)
+    × (attempt.addr ≡ planned.addr) × (passes before.limit (one_more before.attempts) ≡ false)
+    × (after ≡ handed_on before)
 HandsNext before next.Over after = (length before.round ≤ before.handed) × (after ≡ before)
 HandsNext before next.MaxReconnects after = (1 + before.handed ≤ length before.round)
     × (passes before.limit (one_more before.attempts) ≡ true) × (after ≡ counted before)

@@ -63,9 +63,9 @@ impl ServerList for Pool {
 }
 
 impl Pool {
-    /// Puts the servers of these addresses behind those of the pool, each that is new, in order; the first text that spells
-    /// no address decides, and a refusal changes nothing. A pool that was told to leave such servers out does nothing. It
-    /// takes no memory where there is no text, or in such a pool. The crate's rule.
+    /// Puts the servers of these addresses behind those of the pool, each that is new, in order; the first text
+    /// that spells no address decides, and a refusal changes nothing. A pool that was told to leave such servers
+    /// out does nothing. It takes no memory where there is no text, or in such a pool. The crate's rule.
     pub fn discover(&mut self, alloc: Global, urls: &[Text]) -> Result<(), AddrError>
         ensures { Discovers urls.now self.old self.new result }
     {

@@ -12,13 +12,15 @@ use crate::{Choice, ChoiceBox, DelayBox, Next, Outcome, Pool, ServerAddr, Server
 use nats_names::NoMemory;
 use std::alloc::Global;
 
-/// What hands out the servers of a round and is told how it went with them. A `Pool` is one. Own trait: a round of connecting
-/// needs no more of a pool.
+/// What hands out the servers of a round and is told how it went with them. A `Pool` is one. Own trait: a round of
+/// connecting needs no more of a pool.
 pub trait Rounds: ServerList {
-    /// The servers of the last round, how many of them were handed out, the attempts since the last success, and their limit.
+    /// The servers of the last round, how many of them were handed out, the attempts since the last success, and
+    /// their limit.
     ghost round_told: { Self → RoundTold };
 
-    /// `Begins last before after chosen` says that a round begins, its servers chosen so, where `last` is the last INFO.
+    /// `Begins last before after chosen` says that a round begins, its servers chosen so, where `last` is the last
+    /// INFO.
     ghost Begins: { ServerInfo → Self → Self → Choice → Type 0 };
 
     /// `Hands before after next` says what is handed out next.

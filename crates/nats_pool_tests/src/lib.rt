@@ -1,5 +1,6 @@
-//! The tests of the crates by which a link comes up: addresses, the outside in memory, the pool of servers, the handshake and a round
-//! of connecting. They stand here and not in those crates, since a crate with tests is proved twice.
+//! The tests of the crates by which a link comes up: addresses, the outside in memory, the pool of servers, the
+//! handshake and a round of connecting. They stand here and not in those crates, since a crate with tests is proved
+//! twice.
 #![tactic(auto)]
 
 #[cfg(test)]

@@ -1,4 +1,5 @@
 pub mod Adapters
+pub mod Live
 pub mod Memory
 pub mod Outside
 pub mod Played

@@ -18,14 +18,16 @@ Comes bytes (Err TooLong) = ⊥
 
 -- a source was read to its end, and what it held is short enough and is so
 abbrev pub Whole : Option (List ℕ) → Tally → Tally → (List ℕ → Type 0) → Type 0
-Whole held before after Is = IfSome held Is × IfSome held (λ bytes. length bytes ≤ SCRIPT_LIMIT) × Rose before.ends after.ends
+Whole held before after Is =
+    IfSome held Is × IfSome held (λ bytes. length bytes ≤ SCRIPT_LIMIT) × Rose before.ends after.ends
 
 -- what the script that a source held prints, or why it prints nothing
 abbrev pub Played : Option (List ℕ) → Tally → Tally → Result Output Refusal → Type 0
 Played held before after (Ok output) = Whole held before after (λ bytes. Prints output.ending bytes output.text.items)
 Played held before after (Err NoMemory) = Unit {0}
 Played held before after (Err ReadFault) = Rose before.faults after.faults
-Played held before after (Err TooLong) = IfSome held (λ bytes. SCRIPT_LIMIT < length bytes) × RoseBy (suc SCRIPT_LIMIT) before.given after.given
+Played held before after (Err TooLong) =
+    IfSome held (λ bytes. SCRIPT_LIMIT < length bytes) × RoseBy (suc SCRIPT_LIMIT) before.given after.given
 
 -- the status of an ending
 abbrev pub status_of_ending : Ending → ℕ

@@ -15,6 +15,7 @@ use Rattle.nats_script.specs.Spelling.{field_number}
 use Rattle.nats_bulk.specs.Generated.{bulk_config, generated}
 use Rattle.nats_bulk.specs.Summary.{summary}
 use Rattle.nats_replay.specs.declared.whole.TheConstants.{SCRIPT_LIMIT}
+use Rattle.nats_replay.specs.Live.{live_of, others}
 
 -- the words that play a script: the one word `run`
 abbrev pub run_words : List (List ℕ)
@@ -29,12 +30,17 @@ in_bulk n = if nat_le 1 n && nat_le n bulk_limit then Some n else None
 
 -- how many turns the words ask for that are made by a rule: those of `bulk N`, N from 1 to a million
 abbrev pub bulk_count : List (List ℕ) → Option ℕ
-bulk_count (word ∷ number ∷ []) = if bytes_eq word (codes "bulk") then option_and_then in_bulk (field_number number) else None
+bulk_count (word ∷ number ∷ []) =
+    if bytes_eq word (codes "bulk") then option_and_then in_bulk (field_number number) else None
 bulk_count words = None
 
 -- the words are no command
 abbrev pub IsUnknown : List (List ℕ) → Type 0
-IsUnknown words = (words ≢ run_words) × (bulk_count words ≡ None)
+IsUnknown words = (words ≢ run_words) × (bulk_count words ≡ None) × (live_of words ≡ others)
+
+-- the words ask for a command on a live link
+abbrev pub IsLive : List (List ℕ) → Type 0
+IsLive words = live_of words ≢ others
 
 -- what is printed of words that are no command
 abbrev pub unknown_command : List ℕ
@@ -42,17 +48,22 @@ unknown_command = codes "unknown command\n"
 
 -- the statuses
 abbrev pub is_status : ℕ → Bool
-is_status n = list_any (λ status. status == n) (0 ∷ 2 ∷ 3 ∷ 4 ∷ 5 ∷ 6 ∷ 7 ∷ 8 ∷ [])
+is_status n = list_any (λ status. status == n) (0 ∷ 2 ∷ 3 ∷ 4 ∷ 5 ∷ 6 ∷ 7 ∷ 8 ∷ 9 ∷ [])
 
--- those that come to scripts alone, those that come to lists that are made by a rule, and those to words but `run`
+-- those that come to scripts alone, those that come to lists that are made by a rule, those to commands on a
+-- live link, and those
+-- to words but `run`
 abbrev pub is_status_of_run : ℕ → Bool
 is_status_of_run n = list_any (λ status. status == n) (3 ∷ 5 ∷ 6 ∷ 8 ∷ [])
 
 abbrev pub is_status_of_bulk : ℕ → Bool
 is_status_of_bulk n = list_any (λ status. status == n) (0 ∷ 4 ∷ 7 ∷ [])
 
+abbrev pub is_status_of_live : ℕ → Bool
+is_status_of_live n = list_any (λ status. status == n) (0 ∷ 4 ∷ 7 ∷ 9 ∷ [])
+
 abbrev pub is_status_of_others : ℕ → Bool
-is_status_of_others n = list_any (λ status. status == n) (0 ∷ 2 ∷ 4 ∷ 7 ∷ [])
+is_status_of_others n = list_any (λ status. status == n) (0 ∷ 2 ∷ 4 ∷ 7 ∷ 9 ∷ [])
 
 -- what is printed of a script whose first line that cannot be read is line k
 abbrev pub unreadable_text : ℕ → List ℕ
@@ -65,7 +76,8 @@ out_of_turn_text k = codes "turn " ++ decimal k ++ codes " out of turn" ++ lf
 -- bytes spell settings and turns that may come where they stand, and the text is their printed transcript
 abbrev pub IsTranscript : List ℕ → List ℕ → Type 0
 IsTranscript bytes text = (config : Config) × (turns : List Turn)
-    × (script bytes ≡ Good config turns) × (out_of_turn config turns ≡ None) × (text ≡ printed (transcript config turns))
+    × (script bytes ≡ Good config turns) × (out_of_turn config turns ≡ None)
+    × (text ≡ printed (transcript config turns))
 
 -- bytes have a first line that cannot be read, and the text names it
 abbrev pub IsUnreadable : List ℕ → List ℕ → Type 0

@@ -1,12 +1,16 @@
-//! Playing a script: reading its bytes from a source, playing its turns, printing their transcript into a sink.
+//! The top call of the program: playing a script, whose bytes a source gives, and printing its transcript into a sink; and commands
+//! on a live link, which a world gives.
 #![tactic(auto)]
 
+mod live;
 mod memory;
 mod outside;
 mod top;
 mod whole;
 
+pub use live::RECEIVE_LIMIT;
 pub use memory::{Failing, MemorySink, MemorySource};
+pub use nats_client::{MemoryWorld, World, memory_world};
 pub use nats_names::{Failed, NoMemory};
 pub use nats_script::{Script, print_transcript, read_script};
 pub use nats_session::{Config, RunError, Seq, Transcript, Turn};

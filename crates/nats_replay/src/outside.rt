@@ -8,8 +8,8 @@ ghost use Rattle.nats_replay.specs.Adapters.{reading_inner, reading_counts, writ
 use nats_names::Failed;
 use std::io::{Read, Write};
 
-/// A source of bytes, which counts what it does; each count stops at 2^64-1. Own trait: std's `Read` counts nothing, and
-/// a clause that names the cause of a fault needs a count.
+/// A source of bytes, which counts what it does; each count stops at 2^64-1. Own trait: std's `Read` counts
+/// nothing, and a clause that names the cause of a fault needs a count.
 pub trait Source {
     /// The bytes that reads will give from here on, where they are known.
     ghost left: { Self → Option (List ℕ) };
@@ -23,8 +23,8 @@ pub trait Source {
     /// How many reads failed.
     ghost faults: { Self → ℕ };
 
-    /// Gives the next bytes into the front of `buf`, at most as many as it holds, and answers how many they are. None in
-    /// a nonempty `buf` is the end. A read that fails gives no byte.
+    /// Gives the next bytes into the front of `buf`, at most as many as it holds, and answers how many they are.
+    /// None in a nonempty `buf` is the end. A read that fails gives no byte.
     fn read(&mut self, buf: &mut [u8]) -> Result<usize, Failed>
         ensures bound { ReadsAtMost result buf.new }
         ensures bytes { ReadConsumes (left self.old) (left self.new) result buf.new }
@@ -41,8 +41,8 @@ pub trait Sink {
     /// How many writes failed.
     ghost faults: { Self → ℕ };
 
-    /// Takes bytes from the front of `bytes`, and answers how many they are. Taking none of nonempty bytes is a failure.
-    /// A write that fails takes none.
+    /// Takes bytes from the front of `bytes`, and answers how many they are. Taking none of nonempty bytes is a
+    /// failure. A write that fails takes none.
     fn write(&mut self, bytes: &[u8]) -> Result<usize, Failed>
         ensures bound { IfOk result (λ n. n ≤ length bytes.now) }
         ensures progress { 0 < length bytes.now → IfOk result (λ n. 0 < n) }

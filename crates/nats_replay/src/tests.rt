@@ -4,6 +4,7 @@ use super::*;
 use std::alloc::Global;
 use std::io;
 use std::io::Read;
+use std::sync::Wait;
 use std::test::Fail;
 
 /// One link and one subscription, whose one message is taken.
@@ -27,12 +28,24 @@ fn source(alloc: Global, text: &str, most: usize) -> Result<MemorySource, NoMemo
     Ok(MemorySource::new(bytes, most))
 }
 
+/// The same as `replay` in a world without links.
+fn plays<R: Wait, S: Source, K: Sink>(
+    rt: &R,
+    alloc: Global,
+    words: &[String],
+    source: &mut S,
+    sink: &mut K,
+) -> Result<u8, NoMemory> {
+    let mut world = memory_world(alloc, Vec::new(alloc))?;
+    Ok(replay(rt, alloc, words, source, sink, &mut world))
+}
+
 /// The status that a script ends with, and what it prints.
-fn played(alloc: Global, text: &str) -> Result<(u8, MemorySink), NoMemory> {
+fn played<R: Wait>(rt: &R, alloc: Global, text: &str) -> Result<(u8, MemorySink), NoMemory> {
     let words = word(alloc, "run")?;
     let mut source = source(alloc, text, 65_536)?;
     let mut sink = MemorySink::new(alloc, 65_536);
-    let status = replay(alloc, words.as_slice(), &mut source, &mut sink);
+    let status = plays(rt, alloc, words.as_slice(), &mut source, &mut sink)?;
     Ok((status, sink))
 }
 
@@ -43,7 +56,7 @@ fn the_plain_path_prints_its_transcript(rt: HostRuntime) -> Result<(), Fail> {
     for most in [1, 7, 65_536] {
         let mut source = source(rt.alloc(), SCRIPT, most)?;
         let mut sink = MemorySink::new(rt.alloc(), most);
-        let status = replay(rt.alloc(), words.as_slice(), &mut source, &mut sink);
+        let status = plays(&rt, rt.alloc(), words.as_slice(), &mut source, &mut sink)?;
         assert_eq!(rt; status, 0, "by pieces of {most}");
         assert_eq!(rt; sink.bytes(), TRANSCRIPT.as_bytes());
     }
@@ -122,7 +135,7 @@ fn under(alloc: Global, settings: &str, turns: &str) -> Result<String, NoMemory>
 fn turns_print_what_they_show(rt: HostRuntime) -> Result<(), Fail> {
     for (turns, status, want) in PLAYED {
         let text = under(rt.alloc(), "config 2048 65536 check _INBOX MUX1\n", turns)?;
-        let (answer, sink) = played(rt.alloc(), text.as_str())?;
+        let (answer, sink) = played(&rt, rt.alloc(), text.as_str())?;
         assert_eq!(rt; answer, status, "{turns:?}");
         assert_eq!(rt; sink.bytes(), want.as_bytes(), "{turns:?}");
     }
@@ -157,7 +170,7 @@ call 2 numbered 1\n",
 #[test]
 fn settings_are_kept_to(rt: HostRuntime) -> Result<(), Fail> {
     for (text, status, want) in SETTINGS {
-        let (answer, sink) = played(rt.alloc(), text)?;
+        let (answer, sink) = played(&rt, rt.alloc(), text)?;
         assert_eq!(rt; answer, status, "{text:?}");
         assert_eq!(rt; sink.bytes(), want.as_bytes(), "{text:?}");
     }
@@ -189,7 +202,10 @@ fn a_call_waits_while_the_link_is_full(rt: HostRuntime) -> Result<(), Fail> {
     let words = word(alloc, "run")?;
     let mut source = MemorySource::new(text, 65_536);
     let mut sink = MemorySink::new(alloc, 65_536);
-    assert_eq!(rt; replay(alloc, words.as_slice(), &mut source, &mut sink), 0);
+    assert_eq!(rt;
+        plays(&rt, alloc, words.as_slice(), &mut source, &mut sink)?,
+        0
+    );
     let printed = sink.bytes();
     assert!(rt; printed.starts_with(b"link 1 up\nout PUB\nleft %20a%2065522%0D%0Axxx"));
     assert!(rt;
@@ -215,7 +231,10 @@ fn calls_go_on_whenever_fewer_bytes_wait_than_the_limit(rt: HostRuntime) -> Resu
     let words = word(alloc, "run")?;
     let mut source = MemorySource::new(text, 65_536);
     let mut sink = MemorySink::new(alloc, 65_536);
-    assert_eq!(rt; replay(alloc, words.as_slice(), &mut source, &mut sink), 0);
+    assert_eq!(rt;
+        plays(&rt, alloc, words.as_slice(), &mut source, &mut sink)?,
+        0
+    );
     let printed = sink.bytes();
     assert!(rt; printed.starts_with(b"link 1 up\nout PUB%20a%2040000%0D%0Axxx"));
     assert!(rt;
@@ -232,7 +251,7 @@ fn a_sink_that_fails_leaves_a_first_part(rt: HostRuntime) -> Result<(), Fail> {
     let mut source = source(rt.alloc(), SCRIPT, 65_536)?;
     let kept = MemorySink::new(rt.alloc(), 10);
     let mut sink = Failing::new(kept, [2].to_vec(rt.alloc())?);
-    let status = replay(rt.alloc(), words.as_slice(), &mut source, &mut sink);
+    let status = plays(&rt, rt.alloc(), words.as_slice(), &mut source, &mut sink)?;
     assert_eq!(rt; status, 4);
     assert_eq!(rt; sink.inner().bytes(), b"link 1 up\n".as_slice());
     Ok(())
@@ -245,7 +264,7 @@ fn a_read_that_fails_in_mid_stream_prints_nothing(rt: HostRuntime) -> Result<(),
         let held = source(rt.alloc(), SCRIPT, most)?;
         let mut source = Failing::new(held, [2].to_vec(rt.alloc())?);
         let mut sink = MemorySink::new(rt.alloc(), 65_536);
-        let status = replay(rt.alloc(), words.as_slice(), &mut source, &mut sink);
+        let status = plays(&rt, rt.alloc(), words.as_slice(), &mut source, &mut sink)?;
         assert_eq!(rt; status, 3, "by pieces of {most}");
         assert!(rt; sink.bytes().is_empty());
     }
@@ -258,7 +277,7 @@ fn a_script_that_is_too_long_is_refused(rt: HostRuntime) -> Result<(), Fail> {
     for (length, want) in [(16_777_216, 5), (16_777_217, 8)] {
         let mut source = Reading::new(io::repeat(b'a').take(length));
         let mut sink = MemorySink::new(rt.alloc(), 65_536);
-        let status = replay(rt.alloc(), words.as_slice(), &mut source, &mut sink);
+        let status = plays(&rt, rt.alloc(), words.as_slice(), &mut source, &mut sink)?;
         assert_eq!(rt; status, want, "at {length} bytes");
     }
     Ok(())
@@ -271,7 +290,7 @@ fn a_list_made_by_a_rule_is_summed_up(rt: HostRuntime) -> Result<(), Fail> {
     let mut none = source(rt.alloc(), "", 1)?;
     let mut sink = MemorySink::new(rt.alloc(), 65_536);
     assert_eq!(rt;
-        replay(rt.alloc(), words.as_slice(), &mut none, &mut sink),
+        plays(&rt, rt.alloc(), words.as_slice(), &mut none, &mut sink)?,
         0
     );
     let lines = "turns 11\ncalls 4\nputs 2\ntakes 2\ndrops 0\nsettled 1\nout 45\nleft 0\n";
@@ -285,12 +304,12 @@ fn other_words_are_called_unknown(rt: HostRuntime) -> Result<(), Fail> {
         let words = word(rt.alloc(), text)?;
         let mut source = source(rt.alloc(), SCRIPT, 65_536)?;
         let mut sink = MemorySink::new(rt.alloc(), 65_536);
-        let status = replay(rt.alloc(), words.as_slice(), &mut source, &mut sink);
+        let status = plays(&rt, rt.alloc(), words.as_slice(), &mut source, &mut sink)?;
         assert_eq!(rt; status, 2, "at {text:?}");
         assert_eq!(rt; sink.bytes(), b"unknown command\n".as_slice());
     }
     let mut none = source(rt.alloc(), SCRIPT, 65_536)?;
     let mut sink = Writing::new(Vec::new(rt.alloc()));
-    assert_eq!(rt; replay(rt.alloc(), &[], &mut none, &mut sink), 2);
+    assert_eq!(rt; plays(&rt, rt.alloc(), &[], &mut none, &mut sink)?, 2);
     Ok(())
 }

@@ -13,16 +13,23 @@ ghost use Rattle.nats_script.specs.Script.{script};
 ghost use Rattle.nats_script.specs.Spelling.{field_number};
 ghost use Rattle.nats_script.specs.Printed.{printed};
 ghost use Rattle.nats_replay.specs.Outside.{Rose, RoseBy, Still, AppendsFront};
-ghost use Rattle.nats_replay.specs.Words.{run_words, in_bulk, bulk_count, IsUnknown, unknown_command, unreadable_text, out_of_turn_text, is_status, is_status_of_run, is_status_of_bulk, is_status_of_others, IsUnreadable, IsOutOfTurn, IsSummary, Prints, IsPlayable};
+ghost use Rattle.nats_live.specs.declared.error.LiveError.{LiveError};
+ghost use Rattle.nats_live.specs.Causes.{WhyNotPublished, WhyNotReceived};
+ghost use Rattle.nats_live.specs.Ended.{WasPublished, WasReceived};
+ghost use Rattle.nats_replay.specs.Live.{IsToldOf, LastShows, LiveAnswers, PubPrints, SubPrints, error_line, live_of, others, published_line, publishes, receives};
+ghost use Rattle.nats_replay.specs.Words.{run_words, in_bulk, bulk_count, IsLive, IsUnknown, unknown_command, unreadable_text, out_of_turn_text, is_status, is_status_of_run, is_status_of_bulk, is_status_of_live, is_status_of_others, IsUnreadable, IsOutOfTurn, IsSummary, Prints, IsPlayable};
 ghost use Rattle.nats_replay.specs.Played.{Comes, Played, status_of_ending, status_of};
 
+use crate::live::answer_live;
 use crate::outside::{Sink, Source};
 use crate::whole::{ReadRefusal, SCRIPT_LIMIT, read_all, write_all};
 use nats_bulk::{bulk_config, bulk_turns, in_turn, summary};
+use nats_live::World;
 use nats_names::NoMemory;
 use nats_script::{Script, field_number, print_transcript, push_number, read_script};
 use nats_session::{Config, RunError, Seq, Turn, run};
 use std::alloc::Global;
+use std::sync::Wait;
 
 /// The most turns of a list that is made by a rule, behind its opening.
 pub const BULK_LIMIT: u64 = 1_000_000;
@@ -70,8 +77,8 @@ impl From<NoMemory> for Refusal {
     }
 }
 
-/// The transcript was printed.
-const DONE: u8 = 0;
+/// What was asked for was done, and printed.
+pub(crate) const DONE: u8 = 0;
 /// The words are no command.
 const UNKNOWN: u8 = 2;
 /// The source failed.
@@ -86,6 +93,8 @@ const OUT_OF_TURN: u8 = 6;
 pub const NO_MEMORY: u8 = 7;
 /// The script is too long.
 const TOO_LONG: u8 = 8;
+/// A command on a live link was refused, or its link ended first.
+pub(crate) const REFUSED: u8 = 9;
 
 fn unreadable_text(alloc: Global, line: u64) -> Result<Vec<u8>, NoMemory>
     ensures { IfOk result (λ text. text.items ≡ unreadable_text line) }
@@ -230,8 +239,46 @@ fn status_of(refusal: Refusal) -> u8
     }
 }
 
-// What words but `run` come to: `bulk N` to its eight lines, others to the text that calls them unknown.
-fn answer_others<K: Sink>(alloc: Global, words: &[String], sink: &mut K) -> u8
+// What words come to that ask for no script and no list: a command on a live link, or the text that calls them
+// unknown.
+fn answer_unlisted<R: Wait, K: Sink, W: World>(
+    rt: &R,
+    alloc: Global,
+    words: &[String],
+    sink: &mut K,
+    world: &mut W,
+) -> u8
+    ensures live { live_of (map string_bytes words.now) ≢ others → LiveAnswers
+        (map string_bytes words.now)
+        (W.seen world.old) (Some result) (W.seen world.new) (K.faults sink.old) (K.faults sink.new)
+        (K.written sink.old) (K.written sink.new) }
+    ensures unknown { live_of (map string_bytes words.now) ≡ others → (result ≡ 2) ⊎ (result ≡ 4) }
+    ensures unknown_only { result ≡ 2 → live_of (map string_bytes words.now) ≡ others }
+    ensures unknown_text { result ≡ 2 → Appends (K.written sink.old) (K.written sink.new) unknown_command }
+    ensures unknown_cut_short { result ≡ 4 → live_of (map string_bytes words.now) ≡ others →
+        AppendsFront (K.written sink.old) (K.written sink.new) unknown_command }
+    ensures write_fault { result ≡ 4 → Rose (K.faults sink.old) (K.faults sink.new) }
+    ensures silent { result ≡ 7 → sink.new ≡ sink.old }
+    ensures untouched { live_of (map string_bytes words.now) ≡ others → world.new ≡ world.old }
+{
+    match answer_live(rt, alloc, words, sink, world) {
+        Some(status) => status,
+        None => match write_all(UNKNOWN_COMMAND, sink) {
+            Ok(()) => UNKNOWN,
+            Err(_) => WRITE_FAULT,
+        },
+    }
+}
+
+// What words but `run` come to: `bulk N` to its eight lines, `pub` and `sub` to what comes of them, others to
+// the text that calls them unknown.
+fn answer_others<R: Wait, K: Sink, W: World>(
+    rt: &R,
+    alloc: Global,
+    words: &[String],
+    sink: &mut K,
+    world: &mut W,
+) -> u8
     ensures status { IsTrue (is_status_of_others result) }
     ensures summary { (n : _) → bulk_count (map string_bytes words.now) ≡ Some n → result ≡ 0 →
         (text : List _) × IsSummary n text × Appends (K.written sink.old) (K.written sink.new) text }
@@ -240,13 +287,21 @@ fn answer_others<K: Sink>(alloc: Global, words: &[String], sink: &mut K) -> u8
         (text : List _) × IsSummary n text × AppendsFront (K.written sink.old) (K.written sink.new) text }
     ensures bulk_complete { (n : _) → bulk_count (map string_bytes words.now) ≡ Some n →
         Still (K.faults sink.old) (K.faults sink.new) → (result ≡ 0) ⊎ (result ≡ 7) }
-    ensures unknown { bulk_count (map string_bytes words.now) ≡ None → (result ≡ 2) ⊎ (result ≡ 4) }
-    ensures unknown_only { result ≡ 2 → bulk_count (map string_bytes words.now) ≡ None }
+    ensures live { live_of (map string_bytes words.now) ≢ others → LiveAnswers
+        (map string_bytes words.now)
+        (W.seen world.old) (Some result) (W.seen world.new) (K.faults sink.old) (K.faults sink.new)
+        (K.written sink.old) (K.written sink.new) }
+    ensures unknown { bulk_count (map string_bytes words.now) ≡ None → live_of (map string_bytes words.now) ≡ others →
+        (result ≡ 2) ⊎ (result ≡ 4) }
+    ensures unknown_only { result ≡ 2 → (bulk_count (map string_bytes words.now) ≡ None)
+        × (live_of (map string_bytes words.now) ≡ others) }
     ensures unknown_text { result ≡ 2 → Appends (K.written sink.old) (K.written sink.new) unknown_command }
     ensures unknown_cut_short { result ≡ 4 → bulk_count (map string_bytes words.now) ≡ None →
+        live_of (map string_bytes words.now) ≡ others →
         AppendsFront (K.written sink.old) (K.written sink.new) unknown_command }
     ensures write_fault { result ≡ 4 → Rose (K.faults sink.old) (K.faults sink.new) }
     ensures silent { result ≡ 7 → sink.new ≡ sink.old }
+    ensures untouched { live_of (map string_bytes words.now) ≡ others → world.new ≡ world.old }
 {
     match bulk_count(words) {
         Some(count) => match play_bulk(alloc, count) {
@@ -256,31 +311,36 @@ fn answer_others<K: Sink>(alloc: Global, words: &[String], sink: &mut K) -> u8
             },
             Err(NoMemory) => NO_MEMORY,
         },
-        None => match write_all(UNKNOWN_COMMAND, sink) {
-            Ok(()) => UNKNOWN,
-            Err(_) => WRITE_FAULT,
-        },
+        None => answer_unlisted(rt, alloc, words, sink, world),
     }
 }
 
-/// What the program does: where the words are the one word `run`, it reads the source whole as a script, plays its turns
-/// and prints their transcript into the sink; where they are `bulk N`, N from 1 to 1,000,000 in decimal, it plays a list of N
-/// turns that is made by a rule, behind the opening of that list, and prints what its transcript comes to in eight lines. It
-/// answers the status to exit with: 0, the transcript or the lines are printed; 2, other words, which are called unknown; 3,
-/// the source failed; 4, the sink failed; 5, a line of the script cannot be read, and `script line k` says which is the first;
-/// 6, a turn of the script may not come where it stands, and `turn k out of turn` says which is the first; 7, want of memory;
-/// 8, more than 16,777,216 bytes. With 3, 7 and 8 nothing is printed. The words, the statuses and their order are our own
+/// What the program does: where the words are the one word `run`, it reads the source whole as a script, plays
+/// its turns and prints their transcript into the sink; where they are `bulk N`, N from 1 to 1,000,000 in
+/// decimal, it plays a list of N turns that is made by a rule, behind the opening of that list, and prints what
+/// its transcript comes to in eight lines; where they are `pub ADDR SUBJECT PAYLOAD` it connects to the server
+/// of that address, publishes that, and prints `published` once the link took all of it; where they are `sub
+/// ADDR SUBJECT N`, N in the same range, it connects, subscribes, takes N messages and prints each. These two
+/// use the world, others leave it alone, and may wait. It answers the status to exit with: 0, what was asked
+/// for is printed; 2, other words, which are called unknown; 3, the source failed; 4, the sink failed; 5, a
+/// line of the script cannot be read, and `script line k` says which is the first; 6, a turn of the script may
+/// not come where it stands, and `turn k out of turn` says which is the first; 7, want of memory; 8, more than
+/// 16,777,216 bytes; 9, connecting or a call was refused, whose text is printed, or the link ended first, and
+/// `link ended` is. With 3, 7 and 8 nothing is printed. The words, the statuses and their order are our own
 /// choice.
-pub fn replay<S: Source, K: Sink>(
+pub fn replay<R: Wait, S: Source, K: Sink, W: World>(
+    rt: &R,
     alloc: Global,
     words: &[String],
     source: &mut S,
     sink: &mut K,
+    world: &mut W,
 ) -> u8
-    // 0 to `run`: what was written is the printed transcript of the turns that the bytes held at entry spell, and they may
-    // come where they stand.
+    // 0 to `run`: what was written is the printed transcript of the turns that the bytes held at entry spell,
+    // and they may come where they stand.
     ensures transcript { result ≡ 0 → map string_bytes words.now ≡ run_words → IfSome (S.left source.old) (λ bytes.
-        (config : Config) × (turns : List Turn) × (script bytes ≡ Good config turns) × (out_of_turn config turns ≡ None)
+        (config : Config) × (turns : List Turn) × (script bytes ≡ Good config turns)
+        × (out_of_turn config turns ≡ None)
         × Appends (K.written sink.old) (K.written sink.new) (printed (transcript config turns))) }
     // Every answer is one of these.
     ensures status { IsTrue (is_status result) }
@@ -292,6 +352,40 @@ pub fn replay<S: Source, K: Sink>(
         (text : List _) × IsSummary n text × AppendsFront (K.written sink.old) (K.written sink.new) text }
     ensures bulk_complete { (n : _) → bulk_count (map string_bytes words.now) ≡ Some n →
         Still (K.faults sink.old) (K.faults sink.new) → (result ≡ 0) ⊎ (result ≡ 7) }
+    // 0 to `pub`: where the world tells its ended links, the last one took the handshake's text, a PONG for
+    // each PING that came with it, the text of the publish, and nothing else.
+    ensures published { (addr subject payload : List _)
+        → live_of (map string_bytes words.now) ≡ publishes addr subject payload
+        → result ≡ 0 → LastShows (WasPublished subject payload) (W.seen world.new)
+        × Appends (K.written sink.old) (K.written sink.new) published_line }
+    // 0 to `sub`: where the world tells its ended links, what was written are the texts of the first N messages
+    // that the last one gave for the subscription, which it was asked for.
+    ensures received { (addr subject : List _) (n : _) → live_of (map string_bytes words.now) ≡ receives addr subject n
+        → result ≡ 0 → (text : List _) × LastShows (WasReceived subject n text) (W.seen world.new)
+        × Appends (K.written sink.old) (K.written sink.new) text }
+    // 9: connecting or the call was refused, or the link ended first, and the text says so.
+    ensures not_published { (addr subject payload : List _)
+        → live_of (map string_bytes words.now) ≡ publishes addr subject payload
+        → result ≡ 9
+        → (e : LiveError) × IsToldOf e × WhyNotPublished addr subject payload (W.seen world.old) e (W.seen world.new)
+        × Appends (K.written sink.old) (K.written sink.new) (error_line e) }
+    ensures not_received { (addr subject : List _) (n : _)
+        → live_of (map string_bytes words.now) ≡ receives addr subject n
+        → result ≡ 9
+        → (e : LiveError) × IsToldOf e × WhyNotReceived addr subject n (W.seen world.old) e (W.seen world.new)
+        × Appends (K.written sink.old) (K.written sink.new) (error_line e) }
+    ensures live { IsLive (map string_bytes words.now) → IsTrue (is_status_of_live result) }
+    ensures refused_only { result ≡ 9 → IsLive (map string_bytes words.now) }
+    ensures pub_cut_short { (addr subject payload : List _)
+        → live_of (map string_bytes words.now) ≡ publishes addr subject payload
+        → result ≡ 4 → (text : List _) × PubPrints addr subject payload (W.seen world.old) text (W.seen world.new)
+        × AppendsFront (K.written sink.old) (K.written sink.new) text }
+    ensures sub_cut_short { (addr subject : List _) (n : _)
+        → live_of (map string_bytes words.now) ≡ receives addr subject n
+        → result ≡ 4 → (text : List _) × SubPrints addr subject n (W.seen world.old) text (W.seen world.new)
+        × AppendsFront (K.written sink.old) (K.written sink.new) text }
+    // Other words leave the world alone.
+    ensures untouched { live_of (map string_bytes words.now) ≡ others → world.new ≡ world.old }
     // 2: the words are no command.
     ensures unknown { IsUnknown (map string_bytes words.now) → (result ≡ 2) ⊎ (result ≡ 4) }
     ensures unknown_only { result ≡ 2 → IsUnknown (map string_bytes words.now) }
@@ -327,10 +421,11 @@ pub fn replay<S: Source, K: Sink>(
         Still (S.faults source.old) (S.faults source.new) → Still (K.faults sink.old) (K.faults sink.new) →
         (result ≡ 0) ⊎ (result ≡ 7)) }
     // Nothing else is printed.
-    ensures silent { result ≢ 0 → result ≢ 2 → result ≢ 4 → result ≢ 5 → result ≢ 6 → sink.new ≡ sink.old }
+    ensures silent { result ≢ 0 → result ≢ 2 → result ≢ 4 → result ≢ 5 → result ≢ 6 → result ≢ 9
+        → sink.new ≡ sink.old }
 {
     if !are_run(words) {
-        return answer_others(alloc, words, sink);
+        return answer_others(rt, alloc, words, sink, world);
     }
     match play(alloc, source) {
         Ok(output) => match write_all(output.text.as_slice(), sink) {

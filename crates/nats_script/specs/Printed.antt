@@ -49,11 +49,16 @@ content_text m = spelled m.subject ++ space ++ spelled_or_absent m.reply ++ spac
 
 -- its status and description, and its length
 abbrev pub answer_text : Message → List ℕ
-answer_text m = number_or_absent m.status ++ space ++ spelled_or_absent m.description ++ space ++ decimal m.length ++ space
+answer_text m =
+    number_or_absent m.status ++ space ++ spelled_or_absent m.description ++ space ++ decimal m.length ++ space
 
 -- a message by seven fields: subject, reply, payload, status, description, length, headers
 abbrev pub message_text : Message → List ℕ
 message_text m = content_text m ++ answer_text m ++ headers_text m.headers
+
+-- a message as a line of its own
+abbrev pub message_line : Message → List ℕ
+message_line m = codes "message " ++ message_text m ++ lf
 
 -- a word and a number, as a line begins
 abbrev pub opening : List ℕ → ℕ → List ℕ
@@ -77,7 +82,8 @@ end_word link_words.Hangup = codes "hangup"
 -- link k: how it ended, the bytes that it took, the bytes that it left
 abbrev pub link_lines : ℕ → LinkRow → List ℕ
 link_lines k row =
-    placed (codes "link") k (end_word row.end) ++ codes "out " ++ spelled row.taken ++ lf ++ codes "left " ++ spelled row.left ++ lf
+    placed (codes "link") k (end_word row.end) ++ codes "out " ++ spelled row.taken ++ lf ++ codes "left "
+    ++ spelled row.left ++ lf
 
 -- ---- subscriptions
 
@@ -98,7 +104,8 @@ take_line (place, reply) = placed (codes "take") place (take_text reply)
 -- subscription s: its puts, its drops, its takes
 abbrev pub sub_lines : ℕ → SubRow → List ℕ
 sub_lines s row =
-    codes "sub " ++ decimal s ++ lf ++ flat_map put_line row.puts ++ flat_map drop_line row.drops ++ flat_map take_line row.takes
+    codes "sub " ++ decimal s ++ lf ++ flat_map put_line row.puts ++ flat_map drop_line row.drops
+    ++ flat_map take_line row.takes
 
 -- ---- events, calls and tickets
 
@@ -146,5 +153,6 @@ numbered lines k (row ∷ rows) = lines k row ++ numbered lines (suc k) rows
 -- a transcript: its links, its subscriptions, its events, its calls, its tickets
 abbrev pub printed : Transcript → List ℕ
 printed t =
-    numbered link_lines 1 t.links ++ numbered sub_lines 1 t.subs ++ flat_map event_line t.events ++ flat_map call_line t.calls
+    numbered link_lines 1 t.links ++ numbered sub_lines 1 t.subs ++ flat_map event_line t.events
+    ++ flat_map call_line t.calls
     ++ numbered ticket_line 1 t.tickets

@@ -48,7 +48,8 @@ only fields = None
 
 -- `check` has subjects tested, `skip` has them taken untested
 abbrev pub mode_of : List ℕ → Option Bool
-mode_of field = if bytes_eq field (codes "check") then Some false else (if bytes_eq field (codes "skip") then Some true else None)
+mode_of field =
+    if bytes_eq field (codes "check") then Some false else (if bytes_eq field (codes "skip") then Some true else None)
 
 abbrev pub config_with : Option ℕ → Option ℕ → Option Bool → Option (List ℕ) → Option (List ℕ) → Option Config
 config_with (Some clients) (Some messages) (Some skip) (Some prefix) (Some id) =
@@ -65,7 +66,8 @@ config_with clients messages skip prefix id = None
 abbrev pub config_of_fields : List (List ℕ) → Option Config
 config_of_fields (first ∷ clients ∷ messages ∷ mode ∷ prefix ∷ id ∷ []) =
     if bytes_eq first (codes "config")
-    then config_with (field_number clients) (field_number messages) (mode_of mode) (field_text prefix) (field_token id) else None
+    then config_with (field_number clients) (field_number messages) (mode_of mode) (field_text prefix)
+    (field_token id) else None
 config_of_fields fields = None
 
 abbrev pub config_of_line : List ℕ → Option Config
@@ -143,39 +145,46 @@ headers_from None fields = None
 headers_from (Some headers) [] = Some headers
 headers_from (Some headers) (name ∷ []) = None
 headers_from (Some headers) (name ∷ value ∷ more) =
-    headers_from (with_value headers (text_that is_header_name (field_text name)) (text_that is_header_value (field_text value))) more
+    headers_from (with_value headers (text_that is_header_name (field_text name))
+    (text_that is_header_value (field_text value))) more
 
-abbrev pub publish_with : Option (List ℕ) → Option (Option (List ℕ)) → Option (List ℕ) → Option (Option Headers) → Option Turn
+abbrev pub publish_with : Option (List ℕ) → Option (Option (List ℕ)) → Option (List ℕ) → Option (Option Headers)
+    → Option Turn
 publish_with (Some subject) (Some reply) (Some payload) (Some headers) =
     Some (Do (Publish (record { subject = subject; reply = reply; payload = payload; headers = headers })))
 publish_with subject reply payload headers = None
 
 -- `pub S R B`, or `pub S ~ B` without a reply
 abbrev pub pub_of : List (List ℕ) → Option Turn
-pub_of (subject ∷ reply ∷ payload ∷ []) = publish_with (field_text subject) (field_optional reply) (field_bytes payload) (Some None)
+pub_of (subject ∷ reply ∷ payload ∷ []) =
+    publish_with (field_text subject) (field_optional reply) (field_bytes payload) (Some None)
 pub_of fields = None
 
 -- `hpub S R B` and pairs of names and values
 abbrev pub hpub_of : List (List ℕ) → Option Turn
 hpub_of (subject ∷ reply ∷ payload ∷ pairs) =
-    publish_with (field_text subject) (field_optional reply) (field_bytes payload) (option_map Some (headers_from (Some []) pairs))
+    publish_with (field_text subject) (field_optional reply) (field_bytes payload)
+    (option_map Some (headers_from (Some []) pairs))
 hpub_of fields = None
 
 -- ---- requests
 
 abbrev pub request_with : Option (List ℕ) → Option (List ℕ) → Option (List ℕ) → Option (Option Headers) → Option Turn
-request_with (Some subject) (Some token) (Some payload) (Some headers) = Some (Do (Request subject payload headers token))
+request_with (Some subject) (Some token) (Some payload) (Some headers) =
+    Some (Do (Request subject payload headers token))
 request_with subject token payload headers = None
 
 -- `request S T B`
 abbrev pub request_of : List (List ℕ) → Option Turn
-request_of (subject ∷ token ∷ payload ∷ []) = request_with (field_text subject) (field_token token) (field_bytes payload) (Some None)
+request_of (subject ∷ token ∷ payload ∷ []) =
+    request_with (field_text subject) (field_token token) (field_bytes payload) (Some None)
 request_of fields = None
 
 -- `hrequest S T B` and pairs of names and values
 abbrev pub hrequest_of : List (List ℕ) → Option Turn
 hrequest_of (subject ∷ token ∷ payload ∷ pairs) =
-    request_with (field_text subject) (field_token token) (field_bytes payload) (option_map Some (headers_from (Some []) pairs))
+    request_with (field_text subject) (field_token token) (field_bytes payload)
+    (option_map Some (headers_from (Some []) pairs))
 hrequest_of fields = None
 
 -- ---- the turn of a line

@@ -1,5 +1,5 @@
-//! Scripts and transcripts as text: reading the settings and turns that bytes spell, and printing a transcript. It is our own
-//! format: a line for each turn, and a line for each entry.
+//! Scripts and transcripts as text: reading the settings and turns that bytes spell, and printing a transcript. It
+//! is our own format: a line for each turn, and a line for each entry.
 #![tactic(auto)]
 
 mod cut;
@@ -13,7 +13,7 @@ mod turn_lines;
 
 pub use fields::field_number;
 pub use nats_history::{Config, NoMemory, Seq, Transcript, Turn};
-pub use print::print_transcript;
+pub use print::{print_transcript, push_message_line};
 pub use read::read_script;
 pub use script::Script;
 pub use spelling::push_number;

@@ -1,7 +1,7 @@
 //! Printing a transcript.
 ghost use Rattle.std.specs.Prelude.{◌≡◌, ◌++◌, IfOk, OnOk};
 ghost use Rattle.std.specs.List.{flat_map};
-ghost use Rattle.nats_script.specs.Printed.{lf, opening, number_or_absent, header_fields, value_count, headers_text, content_text, answer_text, message_text, placed, end_word, link_lines, put_line, drop_line, take_text, take_line, sub_lines, event_line, sizes_text, reply_text, call_line, ticket_text, ticket_line, numbered, printed};
+ghost use Rattle.nats_script.specs.Printed.{lf, opening, number_or_absent, header_fields, value_count, headers_text, content_text, answer_text, message_text, message_line, placed, end_word, link_lines, put_line, drop_line, take_text, take_line, sub_lines, event_line, sizes_text, reply_text, call_line, ticket_text, ticket_line, numbered, printed};
 ghost use Rattle.nats_script.specs.Spelling.{spelled, spelled_or_absent};
 ghost use Rattle.nats_names.specs.Events.{event_text};
 
@@ -129,6 +129,15 @@ fn push_message(out: &mut Vec<u8>, m: &Message) -> Result<(), NoMemory>
     push_content(out, m)?;
     push_answer(out, m)?;
     push_headers(out, &m.headers)
+}
+
+/// A message as a line of its own: the word `message`, then its seven fields as in a transcript.
+pub fn push_message_line(out: &mut Vec<u8>, m: &Message) -> Result<(), NoMemory>
+    ensures { OnOk result (out.new.items ≡ out.old.items ++ message_line m.now) }
+{
+    out.extend_from_slice(b"message ")?;
+    push_message(out, m)?;
+    close_line(out)
 }
 
 // ---- links
@@ -353,8 +362,8 @@ fn push_tickets(out: &mut Vec<u8>, tickets: &[Option<(u64, CallReply)>]) -> Resu
     Ok(())
 }
 
-/// The printed form of a transcript: its links, its subscriptions, its events, its calls and its tickets, a line for each entry.
-/// It is our own format.
+/// The printed form of a transcript: its links, its subscriptions, its events, its calls and its tickets, a line
+/// for each entry. It is our own format.
 pub fn print_transcript(alloc: Global, transcript: &Transcript) -> Result<Vec<u8>, NoMemory>
     ensures { IfOk result (λ text. text.items ≡ printed transcript.now) }
 {

@@ -30,7 +30,8 @@ struct ConfigFields<'a> {
 
 fn config_fields(line: &[u8]) -> Option<ConfigFields<'_>>
     ensures { MatchOption result (config_of_fields (fields_of line.now) ≡ None)
-        (λ f. fields_of line.now ≡ f.first.now ∷ f.clients.now ∷ f.messages.now ∷ f.mode.now ∷ f.prefix.now ∷ f.id.now ∷ []) }
+        (λ f. fields_of line.now
+        ≡ f.first.now ∷ f.clients.now ∷ f.messages.now ∷ f.mode.now ∷ f.prefix.now ∷ f.id.now ∷ []) }
 {
     let (first, rest) = cut(line, b' ');
     let (clients, rest) = cut(rest?, b' ');

@@ -177,17 +177,17 @@ played place steps old new last s0 s1 s2 gives_none none settled plays written n
     )
 
 -- a write, after the bytes that the link takes were written
-pub write_noted : (place n k : ℕ) (old new : Seen) (s0 s1 s2 : Sheet) (waiting : List ℕ) → can_play old.parts (Write n) ≡ true → old.events ≡ [] → old.ready ≡ []
-    → k ≡ min n (length waiting) → waiting ≡ old.parts.link.wire.waiting → s1 ≡ record s0 { taken = s0.taken ++ take k waiting }
+pub write_noted : (place n : ℕ) (old new : Seen) (s0 s1 s2 : Sheet) (took : List ℕ) → can_play old.parts (Write n) ≡ true → old.events ≡ [] → old.ready ≡ []
+    → took ≡ take (min n (length old.parts.link.wire.waiting)) old.parts.link.wire.waiting → s1 ≡ record s0 { taken = s0.taken ++ took }
     → new ≡ seen_after old (taken (min n (length old.parts.link.wire.waiting))) → s2 ≡ write_tickets place new.ready (write_events place new.events s1)
     → s2 ≡ sheet_noted place (taken (min n (length old.parts.link.wire.waiting))) old.parts s0
-write_noted place n k old new s0 s1 s2 waiting may none settled count same took plays news =
+write_noted place n old new s0 s1 s2 took may none settled is noted plays news =
     let bytes = old.parts.link.wire.waiting in
     let step = taken (min n (length bytes)) in
     let up : old.parts.link.is_up ≡ true = both_true old.parts.link.is_up (not (is_some (due old.parts))) may in
     let written : s1 ≡ sheet_written place (step ∷ []) old.parts s0 =
-    took
-    ∙ (ap (λ text. record s0 { taken = s0.taken ++ text }) (ap (λ j. take j waiting) count ∙ ap (λ bs. take (min n (length bs)) bs) same)
+    noted
+    ∙ (ap (λ text. record s0 { taken = s0.taken ++ text }) is
     ∙ sym (ap (λ b. record s0 { taken = cond b (s0.taken ++ take (min n (length bytes)) bytes) [] }) up))
     in
     (played place (step ∷ []) old new (record new { events = []; ready = [] }) s0 s1 s2 (refl, tt) none settled plays written news refl).1

@@ -7,7 +7,7 @@ use Rattle.nats_names.specs.declared.event.Event.{Event}
 use Rattle.nats_wire.specs.declared.op.ClientOp.{ClientOp}
 use Rattle.nats_wire.specs.Commands.{command_text, command_texts}
 use Rattle.nats_wire.specs.Operations.{Operation, pong_op, got, front, past}
-use Rattle.nats_wire.specs.Wire.{Wire, fresh}
+use Rattle.nats_wire.specs.Wire.{Channel, new_channel, with_waiting}
 use Rattle.nats_history.specs.declared.call.Call.{Call}
 use Rattle.nats_history.specs.declared.call.Call.TheVariants.{Reconnect}
 use Rattle.nats_history.specs.declared.ping.Ping.{Ping}
@@ -156,9 +156,10 @@ written_ops ops commands waiting is =
 -- ---- a new link
 
 -- buffers in which the texts of commands wait, written at once
-pub written_at_once : (before wire : Wire) (ops commands : List ClientOp) → before ≡ fresh → ops ≡ commands → wire ≡ record before { waiting = before.waiting ++ command_texts ops }
-    → wire ≡ record { unread = []; waiting = write_all commands [] }
-written_at_once before wire ops commands new same is =
-    is
-    ∙ (ap (λ (w : Wire). record w { waiting = w.waiting ++ command_texts ops }) new
+pub written_at_once : (before channel : Channel) (ops commands : List ClientOp) → before ≡ new_channel → ops ≡ commands
+    → channel ≡ with_waiting (before.wire.waiting ++ command_texts ops) before
+    → channel.wire ≡ record { unread = []; waiting = write_all commands [] }
+written_at_once before channel ops commands new same is =
+    ap (λ (c : Channel). c.wire) is
+    ∙ (ap (λ (c : Channel). record c.wire { waiting = c.wire.waiting ++ command_texts ops }) new
     ∙ ap (λ text. record { unread = []; waiting = text }) (ap (λ cs. [] ++ command_texts cs) same ∙ (ap (λ text. [] ++ text) (same_texts commands) ∙ written_all commands [])))

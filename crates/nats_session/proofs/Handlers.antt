@@ -326,7 +326,8 @@ with_ticket seen drained calls subs request next = record seen {
   };
 }
 
--- a call that is not refused and is given no ticket: one more waits, and the subscriptions are those after its acceptance
+-- a call that is not refused and is given no ticket: one more waits, and the subscriptions are those after its
+-- acceptance
 taken : (old : Seen) (call : Call) (reply : CallReply) (drained : Bool) (calls : List Call) (subs : Subs) → refusal old.parts call ≡ None → waits_as call ≡ None → reply ≡ accepted_reply old.parts call
     → drained ≡ (drains_all call || old.parts.drain.is_accepted) → calls ≡ old.parts.calls ++ call ∷ [] → subs ≡ subs_after old.parts.config old.parts.link.pings (accepted call) old.parts.subs
     → TakenIn old call reply (with_call old drained calls subs)

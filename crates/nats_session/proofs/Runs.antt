@@ -13,6 +13,7 @@ use Rattle.nats_history.proofs.Dues.{none_left}
 use Rattle.nats_session.specs.Handler.{idle}
 use Rattle.nats_session.specs.Sheet.{Sheet, empty_sheet, finished}
 use Rattle.nats_session.specs.Machine.{own_parts, turn_parts, turn_sheet, played_parts, played_sheet, first_out_of_turn}
+use Rattle.nats_session.specs.Playing.{PlaysTo}
 use Rattle.nats_session.proofs.Plays.{first_from_idle, transcript_from_idle}
 
 -- the first i turns were played
@@ -24,6 +25,10 @@ pub record Running (c : Config) (turns : List Turn) (i : ℕ) (p : Parts) (sheet
 
 pub begins : (c : Config) (turns : List Turn) → Running c turns 0 (idle c) empty_sheet
 begins c turns = record { none = refl; first = refl; parts = refl; written = refl }
+
+pub begins_at : (c : Config) (turns : List Turn) (p : Parts) (sheet : Sheet) → p ≡ idle c → sheet ≡ empty_sheet
+    → Running c turns 0 p sheet
+begins_at c turns p sheet parts written = rw (parts, written) (begins c turns)
 
 next_turn : (turns : List Turn) (i : ℕ) (turn : Turn) → i < length turns → turn ≡ get_or turns i turn → drop i turns ≡ turn ∷ drop (suc i) turns
 next_turn turns i turn less at =
@@ -63,3 +68,15 @@ ends_at c turns i p sheet running past =
 pub wanting : (c : Config) (turns : List Turn) (r : Result Transcript RunError) → IsErr r × IsErrAnd r (λ e. e ≡ refused.NoMemory) → Plays c turns r
 wanting c turns (Ok t) is = absurd is.1
 wanting c turns (Err e) is = subst (λ x. Plays c turns (Err x)) (sym is.1) tt
+
+-- the same before a transcript is made
+pub wanted : (c : Config) (turns : List Turn) (r : Result (Unit {0}) RunError) (p : Parts) (sheet : Sheet)
+    → IsErr r × IsErrAnd r (λ e. e ≡ refused.NoMemory) → PlaysTo c turns r p sheet
+wanted c turns (Ok t) p sheet is = absurd is.1
+wanted c turns (Err e) p sheet is = subst (λ x. PlaysTo c turns (Err x) p sheet) (sym is.1) tt
+
+-- what stops the turns stops the run
+pub refused_so : (c : Config) (turns : List Turn) (e : RunError) (p : Parts) (sheet : Sheet)
+    → PlaysTo c turns (Err e) p sheet → Plays c turns (Err e)
+refused_so c turns (refused.OutOfTurn place) p sheet is = is
+refused_so c turns refused.NoMemory p sheet is = tt

@@ -67,7 +67,8 @@ without_all (ticket ∷ earlier) settled = without ticket (without_all earlier s
 -- each of these stood there when it was handed out
 abbrev pub StoodThere : List ℕ → List (ℕ × CallReply) → Type 0
 StoodThere [] settled = Unit {0}
-StoodThere (ticket ∷ earlier) settled = (is_some (reply_in ticket (without_all earlier settled)) ≡ true) × StoodThere earlier settled
+StoodThere (ticket ∷ earlier) settled =
+    (is_some (reply_in ticket (without_all earlier settled)) ≡ true) × StoodThere earlier settled
 
 -- a handler stands for a history, of which this was handed out
 pub record StandsFor (c : Config) (out : HandedOut) (h : History) (seen : Seen) : Type 0 where
@@ -109,7 +110,8 @@ close_events true = Closed ∷ []
 
 -- how a session stands
 abbrev pub state_of : Parts → State
-state_of p = if p.link.is_up then states.Connected else (if p.link.number == 0 then states.Pending else states.Disconnected)
+state_of p =
+    if p.link.is_up then states.Connected else (if p.link.number == 0 then states.Pending else states.Disconnected)
 
 -- the events that some steps give out
 abbrev pub all_events : Parts → List Step → List Event
@@ -127,7 +129,11 @@ with_buffers wire seen = record seen { parts = record seen.parts { link = record
 
 -- one more operation was read
 abbrev pub counted : Seen → Seen
-counted seen = record seen { parts = record seen.parts { link = record seen.parts.link { reads = cut (suc seen.parts.link.reads) } } }
+counted seen =
+    record seen {
+      parts = record seen.parts
+          { link = record seen.parts.link { reads = cut (suc seen.parts.link.reads) } };
+    }
 
 -- the first unread bytes are taken away, as one more operation was read
 abbrev pub read_past : ℕ → Seen → Seen
@@ -149,8 +155,8 @@ message_past n len seen =
 abbrev pub can_play : Parts → Turn → Bool
 can_play p turn = is_valid_turn p turn && not (is_some (due p))
 
--- the steps lead from one to the other: whatever history the old one stands for, the new one stands for that history with
--- the steps
+-- the steps lead from one to the other: whatever history the old one stands for, the new one stands for that
+-- history with the steps
 abbrev pub LeadTo : Seen → List Step → Seen → Type 0
 LeadTo old steps new =
     (c : Config) (out : HandedOut) (h : History) (place : ℕ) → StandsFor c out h old
@@ -206,13 +212,15 @@ arrived_seen m old = record old {
 abbrev pub come_seen : ℕ → Message → Seen → Seen
 come_seen sid m old = if sid == 0 then arrived_seen m old else after_message sid m (delivery_of old.parts sid) old
 
--- what is seen after a PONG by which the link stays up, but for its bytes: its PING is answered, and the subscription that it
--- drained ends
+-- what is seen after a PONG by which the link stays up, but for its bytes: its PING is answered, and the
+-- subscription that it drained ends
 abbrev pub pong_read : Seen → Seen
 pong_read old = record old {
   parts = record old.parts {
     link = record old.parts.link { pings = drop 1 old.parts.link.pings };
-    subs = with_rows (change (drained_by (first old.parts.link.pings)) (λ sub. kept (altered alterations.End sub)) old.parts.subs.rows)
+    subs =
+        with_rows (change (drained_by (first old.parts.link.pings))
+        (λ sub. kept (altered alterations.End sub)) old.parts.subs.rows)
         old.parts.subs;
   };
 }
@@ -296,8 +304,8 @@ abbrev pub handed : Option Event → HandedOut → HandedOut
 handed None out = out
 handed (Some event) out = record out { events = suc out.events }
 
--- the oldest event that waits is handed out: whatever history the old one stands for, it is that history's next, and the new
--- one stands for the history with one more handed out
+-- the oldest event that waits is handed out: whatever history the old one stands for, it is that history's next,
+-- and the new one stands for the history with one more handed out
 abbrev pub HandsOut : Seen → Option Event → Seen → Type 0
 HandsOut old event new =
     (c : Config) (out : HandedOut) (h : History) → StandsFor c out h old
@@ -309,9 +317,10 @@ abbrev pub handed_reply : ℕ → Option CallReply → HandedOut → HandedOut
 handed_reply ticket None out = out
 handed_reply ticket (Some reply) out = record out { tickets = ticket ∷ out.tickets }
 
--- the reply of a ticket is handed out, where it settled and was not handed out: whatever history the old one stands for, it is
--- that history's, and the new one stands for the history with this one more handed out
+-- the reply of a ticket is handed out, where it settled and was not handed out: whatever history the old one stands
+-- for, it is that history's, and the new one stands for the history with this one more handed out
 abbrev pub HandsReply : ℕ → Seen → Option CallReply → Seen → Type 0
 HandsReply ticket old reply new =
     (c : Config) (out : HandedOut) (h : History) → StandsFor c out h old
-    → (reply ≡ reply_in ticket (without_all out.tickets (settled_tickets c h))) × StandsFor c (handed_reply ticket reply out) h new
+    → (reply ≡ reply_in ticket (without_all out.tickets (settled_tickets c h)))
+    × StandsFor c (handed_reply ticket reply out) h new

@@ -74,7 +74,8 @@ played_parts (turn ∷ turns) p = played_parts turns (turn_parts turn p)
 
 abbrev pub played_sheet : ℕ → List Turn → Parts → Sheet → Sheet
 played_sheet place [] p sheet = sheet
-played_sheet place (turn ∷ turns) p sheet = played_sheet (suc place) turns (turn_parts turn p) (turn_sheet place turn p sheet)
+played_sheet place (turn ∷ turns) p sheet =
+    played_sheet (suc place) turns (turn_parts turn p) (turn_sheet place turn p sheet)
 
 abbrev pub first_out_of_turn : ℕ → List Turn → Parts → Option ℕ
 first_out_of_turn place [] p = None
@@ -86,7 +87,8 @@ first_out_of_turn place (turn ∷ turns) p =
 -- the row of a link that ends, where these are the parts before its end
 abbrev pub write_end : Option LinkWord → Parts → Sheet → Sheet
 write_end None p sheet = sheet
-write_end (Some end) p sheet = record sheet { links = sheet.links ++ row_with end sheet.taken p.link.wire.waiting ∷ []; taken = [] }
+write_end (Some end) p sheet =
+    record sheet { links = sheet.links ++ row_with end sheet.taken p.link.wire.waiting ∷ []; taken = [] }
 
 -- what a message writes before it is brought to its subscription: a put, where it is to be put
 abbrev pub write_coming : ℕ → ℕ → Message → Delivery → Sheet → Sheet
@@ -114,4 +116,5 @@ write_look place p looks.Command sheet = sheet
 -- the step that is due was played and written with what follows it at once
 abbrev pub Notes : Option Step → ℕ → Parts → Sheet → Seen → Sheet → Type 0
 Notes None place p sheet seen sheet' = (seen ≡ quiet p) × (sheet' ≡ sheet)
-Notes (Some step) place p sheet seen sheet' = (seen ≡ quiet (after_all p (chain p step))) × (sheet' ≡ sheet_recorded place (chain p step) p sheet)
+Notes (Some step) place p sheet seen sheet' =
+    (seen ≡ quiet (after_all p (chain p step))) × (sheet' ≡ sheet_recorded place (chain p step) p sheet)

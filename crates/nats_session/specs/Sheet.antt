@@ -50,7 +50,8 @@ write_delivery place sid m Ignored rows = rows
 
 abbrev pub rows_written : ℕ → Parts → Step → List SubRow → List SubRow
 rows_written place p (accepted call) rows = if subscribes call then rows ++ new_row ∷ [] else rows
-rows_written place p (read (message sid m)) rows = write_delivery place sid m (delivery_at p.config (item_of sid p.subs.rows)) rows
+rows_written place p (read (message sid m)) rows =
+    write_delivery place sid m (delivery_at p.config (item_of sid p.subs.rows)) rows
 rows_written place p step rows = rows
 
 -- what a step writes at a place but for its events and the tickets that it settles, where these are the parts before it

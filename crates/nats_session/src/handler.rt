@@ -23,8 +23,8 @@ const DEFAULT_MAX_PAYLOAD: u64 = 1_048_576;
 /// A tick ends the link where so many ticks before it have no answer. The crate's `MAX_PENDING_PINGS`.
 const TICK_LIMIT: u64 = 2;
 
-/// A session over one link at a time. The crate's private handler, with its turns as calls. Contracts see its parts, the
-/// events that wait to be handed out, and the settled tickets that do.
+/// A session over one link at a time. The crate's private handler, with its turns as calls. Contracts see its
+/// parts, the events that wait to be handed out, and the settled tickets that do.
 #[derive(Drop)]
 pub struct ConnectionHandler {
     config: Config,
@@ -64,7 +64,7 @@ impl Model for ConnectionHandler {
           info = option_map (λ info. info.value) h.info;
           reads = h.reads;
           pings = h.pings;
-          wire = h.connection;
+          wire = h.connection.wire;
         };
         calls = h.calls;
         subs = h.subs;

@@ -1,12 +1,13 @@
 //! Playing a whole list of turns.
-ghost use Rattle.std.specs.Prelude.{◌≡◌, [], OnOk, IfOk, IsTrue};
+ghost use Rattle.std.specs.Prelude.{◌≡◌, [], None, OnOk, IfOk, IsTrue};
 ghost use Rattle.nats_history.specs.declared.turn.Turn.TheVariants as turns;
 ghost use Rattle.nats_history.specs.Schedule.{due};
 ghost use Rattle.nats_history.specs.Transcripts.{Plays};
-ghost use Rattle.nats_session.specs.Handler.{can_play, end_in, Sees, is_nothing};
-ghost use Rattle.nats_session.specs.Sheet.{write_events, write_tickets, finished};
+ghost use Rattle.nats_session.specs.Handler.{can_play, end_in, idle, Sees, is_nothing};
+ghost use Rattle.nats_session.specs.Sheet.{empty_sheet, write_events, write_tickets, finished};
 ghost use Rattle.nats_session.specs.Machine.{quiet, own_parts, own_sheet, settled_parts, settled_sheet, turn_parts, turn_sheet, write_look, write_end, Notes};
 ghost use Rattle.nats_history.specs.declared.transcript.RunError.TheVariants as refused;
+ghost use Rattle.nats_session.specs.Playing.{PlaysTo};
 
 use crate::handler::{ConnectionHandler, Look};
 use nats_draft::{Draft, Note};
@@ -52,6 +53,7 @@ fn play_piece(
 }
 
 fn play_write(
+    alloc: Global,
     handler: &mut ConnectionHandler,
     draft: &mut Draft,
     place: u64,
@@ -63,9 +65,8 @@ fn play_write(
     ensures parts { OnOk result (handler.new ≡ quiet (own_parts (turns.Write n) handler.old.parts)) }
     ensures sheet { OnOk result (draft.new ≡ own_sheet place (turns.Write n) handler.old.parts draft.old) }
 {
-    let waiting = handler.waiting();
-    let count = (n as usize).min(waiting.len());
-    draft.note_taken(&waiting[..count])?;
+    let took = handler.copy_waiting(alloc, n)?;
+    draft.note_taken(took.as_slice())?;
     handler.written(n);
     note_news(handler, draft, place)
 }
@@ -210,7 +211,7 @@ fn play_own(
     match turn {
         Turn::Up(info) => play_up(alloc, handler, draft, place, info),
         Turn::Piece(bytes) => play_piece(alloc, handler, draft, place, bytes.as_slice()),
-        Turn::Write(n) => play_write(handler, draft, place, *n),
+        Turn::Write(n) => play_write(alloc, handler, draft, place, *n),
         Turn::Tick => play_tick(alloc, handler, draft, place),
         Turn::Lost => play_lost(alloc, handler, draft, place),
         Turn::GiveUp => play_give_up(alloc, handler, draft, place),
@@ -267,7 +268,10 @@ fn note_end(
     ensures { OnOk result (draft.new ≡ write_end end handler.now.parts draft.old) }
 {
     match end {
-        Some(word) => draft.end_link(alloc, word, handler.waiting()),
+        Some(word) => {
+            let left = handler.copy_left(alloc)?;
+            draft.end_link(alloc, word, left.as_slice())
+        }
         None => Ok(()),
     }
 }
@@ -362,24 +366,57 @@ fn finish(
     ensures { IfOk result (λ t. t ≡ finished handler.now.parts draft) }
 {
     if handler.is_up() {
-        draft.end_link(alloc, LinkWord::Up, handler.waiting())?;
+        let left = handler.copy_left(alloc)?;
+        draft.end_link(alloc, LinkWord::Up, left.as_slice())?;
     }
     Ok(draft.finish())
 }
 
-/// Plays the turns in order, each with all its due steps, and answers their transcript. A turn that may not come where it
-/// stands is answered with its place, and none is played from it on. It plays them by the calls of `ConnectionHandler`.
-pub fn run(alloc: Global, config: Config, turns: &[Turn]) -> Result<Transcript, RunError>
-    ensures { Plays config turns.now result }
+/// Plays the turns in order on a session without a history, until one may not come or all were played.
+fn play_all(
+    alloc: Global,
+    handler: &mut ConnectionHandler,
+    draft: &mut Draft,
+    turns: &[Turn],
+) -> Result<(), RunError>
+    requires clean { handler.old ≡ quiet handler.old.parts }
+    requires none { due handler.old.parts ≡ None }
+    ensures { (config : _) → handler.old.parts ≡ idle config → draft.old ≡ empty_sheet
+        → PlaysTo config turns.now result handler.new.parts draft.new }
 {
-    let mut handler = ConnectionHandler::new(alloc, config)?;
-    let mut draft = Draft::new(alloc);
     'turns: for (index, turn) in turns.iter().enumerate() {
         let place = index as u64 + 1;
         if !handler.is_valid(turn) {
             return Err(RunError::OutOfTurn { place });
         }
-        play_turn(alloc, &mut handler, &mut draft, place, turn)?;
+        play_turn(alloc, handler, draft, place, turn)?;
     }
-    Ok(finish(alloc, &handler, draft)?)
+    Ok(())
+}
+
+/// The same with a draft of its own, and what it comes to.
+fn run_on(
+    alloc: Global,
+    handler: &mut ConnectionHandler,
+    turns: &[Turn],
+) -> Result<Transcript, RunError>
+    requires clean { handler.old ≡ quiet handler.old.parts }
+    requires none { due handler.old.parts ≡ None }
+    ensures { (config : _) → handler.old.parts ≡ idle config → Plays config turns.now result }
+{
+    let mut draft = Draft::new(alloc);
+    match play_all(alloc, handler, &mut draft, turns) {
+        Ok(()) => Ok(finish(alloc, handler, draft)?),
+        Err(refused) => Err(refused),
+    }
+}
+
+/// Plays the turns in order, each with all its due steps, and answers their transcript. A turn that may not come
+/// where it stands is answered with its place, and none is played from it on. It plays them by the calls of
+/// `ConnectionHandler`.
+pub fn run(alloc: Global, config: Config, turns: &[Turn]) -> Result<Transcript, RunError>
+    ensures { Plays config turns.now result }
+{
+    let mut handler = ConnectionHandler::new(alloc, config)?;
+    run_on(alloc, &mut handler, turns)
 }

@@ -10,7 +10,7 @@ use Rattle.nats_subs.specs.declared.subs.subscription.Delivery.{Delivery}
 use Rattle.nats_subs.specs.declared.subs.subscription.Delivery.TheVariants.{Put, Dropped, Unwanted, Ignored}
 use Rattle.nats_subs.specs.declared.subs.subscription.Alteration.{Alteration}
 use Rattle.nats_subs.specs.declared.subs.subscription.Alteration.TheVariants as alterations
-use Rattle.nats_history.specs.Queue.{last}
+use Rattle.nats_history.specs.Queue.{first, last}
 use Rattle.nats_tables.specs.Numbers.{named, at_number, change}
 use Rattle.nats_subs.specs.declared.subs.subscription.Texts.{Texts}
 use Rattle.nats_subs.specs.declared.subs.subscription.Texts.TheVariants as texts
@@ -84,6 +84,14 @@ abbrev pub youngest : Option Sub → Option Message
 youngest None = None
 youngest (Some sub) = youngest_of sub
 
+-- its oldest waiting message; none waits for one that its user let go
+abbrev pub oldest_of : Sub → Option Message
+oldest_of sub = if sub.is_gone then None else first sub.waiting
+
+abbrev pub first_of : Option Sub → Option Message
+first_of None = None
+first_of (Some sub) = oldest_of sub
+
 -- the commands that are written of the subscription of a number
 abbrev pub commands_by : Texts → ℕ → Sub → List ClientOp
 commands_by texts.Again = again
@@ -113,7 +121,8 @@ with_rows rows subs = record subs { rows = rows }
 
 -- one more number is given, to a subscription that asks for this
 abbrev pub given_one : Interest → Subs → Subs
-given_one asked subs = record subs { given = suc subs.given; rows = at_number (suc subs.given) (asking asked) (subs.rows ++ new_sub ∷ []) }
+given_one asked subs =
+    record subs { given = suc subs.given; rows = at_number (suc subs.given) (asking asked) (subs.rows ++ new_sub ∷ []) }
 
 -- the next number that was given is subscribed: its subscription opens
 abbrev pub subscribed_one : Subs → Subs

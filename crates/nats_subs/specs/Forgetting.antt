@@ -23,7 +23,8 @@ over_rests sub over = by sub.is_gone over
     by false over = absurd (false≢true over)
 
 -- a stage that is the last one stays
-pub stage_stays : (ending opening : Bool) (stage : Stage) → is_ended stage ≡ true → end_if ending (open_if opening stage) ≡ stage
+pub stage_stays : (ending opening : Bool) (stage : Stage) → is_ended stage ≡ true
+    → end_if ending (open_if opening stage) ≡ stage
 stage_stays true true Ended ended = refl
 stage_stays true false Ended ended = refl
 stage_stays false true Ended ended = refl

@@ -1,5 +1,5 @@
-//! How the subscriptions of a session are kept: by number, each with the messages that wait to be taken, in memory that is
-//! in the order of what is kept. It has no clock, no lock and no handle. Subscriptions are numbered from 1.
+//! How the subscriptions of a session are kept: by number, each with the messages that wait to be taken, in memory
+//! that is in the order of what is kept. It has no clock, no lock and no handle. Subscriptions are numbered from 1.
 #![tactic(auto)]
 
 mod drained;

@@ -85,8 +85,8 @@ impl<T> Queue<T> {
 }
 
 impl<T: Drop> Queue<T> {
-    /// Puts an item last. Where memory is wanting the item is let go and the queue is as it was. It hands no item back, so it
-    /// costs less than `push` where an item is large.
+    /// Puts an item last. Where memory is wanting the item is let go and the queue is as it was. It hands no item
+    /// back, so it costs less than `push` where an item is large.
     pub fn append(&mut self, item: T) -> Result<(), NoMemory>
         ensures ok { OnOk result (self.new ≡ self.old ++ item ∷ []) }
         ensures err { OnErr result (self.new ≡ self.old) }

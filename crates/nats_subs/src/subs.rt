@@ -7,7 +7,7 @@ ghost use Rattle.nats_history.specs.History.{next_number, is_open_at, kept, all_
 ghost use Rattle.nats_history.specs.Schedule.{take_reply_of, is_there};
 ghost use Rattle.nats_subs.specs.Forgetting.{LeavesResting};
 ghost use Rattle.nats_subs.specs.Draining.{drained_at, Covers};
-ghost use Rattle.nats_subs.specs.Delivery.{deliver, take_from, delivery_at, youngest, given_one, subscribed_one, with_rows, rows_with, rows_named, rows_each, commands_by, commands_at};
+ghost use Rattle.nats_subs.specs.Delivery.{deliver, take_from, delivery_at, youngest, first_of, given_one, subscribed_one, with_rows, rows_with, rows_named, rows_each, commands_by, commands_at};
 
 mod subscription;
 
@@ -146,8 +146,8 @@ impl Subscriptions {
         self.table.give(Subscription::new(alloc, interest))
     }
 
-    /// The commands that subscribe all again on a new link: each one that is open and not shut, by number, with what is left
-    /// of its limit.
+    /// The commands that subscribe all again on a new link: each one that is open and not shut, by number, with
+    /// what is left of its limit.
     pub fn again(&self, alloc: Global) -> Result<Vec<ClientOp>, NoMemory>
         ensures { IfOk result (λ ops. ops.items ≡ all_again 1 self.now.rows) }
     {
@@ -182,7 +182,8 @@ impl Subscriptions {
         self.drained.settle(sid, is_drained);
     }
 
-    /// Takes the memory for the drain of a subscription before it is drained, so that a link's end need not go through others.
+    /// Takes the memory for the drain of a subscription before it is drained, so that a link's end need not go
+    /// through others.
     ///
     /// # Errors
     ///
@@ -241,7 +242,8 @@ impl Subscriptions {
         message: Box<Message>,
     ) -> Result<(), NoMemory>
         ensures ok { OnOk result
-            (self.new ≡ with_rows (at_number sid (λ sub. kept (deliver config.now message.value sub)) self.old.rows) self.old) }
+            (self.new
+            ≡ with_rows (at_number sid (λ sub. kept (deliver config.now message.value sub)) self.old.rows) self.old) }
         ensures err { OnErr result (self.new ≡ self.old) }
     {
         self.table.try_alter(sid, Arrival { config, message })
@@ -260,6 +262,13 @@ impl Subscriptions {
         ensures { option_copied result ≡ youngest (item_of sid self.now.rows) }
     {
         self.table.item(sid)?.last()
+    }
+
+    /// The oldest waiting message of a subscription.
+    pub fn first(&self, sid: u64) -> Option<&Message>
+        ensures { option_copied result ≡ first_of (item_of sid self.now.rows) }
+    {
+        self.table.item(sid)?.first()
     }
 
     /// Whether a subscription is open.

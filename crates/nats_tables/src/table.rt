@@ -52,7 +52,8 @@ pub trait Change<T: Row> {
         ensures { result ≡ answers self.now T.forgotten };
 
     /// What is forgotten stays so.
-    ghost leaves_forgotten: { (c : Self) → T.over T.forgotten ≡ true → tidied T.over T.forgotten (changes c T.forgotten) ≡ T.forgotten };
+    ghost leaves_forgotten: { (c : Self) → T.over T.forgotten ≡ true
+        → tidied T.over T.forgotten (changes c T.forgotten) ≡ T.forgotten };
 
     /// One that rests does so for good.
     ghost leaves_resting: { (c : Self) (row : T) → T.rests row ≡ true → T.rests (changes c row) ≡ true };
@@ -77,15 +78,16 @@ pub trait TryChange<T: Row> {
         ensures { result ≡ answers self T.forgotten };
 
     /// What is forgotten stays so.
-    ghost leaves_forgotten: { (c : Self) → T.over T.forgotten ≡ true → tidied T.over T.forgotten (changes c T.forgotten) ≡ T.forgotten };
+    ghost leaves_forgotten: { (c : Self) → T.over T.forgotten ≡ true
+        → tidied T.over T.forgotten (changes c T.forgotten) ≡ T.forgotten };
 
     /// One that rests does so for good.
     ghost leaves_resting: { (c : Self) (row : T) → T.rests row ≡ true → T.rests (changes c row) ≡ true };
 }
 
-/// Rows by their numbers, from 1. Contracts see all rows that got a number, in the order of their numbers; in memory are
-/// those that are not over, and once more the numbers of those that do not rest. A call costs at most the logarithm of what
-/// is in memory. Our own; the crate has a `HashMap`.
+/// Rows by their numbers, from 1. Contracts see all rows that got a number, in the order of their numbers; in
+/// memory are those that are not over, and once more the numbers of those that do not rest. A call costs at most
+/// the logarithm of what is in memory. Our own; the crate has a `HashMap`.
 #[derive(Drop)]
 pub struct Table<T: Row> {
     given: u64,
@@ -101,7 +103,8 @@ impl<T: Row> Model for Table<T> {
 
     ghost view = { λ t. rows_in T.forgotten t.given t.kept.entries };
 
-    ghost invariant = { λ t. Keeps T.over T.forgotten t.given t.kept.entries × Indexes T.rests t.kept.entries t.awake.entries };
+    ghost invariant = { λ t. Keeps T.over T.forgotten t.given t.kept.entries
+        × Indexes T.rests t.kept.entries t.awake.entries };
 }
 
 fn forget<V: Drop>(map: &mut BTreeMap<u64, V>, number: u64)
@@ -180,8 +183,9 @@ impl<T: Row> Table<T> {
         self.kept.get(&number)
     }
 
-    /// The first number above this one whose row does not rest, so that those can be gone through in order; `None` where each
-    /// row above it rests. It takes no memory. Our own; the crate goes through its `HashMap`, in no order.
+    /// The first number above this one whose row does not rest, so that those can be gone through in order; `None`
+    /// where each row above it rests. It takes no memory. Our own; the crate goes through its `HashMap`, in no
+    /// order.
     pub fn next_after(&self, number: u64) -> Option<u64>
         ensures { result ≡ first_awake T.rests (suc number) (drop number self.now) }
     {
@@ -201,7 +205,8 @@ impl<T: Row> Table<T> {
 
     /// Changes the row of a number, if it was given, and forgets it where it is over then. It takes no memory.
     pub fn alter<C: Change<T>>(&mut self, number: u64, change: &C) -> C::Answer
-        ensures changed { self.new ≡ at_number number (λ row. tidied T.over T.forgotten (C.changes change.now row)) self.old }
+        ensures changed { self.new
+            ≡ at_number number (λ row. tidied T.over T.forgotten (C.changes change.now row)) self.old }
         ensures answer { result ≡ C.answers change.now (row_at T.forgotten number self.old) }
     {
         let Some(row) = self.kept.get_mut(&number) else {
@@ -225,7 +230,8 @@ impl<T: Row> Table<T> {
         number: u64,
         change: C,
     ) -> Result<C::Answer, NoMemory>
-        ensures ok { OnOk result (self.new ≡ at_number number (λ row. tidied T.over T.forgotten (C.changes change row)) self.old) }
+        ensures ok { OnOk result (self.new
+            ≡ at_number number (λ row. tidied T.over T.forgotten (C.changes change row)) self.old) }
         ensures answer { IfOk result (λ a. a ≡ C.answers change (row_at T.forgotten number self.old)) }
         ensures err { OnErr result (self.new ≡ self.old) }
     {

@@ -12,7 +12,8 @@ use Rattle.nats_tables.specs.Numbers.{at_number}
 use Rattle.nats_history.specs.History.{Step, Awaits, Tickets, no_tickets, flushed_by, left_by, flush_handled, flush_settled, request_handled, displaced, requests_elsewhere, request_at, requests_but, waits_late, is_unsettled, request_reply, ticket_of, ticket_in, replied, replied_if, queue_dropped, tickets_after, settles}
 use Rattle.nats_tickets.specs.declared.flushes.Mark.{Mark}
 
--- the tickets, and the settled ones that were not handed out, each with its reply, in the order in which they were settled
+-- the tickets, and the settled ones that were not handed out, each with its reply, in the order in which they were
+-- settled
 pub record Kept : Type 0 where
   pub tickets : Tickets
   pub ready : List (ℕ × CallReply)
@@ -99,8 +100,8 @@ failed k = record {
   ready = push_all (replied FlushFailed (map ticket_of k.tickets.flushing)) k.ready;
 }
 
--- what settles at the close: flushes that await bytes fail, requests that wait for a reply are dropped, and so on with the
--- calls that wait
+-- what settles at the close: flushes that await bytes fail, requests that wait for a reply are dropped, and so on
+-- with the calls that wait
 abbrev pub closing_settles : Tickets → List (ℕ × CallReply)
 closing_settles t =
     replied FlushFailed (map ticket_of t.flushing)
@@ -153,4 +154,5 @@ without ticket (settled ∷ more) = if ticket == settled.0 then more else settle
 abbrev pub IsPlaceIn : ℕ → List (ℕ × CallReply) → Option ℕ → Type 0
 IsPlaceIn ticket settled None = (reply_in ticket settled ≡ None) × (without ticket settled ≡ settled)
 IsPlaceIn ticket settled (Some place) = (place < length settled)
-    × (((x : ℕ × CallReply) → x ≡ slice_index_or settled place x → reply_in ticket settled ≡ Some x.1) × (without ticket settled ≡ remove settled place))
+    × (((x : ℕ × CallReply) → x ≡ slice_index_or settled place x → reply_in ticket settled ≡ Some x.1)
+    × (without ticket settled ≡ remove settled place))

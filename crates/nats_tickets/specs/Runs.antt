@@ -28,4 +28,5 @@ last_kind runs = last_from false runs
 
 -- one more number of a kind: the last run goes on, or one begins
 abbrev pub Extended : ℕ → Bool → List Run → List Run → Type 0
-Extended given kind old new = ((last_kind old ≡ kind) × (new ≡ old)) ⊎ (new ≡ old ++ record { before = given; is_request = kind } ∷ [])
+Extended given kind old new =
+    ((last_kind old ≡ kind) × (new ≡ old)) ⊎ (new ≡ old ++ record { before = given; is_request = kind } ∷ [])

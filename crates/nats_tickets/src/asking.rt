@@ -15,8 +15,8 @@ use std::alloc::Global;
 use std::collections::BTreeMap;
 use std::marker::Model;
 
-/// The requests that wait for their reply, each with its ticket and the subject of its reply. One is found by either in at
-/// most logarithmic time, and no two wait for the same subject.
+/// The requests that wait for their reply, each with its ticket and the subject of its reply. One is found by
+/// either in at most logarithmic time, and no two wait for the same subject.
 #[derive(Drop)]
 pub struct Asking {
     subjects: BTreeMap<u64, Subject>,
@@ -52,7 +52,8 @@ impl Asking {
         self.subjects.len()
     }
 
-    /// One more waits, for a later ticket than all others; one that waits for the same subject waits no more, and is the result.
+    /// One more waits, for a later ticket than all others; one that waits for the same subject waits no more, and
+    /// is the result.
     pub fn ask(
         &mut self,
         alloc: Global,

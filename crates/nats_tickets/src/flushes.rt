@@ -23,8 +23,8 @@ impl Mark {
     }
 }
 
-/// Settles the flushes that the link reaches with `n` more bytes. The result is what it took then, as the marks that are left
-/// count it.
+/// Settles the flushes that the link reaches with `n` more bytes. The result is what it took then, as the marks
+/// that are left count it.
 pub fn settle_reached(
     marks: &mut VecDeque<Mark>,
     ready: &mut VecDeque<(u64, CallReply)>,
@@ -76,7 +76,8 @@ pub fn await_bytes(
         (map (awaits taken) marks.new.items ≡ map (awaits taken) marks.old.items ++ awaiting ticket waiting) }
     ensures ready { OnOk result
         (ready.new.items ≡ ready.old.items ++ replied replies.Flushed (flushed_at_once ticket waiting)) }
-    ensures room { OnOk result ((deque_len ready.new + deque_len marks.new ≡ suc (deque_len ready.old + deque_len marks.old))
+    ensures room { OnOk result
+        ((deque_len ready.new + deque_len marks.new ≡ suc (deque_len ready.old + deque_len marks.old))
         × (deque_capacity ready.new ≡ deque_capacity ready.old)) }
     ensures err { OnErr result ((marks.new.items ≡ marks.old.items) × (ready.new.items ≡ ready.old.items)
         × (deque_len marks.new ≡ deque_len marks.old) × (deque_len ready.new ≡ deque_len ready.old)

@@ -21,9 +21,9 @@ use std::marker::Model;
 /// The status of a reply that says that nobody answers. The protocol's.
 const NO_RESPONDERS: u16 = 503;
 
-/// The tickets of flushes and requests, from 1, in memory that is in the order of those that are unsettled or were not handed
-/// out, and of the runs of tickets of one kind. Each unsettled one has its room among those that are to be handed out. Our own;
-/// the crate has a channel for each.
+/// The tickets of flushes and requests, from 1, in memory that is in the order of those that are unsettled or were
+/// not handed out, and of the runs of tickets of one kind. Each unsettled one has its room among those that are to
+/// be handed out. Our own; the crate has a channel for each.
 #[derive(Drop)]
 pub struct Tickets {
     given: u64,
@@ -58,7 +58,8 @@ impl Model for Tickets {
     } };
 
     ghost invariant = { λ t. (t.handled + deque_len t.queued ≡ t.given) × AllBelow t.handled t.asking
-        × (deque_len t.ready + (deque_len t.marks + (length t.asking + pending t.queued.items)) ≤ deque_capacity t.ready) };
+        × (deque_len t.ready + (deque_len t.marks + (length t.asking + pending t.queued.items))
+        ≤ deque_capacity t.ready) };
 }
 
 /// Drops all requests that wait for a reply.
@@ -181,7 +182,8 @@ fn push_replied(ready: &mut VecDeque<(u64, CallReply)>, ticket: Option<u64>, mes
 /// A request settles by its deadline, where it is unsettled.
 fn push_timed_out(ready: &mut VecDeque<(u64, CallReply)>, ticket: u64, is_unsettled: bool)
     requires { deque_len ready.old + bit is_unsettled ≤ deque_capacity ready.old }
-    ensures ready { ready.new.items ≡ ready.old.items ++ (if is_unsettled then (ticket, replies.TimedOut) ∷ [] else []) }
+    ensures ready { ready.new.items
+        ≡ ready.old.items ++ (if is_unsettled then (ticket, replies.TimedOut) ∷ [] else []) }
     ensures len { deque_len ready.new ≡ deque_len ready.old + bit is_unsettled }
     ensures capacity { deque_capacity ready.new ≡ deque_capacity ready.old }
 {
@@ -286,8 +288,8 @@ impl Tickets {
         Ok(())
     }
 
-    /// The oldest call that waits is a request, and is handled: its reply is to come to `subject`. Only where its deadline did
-    /// not come yet it takes memory.
+    /// The oldest call that waits is a request, and is handled: its reply is to come to `subject`. Only where its
+    /// deadline did not come yet it takes memory.
     pub fn handle_request(&mut self, alloc: Global, subject: &Subject) -> Result<(), NoMemory>
         ensures ok { OnOk result (self.new ≡ request_one subject.now self.old) }
         ensures err { OnErr result (self.new ≡ self.old) }
@@ -369,8 +371,8 @@ impl Tickets {
         self.taken = 0;
     }
 
-    /// The session closed: flushes that await bytes fail, requests that wait for a reply are dropped, then the tickets whose call
-    /// waits settle. It takes no memory.
+    /// The session closed: flushes that await bytes fail, requests that wait for a reply are dropped, then the
+    /// tickets whose call waits settle. It takes no memory.
     pub fn drop_waiting(&mut self)
         ensures { self.new ≡ dropped self.old }
     {
@@ -381,8 +383,8 @@ impl Tickets {
         self.handled = self.given;
     }
 
-    /// Hands out the reply of a ticket, once; `None` exactly where it did not settle yet, was not given or was handed out. It
-    /// takes no memory, and looks through the settled tickets that were not handed out.
+    /// Hands out the reply of a ticket, once; `None` exactly where it did not settle yet, was not given or was
+    /// handed out. It takes no memory, and looks through the settled tickets that were not handed out.
     pub fn reply_of(&mut self, ticket: u64) -> Option<CallReply>
         ensures reply { result ≡ reply_in ticket self.old.ready }
         ensures rest { self.new ≡ record self.old { ready = without ticket self.old.ready } }

@@ -273,8 +273,10 @@ fn say_link(out: &mut Vec<u8>, handler: &ConnectionHandler) -> Result<(), NoMemo
 }
 
 fn say_pieces(out: &mut Vec<u8>, pieces: &[Bytes]) -> Result<(), NoMemory> {
-    for piece in pieces {
+    if !pieces.is_empty() {
         say(out, " ")?;
+    }
+    for piece in pieces {
         out.extend_from_slice(piece.as_slice())?;
     }
     Ok(())
@@ -319,11 +321,12 @@ fn drive(
     play_all(alloc, &mut handler, out, turns)
 }
 
-/// What a session answers to copies of the turns of a script, a line for each: the answer to the turn's own call, the due steps
-/// that `advance` then plays, the events, and the replies of the first tickets; `out of turn` where `check` refuses the turn, which
-/// is then not played. A last line says what the session tells of itself: its link, the payload's limit that a server said last, how
-/// much was read, the messages in and out, each with their bytes, the links that came up, how much waits, the youngest message of
-/// subscription 1, the waiting bytes. Where a line cannot be read, its number alone.
+/// What a session answers to copies of the turns of a script, a line for each: the answer to the turn's own call,
+/// the due steps that `advance` then plays, the events, and the replies of the first tickets; `out of turn` where
+/// `check` refuses the turn, which is then not played. A last line says what the session tells of itself: its link,
+/// the payload's limit that a server said last, how much was read, the messages in and out, each with their bytes,
+/// the links that came up, how much waits, the youngest message of subscription 1, the waiting bytes. Where a line
+/// cannot be read, its number alone.
 pub fn answers(alloc: Global, script: &str) -> Result<Vec<u8>, NoMemory> {
     let mut out = Vec::new(alloc);
     match read_script(alloc, script.as_bytes())? {
@@ -340,8 +343,8 @@ fn transcript_of(alloc: Global, config: &Config, turns: &[Turn]) -> Result<Vec<u
     }
 }
 
-/// The printed transcript of a script that `run` plays, or the text of its refusal. Where a line cannot be read, its number
-/// alone.
+/// The printed transcript of a script that `run` plays, or the text of its refusal. Where a line cannot be read,
+/// its number alone.
 pub fn transcript(alloc: Global, script: &str) -> Result<Vec<u8>, NoMemory> {
     match read_script(alloc, script.as_bytes())? {
         Script::Good { config, turns } => transcript_of(alloc, &config, turns.as_slice()),

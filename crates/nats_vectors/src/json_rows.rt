@@ -4,8 +4,8 @@ use serde_json::Value;
 use std::alloc::Global;
 use std::test::Fail;
 
-/// A kind and a JSON text, and behind a `=` what is read of it: a name or a value itself, the names of a map in order and its JSON,
-/// the JSON of a message; `none` where it is none of the kind.
+/// A kind and a JSON text, and behind a `=` what is read of it: a name or a value itself, the names of a map in
+/// order and its JSON, the JSON of a message; `none` where it is none of the kind.
 const JSON: &str = r#"headers {}={}
 |headers {"inner": {}}={}
 |headers {"inner": ["some-value"], "Other-Header": ["other-value"]}
@@ -110,7 +110,7 @@ fn a_message_of_a_server_is_read_back(rt: HostRuntime) -> Result<(), Fail> {
     let alloc = rt.alloc();
     let mut connection = Connection::new(alloc);
     connection.feed(alloc, b"MSG FOO.BAR 1 11\r\nHello World\r\n")?;
-    let op = connection.try_read_op(alloc)?;
+    let op = connection.read_op(alloc)?;
     match &op {
         Some(ServerOp::Message { message, .. }) => assert!(rt; is_read_back(alloc, message)?),
         Some(_) | None => assert!(rt; false),

@@ -5,8 +5,8 @@ use nats_wire::{HeaderError, HeaderMap, HeaderName, HeaderValue};
 use std::alloc::Global;
 use std::test::Fail;
 
-/// A kind and a text, and behind a `=` what is made of it: the text itself, or the scheme, host and port of an address; a word with
-/// a `!` where it is refused.
+/// A kind and a text, and behind a `=` what is made of it: the text itself, or the scheme, host and port of an
+/// address; a word with a `!` where it is refused.
 const MADE: &str = "subject foo.>=foo.>|subject foo.*.bar=foo.*.bar\
 |subject =!format|subject events..data=!format|subject .events=!format|subject events.=!format|subject events\tdata=!format\
 |header X-Custom=X-Custom|header Bad Name=!name|header Bad:Name=!name\
@@ -113,8 +113,8 @@ fn numbers_are_made_into_what_their_rows_say(rt: HostRuntime) -> Result<(), Fail
     Ok(())
 }
 
-/// Calls on an empty map, each with its name and its value, and behind a `=` which of them are refused, how many names the map then
-/// has, the length of its block, and of `Key` the first value, the last, and all.
+/// Calls on an empty map, each with its name and its value, and behind a `=` which of them are refused, how many
+/// names the map then has, the length of its block, and of `Key` the first value, the last, and all.
 const MAPS: &str = "=0 12 - -\
 |append,Key,value;append,Key,other=1 36 value other value other\
 |append,Key,value;append,Key,other;insert,Key,x=1 20 x x x\

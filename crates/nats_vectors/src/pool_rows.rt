@@ -60,7 +60,8 @@ fn a_round_goes_by_the_failures_of_its_servers(rt: HostRuntime) -> Result<(), Fa
     Ok(())
 }
 
-/// Addresses that take the place of a pool's servers, and behind a `=` the servers then, each with its failures, or the refusal.
+/// Addresses that take the place of a pool's servers, and behind a `=` the servers then, each with its failures, or
+/// the refusal.
 const SETS: &str = "=server pool cannot be empty\
 |ws://a nats://b=cannot mix websocket and non-websocket URLs in server pool\
 |a d=a 2 d 0 ";

@@ -412,7 +412,8 @@ fn lists_are_played_to_their_transcripts(rt: HostRuntime) -> Result<(), Fail> {
     Ok(())
 }
 
-/// Scripts of calls that would carry other commands, and behind a `=` what is answered and what the links carry, read back.
+/// Scripts of calls that would carry other commands, and behind a `=` what is answered and what the links carry,
+/// read back.
 const HOSTILE: &str = "config 2048 65536 check _INBOX MUX1
 up 1048576
 pub a%0D%0APUB%20b%201%0D%0Ax ~ hi
@@ -547,7 +548,7 @@ fn links_carry_the_accepted_commands_alone(rt: HostRuntime) -> Result<(), Fail> 
         let (script, want) = row.split_once('=').ok_or("no commands")?;
         for carried in [
             carried(rt.alloc(), script)?,
-            carried_through(rt.alloc(), script)?,
+            carried_through(&rt, rt.alloc(), script)?,
         ] {
             assert_eq!(rt; carried.as_slice(), want.as_bytes(), "{script}");
         }

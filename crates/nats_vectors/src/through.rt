@@ -4,9 +4,10 @@ use crate::sent::say_read;
 use crate::words::say;
 use nats_client_text::read_client_text;
 use nats_names::NoMemory;
-use nats_replay::{MemorySink, MemorySource, replay};
+use nats_replay::{MemorySink, MemorySource, memory_world, replay};
 use percent_encoding::percent_decode;
 use std::alloc::Global;
+use std::sync::Wait;
 
 /// The most bytes that the source gives, and the sink takes, at a time.
 const AT_ONCE: usize = 65_536;
@@ -31,7 +32,8 @@ fn say_text(alloc: Global, out: &mut Vec<u8>, text: &[u8]) -> Result<(), NoMemor
     say_read(out, &read)
 }
 
-/// Says what a printed line tells: the reply of a call, or, where the line ends a link, the commands of all that it carries.
+/// Says what a printed line tells: the reply of a call, or, where the line ends a link, the commands of all that it
+/// carries.
 fn say_line(
     alloc: Global,
     out: &mut Vec<u8>,
@@ -70,15 +72,23 @@ fn say_printed(alloc: Global, out: &mut Vec<u8>, printed: &str) -> Result<(), No
     Ok(())
 }
 
-/// The same as `carried`, played by `replay` from the bytes of a script, and read out of the bytes that it writes alone: the
-/// replies to calls, then the commands of each link. Where it does not end with 0, what it writes.
-pub fn carried_through(alloc: Global, script: &str) -> Result<Vec<u8>, NoMemory> {
+/// The same as `carried`, played by `replay` from the bytes of a script, and read out of the bytes that it writes
+/// alone: the replies to calls, then the commands of each link. Where it does not end with 0, what it writes.
+pub fn carried_through<R: Wait>(rt: &R, alloc: Global, script: &str) -> Result<Vec<u8>, NoMemory> {
     let mut words = Vec::new(alloc);
     words.push(String::from_str(alloc, "run")?)?;
     let bytes = Vec::from_slice(alloc, script.as_bytes())?;
     let mut source = MemorySource::new(bytes, AT_ONCE);
     let mut sink = MemorySink::new(alloc, AT_ONCE);
-    let status = replay(alloc, words.as_slice(), &mut source, &mut sink);
+    let mut world = memory_world(alloc, Vec::new(alloc))?;
+    let status = replay(
+        rt,
+        alloc,
+        words.as_slice(),
+        &mut source,
+        &mut sink,
+        &mut world,
+    );
     let mut out = Vec::new(alloc);
     match str::from_utf8(sink.bytes()) {
         Ok(printed) if status == 0 => say_printed(alloc, &mut out, printed)?,

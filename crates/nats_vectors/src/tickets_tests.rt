@@ -3,7 +3,8 @@ use nats_tickets::Tickets;
 use std::alloc::Global;
 use std::test::Fail;
 
-/// The tickets of flushes that wait to be handed out, each with a 1 behind it where it was flushed and a 0 where it failed.
+/// The tickets of flushes that wait to be handed out, each with a 1 behind it where it was flushed and a 0 where it
+/// failed.
 fn told(alloc: Global, flushes: &mut Tickets) -> Result<Vec<u64>, NoMemory> {
     let mut told = Vec::new(alloc);
     for _ in 0..9u64 {

@@ -7,8 +7,8 @@ use std::alloc::Global;
 use std::str;
 use std::test::Fail;
 
-/// Bytes, and behind a `=` what two readings answer and how many bytes are left. A message is its number, subject, reply, payload,
-/// length, status, description and the JSON of its headers.
+/// Bytes, and behind a `=` what two readings answer and how many bytes are left. A message is its number, subject,
+/// reply, payload, length, status, description and the JSON of its headers.
 const READ: &str = "HMSG FOO.BAR 10 INBOX.35 28 28\r\nNATS/1.0 404 No Messages\r\n\r\n\r\n\
 =10 FOO.BAR INBOX.35  43 404 No Messages {}, unfinished, 0\
 |HMSG FOO.BAR 10 INBOX.35 23 34\r\nNATS/1.0\r\nHeader: X\r\n\r\nHello World\r\n\
@@ -58,7 +58,7 @@ fn told(alloc: Global, op: &ServerOp) -> Result<String, NoMemory> {
 }
 
 fn told_next(alloc: Global, connection: &mut Connection) -> Result<String, NoMemory> {
-    match connection.try_read_op(alloc) {
+    match connection.read_op(alloc) {
         Ok(Some(op)) => told(alloc, &op),
         Ok(None) => Ok(String::from_str(alloc, "unfinished")?),
         Err(WireError::ReadFault) => Ok(String::from_str(alloc, "fault")?),
@@ -136,6 +136,7 @@ fn a_client_with_nothing_to_tell_connects(rt: HostRuntime) -> Result<(), Fail> {
     let alloc = rt.alloc();
     let mut connection = Connection::new(alloc);
     connection.enqueue_write_op(alloc, &ClientOp::Connect(plain_info(alloc)?))?;
-    assert_eq!(rt; connection.waiting(), CONNECT.as_bytes());
+    let text = connection.copy_waiting(alloc, connection.pending())?;
+    assert_eq!(rt; text.as_slice(), CONNECT.as_bytes());
     Ok(())
 }

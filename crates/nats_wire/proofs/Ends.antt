@@ -11,7 +11,7 @@ use Rattle.nats_names.specs.declared.server_error.ServerError.{ServerError}
 use Rattle.nats_wire.specs.declared.decode.Word.{Word}
 use Rattle.nats_wire.specs.declared.decode.Word.TheVariants as word
 use Rattle.nats_wire.specs.Operations.{message, error_op, ok_op, ping_op, pong_op, Cut, onto_line, cut_line, word_of, Head, HeaderHead, message_of, OpText, plain, info_text, headed, less, whole, headed_text, message_or_bad, headed_or_bad, error_or_bad, head_of, header_head_of, error_of, sight_of_word, sight_of_cut, sight}
-use Rattle.nats_wire.specs.Store.{EndsAt}
+use Rattle.nats_wire.specs.Decoder.{EndsAt}
 use Rattle.nats_wire.proofs.Fronts.{cut_length}
 use Rattle.nats_wire.proofs.Words.{header_within}
 

@@ -118,7 +118,8 @@ cut_stays bytes more (Some c) text n cut is =
       stays.2,
     )
 
--- the text of an operation at the front of a text stands at the front of each longer one; it is nonempty and within the text
+-- the text of an operation at the front of a text stands at the front of each longer one; it is nonempty and within
+-- the text
 whole_more : (bytes more : List ℕ) (text : OpText) (n : ℕ) → sight bytes ≡ whole text n
     → (sight (bytes ++ more) ≡ whole text n) × (n ≤ length bytes) × (0 < n)
 unfolding sight

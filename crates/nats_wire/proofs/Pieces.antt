@@ -1,10 +1,13 @@
 -- The pieces of a text, one after another, and the head that they make, whose words are no longer than the text.
-use Rattle.std.proofs.Common.{◌≡◌, ◌≢◌, ℕ, suc, ◌+◌, ◌<◌, ◌≤◌, Bool, true, false, not, List, [], ◌∷◌, length, get_or, Option, Some, None, refl, ap, sym, ◌∙◌, arith, tests}
+use Rattle.memchr.specs.Find.{IsFirstByte, is_byte}
+use Rattle.std.proofs.lemmas.Bool.{eq-eqb, eqb-true}
+use Rattle.std.proofs.lemmas.List.Sums.{position_or_len_is}
+use Rattle.std.proofs.Common.{◌≡◌, ◌≢◌, ℕ, suc, ◌+◌, ◌<◌, ◌≤◌, Bool, true, false, not, List, [], ◌∷◌, length, take, drop, length-take-le, get_or, Option, Some, None, refl, ap, sym, ◌∙◌, arith, tests}
 use Rattle.std.specs.Prelude.{◌==◌, if◌then◌else◌}
 use Rattle.std.specs.List.{filter, slice_split, onto_first, position_or_len, before_first, after_first}
 use Rattle.std.proofs.lemmas.List.Splits.{slice_split_first}
-use Rattle.std.specs.Str.{is_utf8, IsUtf8}
-use Rattle.std.proofs.lemmas.Str.{IsUtf8-from_is_utf8, is_utf8-from_IsUtf8}
+use Rattle.std.specs.Str.{is_utf8, IsUtf8, IsCharBoundary}
+use Rattle.std.proofs.lemmas.Str.{IsUtf8-from_is_utf8, is_utf8-from_IsUtf8, IsCharBoundary-after_ascii}
 use Rattle.nats_wire.specs.Operations.{Head, number_of, pieces_of, head_with, head_of_pieces, head_of, length_or_0}
 
 kept_step : (test : Bool) (piece : List ℕ) (more : List (List ℕ)) → test ≡ false → piece ∷ more ≡ (if not test then piece ∷ more else more)
@@ -19,6 +22,40 @@ pieces_at_space text piece rest inside front behind some =
     let first = slice_split_first (λ b. b == 32) text 0 inside in
     let whole : slice_split (λ b. b == 32) text ≡ piece ∷ slice_split (λ b. b == 32) rest = cc in
     kept_step (length piece == 0) piece (pieces_of rest) some ∙ ap (filter (λ piece. not (length piece == 0))) (sym whole)
+
+not_true : (test : Bool) → (test ≡ true → ⊥) → test ≡ false
+not_true true untold = absurd (untold refl)
+not_true false untold = refl
+
+space_place : (text : List ℕ) (i : ℕ) → IsFirstByte (is_byte 32) text (Some i) → position_or_len (λ b. b == 32) text ≡ i
+space_place text i found =
+    position_or_len_is (λ b. b == 32) text i 0 (omega (arith, found.0.high)) (λ k before. not_true (get_or text k 0 == 32) (found.0.before k (omega arith) before)) (λ inside. found.1)
+
+space_low : (text : List ℕ) (i : ℕ) → IsFirstByte (is_byte 32) text (Some i) → get_or text i 0 < 128
+space_low text i found = let is : get_or text i 0 ≡ 32 = eqb-true (get_or text i 0) 32 found.1 in omega (arith, is)
+
+-- a text may be cut behind its first space
+pub past_space : (text : List ℕ) (i : ℕ) → IsUtf8 text → IsFirstByte (is_byte 32) text (Some i) → IsCharBoundary text (i + 1)
+past_space text i utf8 found = IsCharBoundary-after_ascii text i utf8 (omega (arith, found.0.high)) (space_low text i found)
+
+-- the bytes before a text's first space are its first piece, where there are some, and the others stand behind
+pub pieces_by_byte : (text piece rest : List ℕ) (i : ℕ) → IsFirstByte (is_byte 32) text (Some i) → piece ≡ take i text → rest ≡ drop (i + 1) text
+    → 0 < i → piece ∷ pieces_of rest ≡ pieces_of text
+pieces_by_byte text piece rest i found front behind some =
+    let place = space_place text i found in
+    pieces_at_space text piece rest (omega (arith, place, found.0.high)) (front ∙ ap (λ k. take k text) (sym place)) (behind ∙ ap (λ k. drop (k + 1) text) (sym place))
+    (let size : length piece ≡ i = ap length front ∙ length-take-le i text (omega (arith, found.0.high)) in grind (arith, tests))
+
+-- a text that begins with a space has the pieces of what follows it
+pub pieces_past_space : (text rest : List ℕ) → IsFirstByte (is_byte 32) text (Some 0) → rest ≡ drop 1 text → pieces_of rest ≡ pieces_of text
+pieces_past_space [] rest found behind = absurd (omega (arith, found.0.high))
+pieces_past_space (x ∷ text) rest found behind =
+    let space : x ≡ 32 = grind (arith, tests) in
+    ap pieces_of behind ∙ rw space refl
+
+-- a text without a space has none at any place
+pub no_space : (text : List ℕ) → IsFirstByte (is_byte 32) text None → (i : ℕ) → i < length text → get_or text i 0 ≢ 32
+no_space text none i inside = λ is. none i (omega arith) inside (eq-eqb (get_or text i 0) 32 is)
 
 whole_step : (test : Bool) (x : ℕ) (text : List ℕ) → (x == 32) ≡ test → x ≢ 32 → slice_split (λ b. b == 32) text ≡ text ∷ []
     → (if test then [] ∷ slice_split (λ b. b == 32) text else onto_first x (slice_split (λ b. b == 32) text)) ≡ (x ∷ text) ∷ []

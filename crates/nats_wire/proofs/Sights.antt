@@ -1,15 +1,17 @@
 -- What stands at the front of a text, by what is seen there.
-use Rattle.std.proofs.Common.{◌≡◌, ◌≢◌, ℕ, ◌≤◌, arith, Bool, true, false, List, length, Option, Some, None, Result, Ok, Err, refl, ap, sym, ◌∙◌}
-use Rattle.std.specs.Prelude.{IsTrue, IfOk}
+use Rattle.std.proofs.Common.{◌≡◌, ◌≢◌, ℕ, ◌≤◌, arith, Bool, true, false, List, length, drop, Option, Some, None, Result, Ok, Err, refl, ap, sym, subst, ◌∙◌}
+use Rattle.std.specs.Prelude.{IsTrue, IfOk, option_map}
+use Rattle.std.specs.Result.{IsErrAnd}
 use Rattle.nats_wire.specs.declared.decode.Sight as code
 use Rattle.nats_wire.specs.declared.decode.Sight.TheVariants as sees
 use Rattle.nats_wire.specs.declared.front.Front as code_front
 use Rattle.nats_wire.specs.declared.front.Front.TheVariants as fronts
-use Rattle.nats_wire.specs.Operations.{Operation, OpText, Sight, less, whole, bad, sight, op_of, lost_at, got_or_fault, front_of_sight, unfinished, got, fault, is_unfinished, is_whole, takes_memory, front, peeked_view}
+use Rattle.nats_wire.specs.Operations.{Operation, OpText, Sight, less, whole, bad, sight, op_of, lost_at, got_or_fault, front_of_sight, Front, unfinished, got, fault, size_of, is_unfinished, is_whole, takes_memory, front, op_view, peeked_view}
 use Rattle.nats_wire.specs.Decoder.{sight_view, front_view, taken_by}
 use Rattle.nats_wire.specs.Connection.{Looks, Reads}
-use Rattle.nats_wire.specs.Wire.{Wire}
-use Rattle.nats_wire.specs.declared.op.WireError.TheVariants.{NoMemory}
+use Rattle.nats_wire.specs.declared.op.ServerOp.{ServerOp}
+use Rattle.nats_wire.specs.declared.op.WireError.{WireError}
+use Rattle.nats_wire.specs.declared.op.WireError.TheVariants.{NoMemory, ReadFault}
 use Rattle.nats_wire.proofs.Fronts.{front_by_sight, front_fits, fault_fits}
 
 -- an operation that is read from its text stands there
@@ -64,20 +66,61 @@ looks_seen (whole text n) takes = looks_by (op_of text) n (lost_at text n) true 
 pub looks_without_memory : (bytes : List ℕ) → IsTrue (takes_memory bytes) → Looks (front bytes) (takes_memory bytes) (Err NoMemory)
 looks_without_memory bytes takes = rw (front_by_sight bytes (sight bytes) refl) (looks_seen (sight bytes) takes)
 
-reads_by : (found : Option Operation) (n lost : ℕ) (takes : Bool) (wire : Wire) → IsTrue takes
-    → Reads (got_or_fault n lost found) takes wire (Err NoMemory) wire
-reads_by (Some op) n lost takes wire is = refl
-reads_by None n lost takes wire is = (is, refl)
+reads_by : (found : Option Operation) (n lost : ℕ) (takes : Bool) (left : List ℕ) → IsTrue takes
+    → Reads (got_or_fault n lost found) takes left (Err NoMemory) left
+reads_by (Some op) n lost takes left is = refl
+reads_by None n lost takes left is = (is, refl)
 
-reads_seen : (seen : Sight) (wire : Wire) → IsTrue (is_whole seen) → Reads (front_of_sight seen) (is_whole seen) wire (Err NoMemory) wire
-reads_seen less wire takes = cc
-reads_seen (bad n) wire takes = cc
-reads_seen (whole text n) wire takes = reads_by (op_of text) n (lost_at text n) true wire takes
+reads_seen : (seen : Sight) (left : List ℕ) → IsTrue (is_whole seen) → Reads (front_of_sight seen) (is_whole seen) left (Err NoMemory) left
+reads_seen less left takes = cc
+reads_seen (bad n) left takes = cc
+reads_seen (whole text n) left takes = reads_by (op_of text) n (lost_at text n) true left takes
 
 -- and so may a read, which takes nothing then
-pub reads_without_memory : (bytes : List ℕ) (wire : Wire) → IsTrue (takes_memory bytes)
-    → Reads (front bytes) (takes_memory bytes) wire (Err NoMemory) wire
-reads_without_memory bytes wire takes = rw (front_by_sight bytes (sight bytes) refl) (reads_seen (sight bytes) wire takes)
+pub reads_without_memory : (bytes : List ℕ) (left : List ℕ) → IsTrue (takes_memory bytes)
+    → Reads (front bytes) (takes_memory bytes) left (Err NoMemory) left
+reads_without_memory bytes left takes = rw (front_by_sight bytes (sight bytes) refl) (reads_seen (sight bytes) left takes)
+
+-- ---- a read, by what is seen
+
+pub reads_less : (bytes seen new : List ℕ) → seen ≡ bytes → less ≡ sight seen → new ≡ seen
+    → Reads (front bytes) (takes_memory bytes) bytes (Ok None) new
+reads_less bytes seen new same sees is =
+    subst (λ b. Reads (front b) (takes_memory b) b (Ok None) new) same
+    (subst (λ f. Reads f (takes_memory seen) seen (Ok None) new) (less_seen seen sees) is)
+
+pub reads_bad : (bytes seen new : List ℕ) (n : ℕ) → seen ≡ bytes → bad n ≡ sight seen → new ≡ drop n seen
+    → Reads (front bytes) (takes_memory bytes) bytes (Err ReadFault) new
+reads_bad bytes seen new n same sees is =
+    subst (λ b. Reads (front b) (takes_memory b) b (Err ReadFault) new) same
+    (subst (λ f. Reads f (takes_memory seen) seen (Err ReadFault) new) (bad_seen seen n sees) is)
+
+-- what stands there by a text that is there whole
+pub whole_front : (bytes : List ℕ) (text : OpText) (n lost : ℕ) (found : Option ServerOp) → whole text n ≡ sight bytes → lost ≡ lost_at text n
+    → option_map op_view found ≡ op_of text → got_or_fault n lost (option_map op_view found) ≡ front bytes
+whole_front bytes text n lost found sees loses is = rw (loses, is) (sym (front_by_sight bytes (whole text n) sees))
+
+size_fits : (found : Front) (bytes : List ℕ) → front bytes ≡ found → size_of found ≤ length bytes
+size_fits unfinished bytes is = omega arith
+size_fits (got op n) bytes is = front_fits bytes op n is
+size_fits (fault n) bytes is = fault_fits bytes n is
+
+pub found_fits : (found : Front) (bytes : List ℕ) → found ≡ front bytes → size_of found ≤ length bytes
+found_fits found bytes is = size_fits found bytes (sym is)
+
+pub reads_found : (bytes seen new : List ℕ) (text : OpText) (n : ℕ) (found : Front) (r : Result (Option ServerOp) WireError) → seen ≡ bytes
+    → whole text n ≡ sight seen → found ≡ front seen → Reads found true seen r new → Reads (front bytes) (takes_memory bytes) bytes r new
+reads_found bytes seen new text n found r same sees is reads =
+    subst (λ b. Reads (front b) (takes_memory b) b r new) same
+    (subst (λ t. Reads (front seen) t seen r new) (sym (whole_takes seen text n sees))
+    (subst (λ f. Reads f true seen r new) is reads))
+
+pub reads_refused : (bytes seen : List ℕ) (text : OpText) (n : ℕ) (r : Result (Option ServerOp) WireError) → seen ≡ bytes → whole text n ≡ sight seen
+    → IsErrAnd r (λ e. e ≡ NoMemory) → Reads (front bytes) (takes_memory bytes) bytes r seen
+reads_refused bytes seen text n (Ok op) same sees is = absurd is
+reads_refused bytes seen text n (Err e) same sees is =
+    subst (λ b. Reads (front b) (takes_memory b) b (Err e) seen) same
+    (subst (λ refusal. Reads (front seen) (takes_memory seen) seen (Err refusal) seen) (sym is) (reads_without_memory seen seen (whole_takes seen text n sees)))
 
 -- what is there takes no more bytes than are there
 pub view_fits : (bytes : List ℕ) (f : code_front.Front) → front_view f ≡ front bytes → taken_by f ≤ length bytes

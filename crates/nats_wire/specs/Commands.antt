@@ -36,11 +36,12 @@ sent_block None = None
 sent_block (Some []) = None
 sent_block (Some (field ∷ fields)) = Some (block_text (field ∷ fields))
 
--- `PUB s n` or `PUB s r n` and n bytes of payload; with a block of h bytes `HPUB s h t` or `HPUB s r h t`, the block and the
--- payload, which have t bytes together
+-- `PUB s n` or `PUB s r n` and n bytes of payload; with a block of h bytes `HPUB s h t` or `HPUB s r h t`, the
+-- block and the payload, which have t bytes together
 abbrev pub publication_text : List ℕ → Option (List ℕ) → Option (List ℕ) → List ℕ → List ℕ
 publication_text subject respond None payload =
-    codes "PUB " ++ subject ++ codes " " ++ word_and_space respond ++ decimal (length payload) ++ crlf ++ payload ++ crlf
+    codes "PUB " ++ subject ++ codes " " ++ word_and_space respond ++ decimal (length payload) ++ crlf ++ payload
+    ++ crlf
 publication_text subject respond (Some block) payload =
     codes "HPUB " ++ subject ++ codes " " ++ word_and_space respond ++ decimal (length block) ++ codes " "
     ++ decimal (length block + length payload) ++ crlf ++ block ++ payload ++ crlf
@@ -61,8 +62,3 @@ command_texts ops = flat_map command_text ops
 -- the bytes of some parts, one after another
 abbrev pub joined : List (Bor (List ℕ)) → List ℕ
 joined parts = flat_map (λ part. part.now) parts
-
--- some bytes as the pieces that hold them: one, or none where there are none
-abbrev pub one_piece : List ℕ → List (List ℕ)
-one_piece [] = []
-one_piece (byte ∷ bytes) = (byte ∷ bytes) ∷ []

@@ -1,5 +1,5 @@
 -- What the decoder's values say, in the grammar's words.
-use Rattle.std.specs.Prelude.{ℕ, List, [], ◌∷◌, Option, Some, None}
+use Rattle.std.specs.Prelude.{◌≡◌, ℕ, ◌+◌, ◌-◌, ◌≤◌, List, [], ◌∷◌, length, take, drop, Option, Some, None}
 use Rattle.std.specs.Borrow.{Bor}
 use Rattle.std.specs.Option.{option_map}
 use Rattle.nats_names.specs.declared.server_error.ServerError.{ServerError}
@@ -93,3 +93,9 @@ word_len word.Message = 4
 word_len word.Info = 5
 word_len word.HeaderMessage = 5
 word_len word = 0
+
+-- a payload ends two bytes before the first `len` bytes of a text end, within them
+pub record EndsAt (bytes : List ℕ) (len : ℕ) (payload : List ℕ) : Type 0 where
+  pub fits : length payload + 2 ≤ len
+  pub within : len ≤ length bytes
+  pub same : take (length payload) (drop (len - 2 - length payload) bytes) ≡ payload

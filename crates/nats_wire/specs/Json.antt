@@ -86,7 +86,15 @@ with_fields json m = do
 
 -- a message of which nothing was read
 abbrev pub blank_message : Message
-blank_message = record { subject = []; reply = None; payload = []; headers = None; status = None; description = None; length = 0 }
+blank_message = record {
+  subject = [];
+  reply = None;
+  payload = [];
+  headers = None;
+  status = None;
+  description = None;
+  length = 0;
+}
 
 -- the message that a JSON value is: an object with a subject, a payload and a length, and what else a message has
 abbrev pub message_in : Data → Option Message

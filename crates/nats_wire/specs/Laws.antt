@@ -21,11 +21,13 @@ GotStays = (bytes more : List ℕ) (op : Operation) (n : ℕ) → front bytes �
 
 -- a fault at the front of a text takes bytes within it, and stands at the front of each longer text
 abbrev pub FaultStays : Type 0
-FaultStays = (bytes more : List ℕ) (n : ℕ) → front bytes ≡ fault n → (n ≤ length bytes) × (front (bytes ++ more) ≡ fault n)
+FaultStays =
+    (bytes more : List ℕ) (n : ℕ) → front bytes ≡ fault n → (n ≤ length bytes) × (front (bytes ++ more) ≡ fault n)
 
 -- the place behind one more operation is past what stands at the place before
 abbrev pub BehindNext : Type 0
-BehindNext = (count : ℕ) (bytes : List ℕ) → behind (suc count) bytes ≡ past (front (behind count bytes)) (behind count bytes)
+BehindNext =
+    (count : ℕ) (bytes : List ℕ) → behind (suc count) bytes ≡ past (front (behind count bytes)) (behind count bytes)
 
 -- operations that are there stay there as the text grows, and what is behind them grows
 abbrev pub ThereStays : Type 0
@@ -34,11 +36,14 @@ ThereStays = (count : ℕ) (bytes more : List ℕ) → AllThere count bytes
 
 -- one more is there where one stands behind those that are there
 abbrev pub ThereNext : Type 0
-ThereNext = (count : ℕ) (bytes : List ℕ) → AllThere count bytes → IsGot (front (behind count bytes)) → AllThere (suc count) bytes
+ThereNext =
+    (count : ℕ) (bytes : List ℕ) → AllThere count bytes → IsGot (front (behind count bytes))
+    → AllThere (suc count) bytes
 
 -- the operation behind `count` operations is the text's operation of that index
 abbrev pub OperationAt : Type 0
-OperationAt = (count : ℕ) (bytes : List ℕ) (op : Operation) (n : ℕ) → AllThere count bytes → front (behind count bytes) ≡ got op n
+OperationAt =
+    (count : ℕ) (bytes : List ℕ) (op : Operation) (n : ℕ) → AllThere count bytes → front (behind count bytes) ≡ got op n
     → slice_get (operations bytes) count ≡ Some op
 
 -- where no operation stands behind `count` operations the text has no more

@@ -5,5 +5,4 @@ pub mod Json
 pub mod Laws
 pub mod Operations
 pub mod Scan
-pub mod Store
 pub mod Wire

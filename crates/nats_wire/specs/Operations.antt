@@ -68,7 +68,8 @@ abbrev pub cut_line : List ℕ → Option Cut
 cut_line [] = None
 cut_line (a ∷ []) = None
 cut_line (a ∷ b ∷ more) =
-    if a == 13 && b == 10 then Some (record { line = []; rest = more }) else option_map (onto_line a) (cut_line (b ∷ more))
+    if a == 13 && b == 10 then Some (record { line = []; rest = more })
+    else option_map (onto_line a) (cut_line (b ∷ more))
 
 -- what a line begins with, tested in this order
 abbrev pub word_of : List ℕ → Word
@@ -85,7 +86,8 @@ word_of line =
 abbrev pub number_of : List ℕ → Option ℕ
 number_of text =
     let digits = without_leading_plus text in
-    if not (length digits == 0) && all_ascii_digits digits && nat_lt (digits_value 10 digits) (2 ^ 64) then Some (digits_value 10 digits) else None
+    if not (length digits == 0) && all_ascii_digits digits && nat_lt (digits_value 10 digits) (2 ^ 64) then Some
+    (digits_value 10 digits) else None
 
 -- ---- the line of a message
 
@@ -121,7 +123,8 @@ abbrev pub length_or_0 : Option (List ℕ) → ℕ
 length_or_0 None = 0
 length_or_0 (Some text) = length text
 
--- the message of a line and the payload after it; its length counts the bytes that follow the line, the reply and the subject
+-- the message of a line and the payload after it; its length counts the bytes that follow the line, the reply and
+-- the subject
 abbrev pub message_of : Head → List ℕ → Message
 message_of head payload = record {
   subject = head.subject;
@@ -183,7 +186,8 @@ without_quotes text = reverse (without_first_quotes (reverse (without_first_quot
 -- the error of a text, which is compared whatever the case of its ASCII letters, and else kept as it is
 abbrev pub error_by : List ℕ → ServerError
 error_by text =
-    if bytes_eq (map to_ascii_lowercase text) (codes "authorization violation") then AuthorizationViolation else Other text
+    if bytes_eq (map to_ascii_lowercase text) (codes "authorization violation") then AuthorizationViolation
+    else Other text
 
 abbrev pub error_of_text : List ℕ → Option ServerError
 error_of_text text = if is_utf8 text then Some (error_by (without_quotes text)) else None
@@ -194,14 +198,15 @@ error_of line = if nat_lt (length line) 5 then None else error_of_text (drop 5 l
 
 -- ---- what stands at the front
 
--- the text of an operation that is there whole: read, or still to be read into memory, an INFO or the block of a message
+-- the text of an operation that is there whole: read, or still to be read into memory, an INFO or the block of a
+-- message
 pub data OpText : Type 0 where
   plain : Operation → OpText
   info_text : List ℕ → OpText
   headed : ℕ → Message → List ℕ → OpText
 
--- what stands at the front of a text before that is read: less than an operation, the text of one in the first n bytes, or a
--- fault that takes the first n bytes
+-- what stands at the front of a text before that is read: less than an operation, the text of one in the first n
+-- bytes, or a fault that takes the first n bytes
 pub data Sight : Type 0 where
   less : Sight
   whole : OpText → ℕ → Sight
@@ -272,8 +277,14 @@ front_of_sight (whole text n) = got_or_fault n (lost_at text n) (op_of text)
 unfoldable pub front : List ℕ → Front
 front bytes = front_of_sight (sight bytes)
 
--- whether memory is taken to read what stands at the front: the text of an operation is there whole. Where that turns out to
--- be none, it is an INFO or a header block
+-- how many bytes what stands at the front takes
+abbrev pub size_of : Front → ℕ
+size_of unfinished = 0
+size_of (got operation n) = n
+size_of (fault n) = n
+
+-- whether memory is taken to read what stands at the front: the text of an operation is there whole. Where that
+-- turns out to be none, it is an INFO or a header block
 abbrev pub is_whole : Sight → Bool
 is_whole (whole text n) = true
 is_whole less = false

@@ -1,5 +1,5 @@
 -- What contracts see of a connection.
-use Rattle.std.specs.Prelude.{ℕ, List, [], codes}
+use Rattle.std.specs.Prelude.{ℕ, ◌+◌, ◌≤◌, Bool, false, List, [], ◌++◌, length, codes}
 use Rattle.nats_wire.specs.declared.op.WireError.{WireError}
 use Rattle.nats_wire.specs.declared.op.WireError.TheVariants as refused
 
@@ -8,9 +8,46 @@ pub record Wire : Type 0 where
   pub unread : List ℕ
   pub waiting : List ℕ
 
--- as a connection is made
+-- no byte came, and none waits
 abbrev pub fresh : Wire
 fresh = record { unread = []; waiting = [] }
+
+-- unread bytes, and how many of them were not tested yet for the end of a line
+pub record Unread : Type 0 where
+  pub bytes : List ℕ
+  pub untested : ℕ
+
+-- the bytes of a connection, whether some were written since its writer was flushed, and how many unread bytes were
+-- not tested yet for the end of a line
+pub record Channel : Type 0 where
+  pub wire : Wire
+  pub is_written : Bool
+  pub untested : ℕ
+
+-- as a connection is made
+abbrev pub new_channel : Channel
+new_channel = record { wire = fresh; is_written = false; untested = 0 }
+
+-- with bytes that came
+abbrev pub with_fed : List ℕ → Channel → Channel
+with_fed bytes channel = record channel {
+  wire = record channel.wire { unread = channel.wire.unread ++ bytes };
+  untested = channel.untested + length bytes;
+}
+
+-- with other unread bytes, of which so many were not tested
+abbrev pub with_unread : List ℕ → ℕ → Channel → Channel
+with_unread bytes untested channel =
+    record channel { wire = record channel.wire { unread = bytes }; untested = untested }
+
+-- with other waiting bytes
+abbrev pub with_waiting : List ℕ → Channel → Channel
+with_waiting bytes channel = record channel { wire = record channel.wire { waiting = bytes } }
+
+-- steps were taken, at most as many as there are fewer bytes that were not tested
+abbrev pub Paid : ℕ → ℕ → ℕ → ℕ → Type 0
+Paid steps_before untested_before steps_after untested_after =
+    (steps_before ≤ steps_after) × (steps_after + untested_after ≤ steps_before + untested_before)
 
 -- what the refusal of a read prints
 abbrev pub wire_error_text : WireError → List ℕ

@@ -1,62 +1,61 @@
 //! The texts of client operations, by the NATS client protocol.
-ghost use Rattle.std.specs.Prelude.{◌≡◌, ◌++◌, length, Some, None, IfOk, IfSome, OnOk, OnErr};
+ghost use Rattle.std.specs.Prelude.{◌≡◌, ◌++◌, Some, None, OnOk, OnErr};
 ghost use Rattle.nats_connect.specs.Connect.{connect_text};
-ghost use Rattle.nats_wire.specs.Commands.{word_and_space, sent_block, publication_text, subscription_text, unsubscription_text, command_text, command_texts, joined};
+ghost use Rattle.nats_wire.specs.Commands.{crlf, word_and_space, sent_block, publication_text, subscription_text, unsubscription_text, command_text, command_texts, joined};
 
 use crate::op::ClientOp;
-use bytes::BytesMut;
 use itoa::Buffer;
 use nats_connect::{ConnectInfo, connect_text};
 use nats_header::HeaderMap;
 use nats_names::{Bytes, NoMemory, Subject};
+use nats_outbuf::{CHUNK_LEAST, OutBuf};
 use std::alloc::Global;
 
 /// Appends what the client writes for an operation, whole or not at all.
-pub fn append(alloc: Global, op: &ClientOp, out: &mut BytesMut) -> Result<(), NoMemory>
-    ensures ok { OnOk result (out.new.items ≡ out.old.items ++ command_text op.now) }
-    ensures err { OnErr result (out.new.items ≡ out.old.items) }
+pub fn append(alloc: Global, op: &ClientOp, out: &mut OutBuf) -> Result<(), NoMemory>
+    ensures ok { OnOk result (out.new ≡ out.old ++ command_text op.now) }
+    ensures err { OnErr result (out.new ≡ out.old) }
 {
     match op {
         ClientOp::Subscribe {
             sid,
             subject,
             queue_group,
-        } => append_subscription(*sid, subject, queue_group, out),
-        ClientOp::Unsubscribe { sid, max } => append_unsubscription(*sid, *max, out),
+        } => append_subscription(alloc, *sid, subject, queue_group, out),
+        ClientOp::Unsubscribe { sid, max } => append_unsubscription(alloc, *sid, *max, out),
         ClientOp::Publish {
             subject,
             payload,
             respond,
             headers,
         } => append_publication(alloc, subject, respond, headers, payload, out),
-        ClientOp::Ping => append_all(&[b"PING\r\n".as_slice()], out),
-        ClientOp::Pong => append_all(&[b"PONG\r\n".as_slice()], out),
+        ClientOp::Ping => append_all(alloc, &[b"PING\r\n".as_slice()], out),
+        ClientOp::Pong => append_all(alloc, &[b"PONG\r\n".as_slice()], out),
         ClientOp::Connect(info) => append_connect(alloc, info, out),
     }
 }
 
 /// Appends what the client writes for some operations in order, all of it or nothing.
-pub fn append_each(alloc: Global, ops: &[ClientOp], out: &mut BytesMut) -> Result<(), NoMemory>
-    ensures ok { OnOk result (out.new.items ≡ out.old.items ++ command_texts ops.now) }
-    ensures err { OnErr result (out.new.items ≡ out.old.items) }
+pub fn append_each(alloc: Global, ops: &[ClientOp], out: &mut OutBuf) -> Result<(), NoMemory>
+    ensures ok { OnOk result (out.new ≡ out.old ++ command_texts ops.now) }
+    ensures err { OnErr result (out.new ≡ out.old) }
 {
-    let before = out.len();
+    let before = out.pending();
     for op in ops {
         if let Err(refused) = append(alloc, op, out) {
-            out.truncate(before);
+            out.cut(before);
             return Err(refused);
         }
     }
     Ok(())
 }
 
-fn append_connect(alloc: Global, info: &ConnectInfo, out: &mut BytesMut) -> Result<(), NoMemory>
-    ensures ok { OnOk result (out.new.items ≡ out.old.items ++ connect_text info.now) }
-    ensures err { OnErr result (out.new.items ≡ out.old.items) }
+fn append_connect(alloc: Global, info: &ConnectInfo, out: &mut OutBuf) -> Result<(), NoMemory>
+    ensures ok { OnOk result (out.new ≡ out.old ++ connect_text info.now) }
+    ensures err { OnErr result (out.new ≡ out.old) }
 {
     let text = connect_text(alloc, info)?;
-    out.extend_from_slice(text.as_slice())?;
-    Ok(())
+    out.put_small(alloc, text.as_slice())
 }
 
 // The words that may follow, and the space behind them.
@@ -70,33 +69,43 @@ fn word_and_space(word: &Option<Subject>) -> (&[u8], &[u8])
 }
 
 fn append_subscription<'a>(
+    alloc: Global,
     sid: u64,
     subject: &'a Subject,
     queue_group: &'a Option<Subject>,
-    out: &mut BytesMut,
+    out: &mut OutBuf,
 ) -> Result<(), NoMemory>
-    ensures ok { OnOk result (out.new.items ≡ out.old.items ++ subscription_text sid subject.now queue_group.now) }
-    ensures err { OnErr result (out.new.items ≡ out.old.items) }
+    ensures ok { OnOk result (out.new ≡ out.old ++ subscription_text sid subject.now queue_group.now) }
+    ensures err { OnErr result (out.new ≡ out.old) }
 {
     let subject = subject.as_str().as_bytes();
     let (group, space) = word_and_space(queue_group);
     let mut number = Buffer::new();
     let sid = number.format(sid).as_bytes();
-    append_all(&[b"SUB ", subject, b" ", group, space, sid, b"\r\n"], out)
+    append_all(
+        alloc,
+        &[b"SUB ", subject, b" ", group, space, sid, b"\r\n"],
+        out,
+    )
 }
 
-fn append_unsubscription(sid: u64, max: Option<u64>, out: &mut BytesMut) -> Result<(), NoMemory>
-    ensures ok { OnOk result (out.new.items ≡ out.old.items ++ unsubscription_text sid max) }
-    ensures err { OnErr result (out.new.items ≡ out.old.items) }
+fn append_unsubscription(
+    alloc: Global,
+    sid: u64,
+    max: Option<u64>,
+    out: &mut OutBuf,
+) -> Result<(), NoMemory>
+    ensures ok { OnOk result (out.new ≡ out.old ++ unsubscription_text sid max) }
+    ensures err { OnErr result (out.new ≡ out.old) }
 {
     let mut number = Buffer::new();
     let sid = number.format(sid).as_bytes();
     let Some(max) = max else {
-        return append_all(&[b"UNSUB ", sid, b"\r\n"], out);
+        return append_all(alloc, &[b"UNSUB ", sid, b"\r\n"], out);
     };
     let mut limit = Buffer::new();
     let max = limit.format(max).as_bytes();
-    append_all(&[b"UNSUB ", sid, b" ", max, b"\r\n"], out)
+    append_all(alloc, &[b"UNSUB ", sid, b" ", max, b"\r\n"], out)
 }
 
 fn append_publication(
@@ -105,66 +114,62 @@ fn append_publication(
     respond: &Option<Subject>,
     headers: &Option<HeaderMap>,
     payload: &Bytes,
-    out: &mut BytesMut,
+    out: &mut OutBuf,
 ) -> Result<(), NoMemory>
-    ensures ok { OnOk result (out.new.items ≡ out.old.items
+    ensures ok { OnOk result (out.new ≡ out.old
         ++ publication_text subject.now respond.now (sent_block headers.now) payload.now) }
-    ensures err { OnErr result (out.new.items ≡ out.old.items) }
+    ensures err { OnErr result (out.new ≡ out.old) }
 {
     match headers {
         Some(headers) if !headers.is_empty() => {
             let block = headers.to_bytes(alloc)?;
-            append_hpub(subject, respond, block.as_slice(), payload, out)
+            append_hpub(alloc, subject, respond, block.as_slice(), payload, out)
         }
-        _ => append_pub(subject, respond, payload, out),
+        _ => append_pub(alloc, subject, respond, payload, out),
     }
 }
 
 fn append_pub<'a>(
+    alloc: Global,
     subject: &'a Subject,
     respond: &'a Option<Subject>,
     payload: &'a Bytes,
-    out: &mut BytesMut,
+    out: &mut OutBuf,
 ) -> Result<(), NoMemory>
-    ensures ok { OnOk result (out.new.items ≡ out.old.items ++ publication_text subject.now respond.now None payload.now) }
-    ensures err { OnErr result (out.new.items ≡ out.old.items) }
+    ensures ok { OnOk result (out.new ≡ out.old ++ publication_text subject.now respond.now None payload.now) }
+    ensures err { OnErr result (out.new ≡ out.old) }
 {
     let (respond, space) = word_and_space(respond);
     let mut number = Buffer::new();
     let count = number.format(payload.len()).as_bytes();
-    append_all(
-        &[
-            b"PUB ",
-            subject.as_str().as_bytes(),
-            b" ",
-            respond,
-            space,
-            count,
-            b"\r\n",
-            payload.as_slice(),
-            b"\r\n",
-        ],
+    let subject = subject.as_str().as_bytes();
+    append_message(
+        alloc,
+        &[b"PUB ", subject, b" ", respond, space, count, b"\r\n"],
+        payload,
         out,
     )
 }
 
 fn append_hpub<'a>(
+    alloc: Global,
     subject: &'a Subject,
     respond: &'a Option<Subject>,
     block: &'a [u8],
     payload: &'a Bytes,
-    out: &mut BytesMut,
+    out: &mut OutBuf,
 ) -> Result<(), NoMemory>
-    ensures ok { OnOk result (out.new.items ≡ out.old.items
+    ensures ok { OnOk result (out.new ≡ out.old
         ++ publication_text subject.now respond.now (Some block.now) payload.now) }
-    ensures err { OnErr result (out.new.items ≡ out.old.items) }
+    ensures err { OnErr result (out.new ≡ out.old) }
 {
     let (respond, space) = word_and_space(respond);
     let mut number = Buffer::new();
     let header_len = number.format(block.len()).as_bytes();
     let mut sum = Buffer::new();
     let total = sum.format(block.len() + payload.len()).as_bytes();
-    append_all(
+    append_message(
+        alloc,
         &[
             b"HPUB ",
             subject.as_str().as_bytes(),
@@ -176,33 +181,57 @@ fn append_hpub<'a>(
             total,
             b"\r\n",
             block,
-            payload.as_slice(),
-            b"\r\n",
         ],
+        payload,
         out,
     )
 }
 
-// The bytes of all parts together, where that is a length.
-fn length_of(parts: &[&[u8]]) -> Option<usize>
-    ensures { IfSome result (λ n. n ≡ length (joined parts.now)) }
+// Appends the line of a message, the payload and the end of its line, all of it or nothing.
+fn append_message(
+    alloc: Global,
+    line: &[&[u8]],
+    payload: &Bytes,
+    out: &mut OutBuf,
+) -> Result<(), NoMemory>
+    ensures ok { OnOk result (out.new ≡ out.old ++ (joined line.now ++ payload.now ++ crlf)) }
+    ensures err { OnErr result (out.new ≡ out.old) }
 {
-    let mut length: usize = 0;
-    for part in parts {
-        length = length.checked_add(part.len())?;
+    let before = out.pending();
+    append_all(alloc, line, out)?;
+    if let Err(refused) = append_payload(alloc, payload, out) {
+        out.cut(before);
+        return Err(refused);
     }
-    Some(length)
+    if let Err(refused) = out.put_small(alloc, b"\r\n") {
+        out.cut(before);
+        return Err(refused);
+    }
+    Ok(())
 }
 
-// One request for room, and then no append can fail: so what was there stays where memory is wanting.
-fn append_all(parts: &[&[u8]], out: &mut BytesMut) -> Result<(), NoMemory>
-    ensures ok { OnOk result (out.new.items ≡ out.old.items ++ joined parts.now) }
-    ensures err { OnErr result (out.new.items ≡ out.old.items) }
+// Appends a payload, a large one as a piece that shares its memory.
+fn append_payload(alloc: Global, payload: &Bytes, out: &mut OutBuf) -> Result<(), NoMemory>
+    ensures ok { OnOk result (out.new ≡ out.old ++ payload.now) }
+    ensures err { OnErr result (out.new ≡ out.old) }
 {
-    let room = length_of(parts).ok_or(NoMemory)?;
-    out.reserve(room)?;
+    if payload.len() < CHUNK_LEAST {
+        return out.put_small(alloc, payload.as_slice());
+    }
+    out.put_chunk(alloc, payload.clone()?)
+}
+
+// Appends some parts one after another, all of them or none.
+fn append_all(alloc: Global, parts: &[&[u8]], out: &mut OutBuf) -> Result<(), NoMemory>
+    ensures ok { OnOk result (out.new ≡ out.old ++ joined parts.now) }
+    ensures err { OnErr result (out.new ≡ out.old) }
+{
+    let before = out.pending();
     for part in parts {
-        out.extend_reserved(part);
+        if let Err(refused) = out.put_small(alloc, part) {
+            out.cut(before);
+            return Err(refused);
+        }
     }
     Ok(())
 }

@@ -2,17 +2,17 @@
 ghost use Rattle.std.specs.Prelude.{◌≡◌, ◌+◌, ◌<◌, ◌≤◌, length, IfOk, option_map};
 ghost use Rattle.nats_info.specs.Fields.{info_at};
 ghost use Rattle.nats_block.specs.Block.{block_of};
-ghost use Rattle.nats_wire.specs.Operations.{info_op, message, with_block, peeked_view, op_of, whole, sight};
-ghost use Rattle.nats_wire.specs.Decoder.{op_text_view, message_view, error_view};
-ghost use Rattle.nats_wire.specs.Store.{EndsAt};
+ghost use Rattle.nats_wire.specs.Operations.{info_op, message, with_block, op_view, op_of, whole, sight};
+ghost use Rattle.nats_wire.specs.Decoder.{op_text_view, message_view, error_view, EndsAt};
 
 use crate::decode::{MessageText, OpText};
 use crate::error_line::ErrorText;
 use crate::message::Message;
-use crate::op::PeekedOp;
+use crate::op::ServerOp;
 use nats_block::{Block, BlockError, read_block};
 use nats_info::{InfoError, read_info};
 use nats_names::{Bytes, NoMemory, ServerError, Subject, Text};
+use nats_outbuf::InBuf;
 use std::alloc::Global;
 
 /// The bytes of the word of a message, and of one with headers, with the space behind it.
@@ -55,7 +55,8 @@ fn subject_in(alloc: Global, bytes: &Bytes, at: usize, text: &str) -> Result<Sub
     Subject::from_text(alloc, text)
 }
 
-// The message of a text that takes the first `len` of some bytes, whose first word takes the first `at`. It shares the bytes.
+// The message of a text that takes the first `len` of some bytes, whose first word takes the first `at`. It shares
+// the bytes.
 fn message_in(
     alloc: Global,
     bytes: &Bytes,
@@ -89,19 +90,19 @@ fn error(alloc: Global, text: &ErrorText<'_>) -> Result<ServerError, NoMemory>
 }
 
 // The INFO of a text, where it has one.
-fn info(alloc: Global, text: &[u8]) -> Result<Option<PeekedOp>, NoMemory>
-    ensures { IfOk result (λ op. option_map peeked_view op ≡ option_map info_op (info_at text.now)) }
+fn info(alloc: Global, text: &[u8]) -> Result<Option<ServerOp>, NoMemory>
+    ensures { IfOk result (λ op. option_map op_view op ≡ option_map info_op (info_at text.now)) }
 {
     match read_info(alloc, text) {
-        Ok(info) => Ok(Some(PeekedOp::Info(Box::new(alloc, info)?))),
+        Ok(info) => Ok(Some(ServerOp::Info(Box::new(alloc, info)?))),
         Err(InfoError::Unreadable) => Ok(None),
         Err(InfoError::NoMemory) => Err(NoMemory),
     }
 }
 
-// A message with what its header block says, in a box.
-fn headed(alloc: Global, sid: u64, plain: Message, block: Block) -> Result<PeekedOp, NoMemory>
-    ensures { IfOk result (λ op. peeked_view op ≡ message sid (with_block plain block)) }
+// A message with what its header block says.
+fn headed(sid: u64, plain: Message, block: Block) -> ServerOp
+    ensures { op_view result ≡ message sid (with_block plain block) }
 {
     let message = Message {
         headers: Some(block.headers),
@@ -109,43 +110,42 @@ fn headed(alloc: Global, sid: u64, plain: Message, block: Block) -> Result<Peeke
         description: block.description,
         ..plain
     };
-    let message = Box::new(alloc, message)?;
-    Ok(PeekedOp::Message { sid, message })
+    ServerOp::Message { sid, message }
 }
 
-// The message of a text with what its header block says, where that is a header block. The block is read first: it may be
-// none, and then nothing else is copied.
+// The message of a text with what its header block says, where that is a header block. The block is read first: it
+// may be none, and then nothing else is copied.
 fn header_message(
     alloc: Global,
     sid: u64,
     text: &MessageText<'_>,
     block: &[u8],
-) -> Result<Option<PeekedOp>, NoMemory>
-    ensures { IfOk result (λ op. option_map peeked_view op
+) -> Result<Option<ServerOp>, NoMemory>
+    ensures { IfOk result (λ op. option_map op_view op
         ≡ option_map (λ b. message sid (with_block (message_view text.now) b)) (block_of block.now)) }
 {
     match read_block(alloc, block) {
         Ok(block) => {
             let message = message(alloc, text)?;
-            Ok(Some(headed(alloc, sid, message, block)?))
+            Ok(Some(headed(sid, message, block)))
         }
         Err(BlockError::Malformed) => Ok(None),
         Err(BlockError::NoMemory) => Err(NoMemory),
     }
 }
 
-/// The operation of a text; `None` where it turns out to be none.
-pub fn operation(alloc: Global, text: &OpText<'_>) -> Result<Option<PeekedOp>, NoMemory>
-    ensures { IfOk result (λ op. option_map peeked_view op ≡ op_of (op_text_view text.now)) }
+/// The operation of a text; `None` where it turns out to be none. It shares nothing.
+pub fn operation(alloc: Global, text: &OpText<'_>) -> Result<Option<ServerOp>, NoMemory>
+    ensures { IfOk result (λ op. option_map op_view op ≡ op_of (op_text_view text.now)) }
 {
     Ok(Some(match text {
-        OpText::Ok => PeekedOp::Ok,
-        OpText::Ping => PeekedOp::Ping,
-        OpText::Pong => PeekedOp::Pong,
-        OpText::Error(text) => PeekedOp::Error(error(alloc, text)?),
-        OpText::Message { sid, message: text } => PeekedOp::Message {
+        OpText::Ok => ServerOp::Ok,
+        OpText::Ping => ServerOp::Ping,
+        OpText::Pong => ServerOp::Pong,
+        OpText::Error(text) => ServerOp::Error(error(alloc, text)?),
+        OpText::Message { sid, message: text } => ServerOp::Message {
             sid: *sid,
-            message: Box::new(alloc, message(alloc, text)?)?,
+            message: message(alloc, text)?,
         },
         OpText::Info(text) => return info(alloc, text),
         OpText::HeaderMessage {
@@ -164,36 +164,36 @@ fn header_message_in(
     text: &MessageText<'_>,
     block: &[u8],
     len: usize,
-) -> Result<Option<PeekedOp>, NoMemory>
+) -> Result<Option<ServerOp>, NoMemory>
     requires { EndsAt bytes.now len text.now.payload.now }
-    ensures { IfOk result (λ op. option_map peeked_view op
+    ensures { IfOk result (λ op. option_map op_view op
         ≡ option_map (λ b. message sid (with_block (message_view text.now) b)) (block_of block.now)) }
 {
     match read_block(alloc, block) {
         Ok(block) => {
             let message = message_in(alloc, bytes, text, len, HEADED)?;
-            Ok(Some(headed(alloc, sid, message, block)?))
+            Ok(Some(headed(sid, message, block)))
         }
         Err(BlockError::Malformed) => Ok(None),
         Err(BlockError::NoMemory) => Err(NoMemory),
     }
 }
 
-/// The operation of a text that takes the first `len` of some bytes, which it shares; `None` where it turns out to be none.
-pub fn operation_in(
+// The operation of a text that takes the first `len` of some bytes, which it shares; `None` where it turns out to
+// be none.
+fn operation_in(
     alloc: Global,
     bytes: &Bytes,
     text: &OpText<'_>,
     len: usize,
-) -> Result<Option<PeekedOp>, NoMemory>
+) -> Result<Option<ServerOp>, NoMemory>
     requires { whole (op_text_view text.now) len ≡ sight bytes.now }
-    ensures { IfOk result (λ op. option_map peeked_view op ≡ op_of (op_text_view text.now)) }
+    ensures { IfOk result (λ op. option_map op_view op ≡ op_of (op_text_view text.now)) }
 {
     match text {
         OpText::Message { sid, message: text } => {
             let message = message_in(alloc, bytes, text, len, PLAIN)?;
-            let message = Box::new(alloc, message)?;
-            Ok(Some(PeekedOp::Message { sid: *sid, message }))
+            Ok(Some(ServerOp::Message { sid: *sid, message }))
         }
         OpText::HeaderMessage {
             sid,
@@ -203,5 +203,22 @@ pub fn operation_in(
         OpText::Ok | OpText::Ping | OpText::Pong | OpText::Error(_) | OpText::Info(_) => operation(
             alloc, text,
         ),
+    }
+}
+
+/// The operation of a text that takes the first `len` of kept bytes, which it shares where they can be shared;
+/// `None` where it turns out to be none.
+pub fn operation_kept(
+    alloc: Global,
+    buf: &InBuf,
+    text: &OpText<'_>,
+    len: usize,
+) -> Result<Option<ServerOp>, NoMemory>
+    requires { whole (op_text_view text.now) len ≡ sight buf.now }
+    ensures { IfOk result (λ op. option_map op_view op ≡ op_of (op_text_view text.now)) }
+{
+    match buf.shared() {
+        Some(bytes) => operation_in(alloc, bytes, text, len),
+        None => operation(alloc, text),
     }
 }

@@ -1,15 +1,15 @@
 //! Finds what stands at the front of a text: the grammar of server operations, in code. It takes no memory.
-ghost use Rattle.std.specs.Prelude.{◌≡◌, ◌+◌, ◌^◌, ◌<◌, ◌≤◌, length, take, drop, Some, None, IfSome, IsTrue, codes, option_map, nat_lt, if◌then◌else◌};
+ghost use Rattle.std.specs.Prelude.{◌≡◌, ◌+◌, ◌^◌, ◌<◌, ◌≤◌, length, take, drop, Some, None, IfSome, option_map, nat_lt, if◌then◌else◌};
 ghost use Rattle.nats_wire.specs.Operations.{cut_line, word_of, head_of, header_head_of, length_or_0, message_of, message_or_bad, headed_or_bad, error_of, error_or_bad, sight_of_word, sight, lost_at};
-ghost use Rattle.nats_wire.specs.Scan.{is_crlf_at, clear_to, cut_at, Needs, Awaits};
+ghost use Rattle.nats_wire.specs.Scan.{cut_at, Needs, Awaits};
 ghost use Rattle.nats_wire.specs.Decoder.{word_len, sight_view, op_text_view, message_view, line_view, head_view};
 
 use crate::error_line::{ErrorText, read_error};
 use crate::head::{Head, HeaderHead, read_head, read_header_head};
-use memchr::{memchr, memmem};
+use memchr::memmem;
 
-/// What stands at the front of a text: less than an operation, the text of one and the number of its bytes, or a fault that
-/// takes some bytes.
+/// What stands at the front of a text: less than an operation, the text of one and the number of its bytes, or a
+/// fault that takes some bytes.
 #[derive(Clone, Copy)]
 pub enum Sight<'a> {
     Unfinished,
@@ -39,7 +39,8 @@ pub enum OpText<'a> {
 }
 
 impl<'a> OpText<'a> {
-    /// How many of its `len` bytes the text takes where it turns out to be no operation: a message goes whole, an INFO stays.
+    /// How many of its `len` bytes the text takes where it turns out to be no operation: a message goes whole, an
+    /// INFO stays.
     pub fn lost_at(&self, len: usize) -> usize
         ensures { result ≡ lost_at (op_text_view self.now) len }
     {
@@ -64,8 +65,8 @@ pub struct MessageText<'a> {
     pub length: usize,
 }
 
-/// The words of the protocol that a line may begin with. `+OK`, `PING` and `PONG` are operations whatever follows them in
-/// the line.
+/// The words of the protocol that a line may begin with. `+OK`, `PING` and `PONG` are operations whatever follows
+/// them in the line.
 #[derive(Clone, Copy)]
 pub enum Word {
     Ok,
@@ -87,57 +88,16 @@ pub struct Line<'a> {
     pub rest: &'a [u8],
 }
 
-/// Whether the end of a line, CR LF, stands at `place`.
-pub fn is_crlf_at(bytes: &[u8], place: usize) -> bool
-    requires { place ≤ length bytes.now }
-    ensures { result ≡ is_crlf_at bytes.now place }
+// A text cut where its first line ends.
+fn line_at(bytes: &[u8], end: usize) -> Line<'_>
+    requires { end + 2 ≤ length bytes.now }
+    ensures cut { line_view result ≡ cut_at bytes.now end }
+    ensures whole { length result.text.now + 2 + length result.rest.now ≡ length bytes.now }
 {
-    bytes[place..].starts_with(b"\r\n")
-}
-
-// The place of the first line's end, which stands at no place before `from`.
-fn line_end(bytes: &[u8], from: usize) -> Option<usize>
-    requires within { from ≤ length bytes.now }
-    requires clear { IsTrue (clear_to from bytes.now) }
-    ensures cut { option_map (cut_at bytes.now) result ≡ cut_line bytes.now }
-    ensures fits { IfSome result (λ end. end + 2 ≤ length bytes.now) }
-{
-    if is_crlf_at(bytes, from) {
-        return Some(from);
-    }
-    let lf = memchr(b'\n', &bytes[from..])?;
-    let before = lf.saturating_sub(1);
-    if is_crlf_at(bytes, from + before) {
-        return Some(from + before);
-    }
-    let behind = memmem::find(&bytes[from..], b"\r\n")?;
-    Some(from + behind)
-}
-
-/// A place before which no line's end stands: that of the first one, or that of the last byte, since `from` at the least.
-pub fn clear_place(bytes: &[u8], from: usize) -> usize
-    requires within { from ≤ length bytes.now }
-    requires clear { IsTrue (clear_to from bytes.now) }
-    ensures within { result ≤ length bytes.now }
-    ensures clear { IsTrue (clear_to result bytes.now) }
-{
-    match line_end(bytes, from) {
-        Some(end) => end,
-        None => bytes.len().saturating_sub(1),
-    }
-}
-
-fn cut(bytes: &[u8], from: usize) -> Option<Line<'_>>
-    requires within { from ≤ length bytes.now }
-    requires clear { IsTrue (clear_to from bytes.now) }
-    ensures cut { option_map line_view result ≡ cut_line bytes.now }
-    ensures whole { IfSome result (λ line. length line.text.now + 2 + length line.rest.now ≡ length bytes.now) }
-{
-    let end = line_end(bytes, from)?;
-    Some(Line {
+    Line {
         text: &bytes[..end],
         rest: &bytes[end + 2..],
-    })
+    }
 }
 
 fn first_word(line: &[u8]) -> Word
@@ -269,36 +229,34 @@ fn announced(line: &[u8]) -> Option<usize>
     }
 }
 
-/// How many bytes the operation at the front of `bytes` needs, by its line; 0 where the line tells no number.
-pub fn needed(bytes: &[u8], from: usize) -> usize
-    requires within { from ≤ length bytes.now }
-    requires clear { IsTrue (clear_to from bytes.now) }
+/// How many bytes the operation at the front of `bytes`, whose first line ends at `end`, needs by that line; 0
+/// where the line tells no number.
+pub fn needed(bytes: &[u8], end: usize) -> usize
+    requires fits { end + 2 ≤ length bytes.now }
+    requires cut { cut_line bytes.now ≡ Some (cut_at bytes.now end) }
     ensures { Needs bytes.now result }
 {
-    let Some(line) = cut(bytes, from) else {
-        return 0;
-    };
-    match announced(line.text) {
-        Some(count) => (line.text.len() + 4).saturating_add(count),
+    match announced(line_at(bytes, end).text) {
+        Some(count) => (end + 4).saturating_add(count),
         None => 0,
     }
 }
 
-/// What stands at the front of `bytes`, where no line's end stands before the place `from`.
-pub fn sight_behind(bytes: &[u8], from: usize) -> Sight<'_>
-    requires within { from ≤ length bytes.now }
-    requires clear { IsTrue (clear_to from bytes.now) }
+/// What stands at the front of `bytes`, whose first line ends at `end`.
+pub fn sight_at(bytes: &[u8], end: usize) -> Sight<'_>
+    requires fits { end + 2 ≤ length bytes.now }
+    requires cut { cut_line bytes.now ≡ Some (cut_at bytes.now end) }
     ensures { sight_view result ≡ sight bytes.now }
 {
-    match cut(bytes, from) {
-        Some(line) => sight_of_line(&line),
-        None => Sight::Unfinished,
-    }
+    sight_of_line(&line_at(bytes, end))
 }
 
 /// What stands at the front of `bytes`.
 pub fn sight_of(bytes: &[u8]) -> Sight<'_>
     ensures { sight_view result ≡ sight bytes.now }
 {
-    sight_behind(bytes, 0)
+    match memmem::find(bytes, b"\r\n") {
+        Some(end) => sight_at(bytes, end),
+        None => Sight::Unfinished,
+    }
 }

@@ -1,18 +1,17 @@
 //! Reads what stands at the front of a text.
 ghost use Rattle.std.specs.Prelude.{◌≡◌, ◌≤◌, length, option_map, IfOk, IsTrue, OnErr};
-ghost use Rattle.nats_wire.specs.Operations.{front, front_of_sight, got_or_fault, lost_at, peeked_view, sight, is_whole, takes_memory};
+ghost use Rattle.nats_wire.specs.Operations.{front, front_of_sight, got_or_fault, lost_at, op_view, sight, is_whole, takes_memory};
 ghost use Rattle.nats_wire.specs.Decoder.{sight_view, op_text_view, front_view, taken_by};
-ghost use Rattle.nats_wire.specs.Store.{store_bytes};
 
 use crate::copies;
 use crate::decode::{self, OpText, Sight};
-use crate::op::PeekedOp;
-use crate::store::Store;
-use nats_names::{Bytes, NoMemory};
+use crate::op::{PeekedOp, ServerOp};
+use nats_names::NoMemory;
+use nats_outbuf::InBuf;
 use std::alloc::Global;
 
-/// What stands at the front of a text: less than an operation, one and the number of its bytes, or a fault that takes some
-/// bytes.
+/// What stands at the front of a text: less than an operation, one and the number of its bytes, or a fault that
+/// takes some bytes.
 #[derive(Drop)]
 pub enum Front {
     Unfinished,
@@ -21,16 +20,22 @@ pub enum Front {
 }
 
 // What a whole text is, by the operation that was found in it.
-fn front_with(found: Option<PeekedOp>, text: &OpText<'_>, len: usize) -> Front
-    ensures { front_view result ≡ got_or_fault len (lost_at (op_text_view text.now) len) (option_map peeked_view found) }
+fn front_with(
+    alloc: Global,
+    found: Option<ServerOp>,
+    text: &OpText<'_>,
+    len: usize,
+) -> Result<Front, NoMemory>
+    ensures { IfOk result (λ f. front_view f
+        ≡ got_or_fault len (lost_at (op_text_view text.now) len) (option_map op_view found)) }
 {
     match found {
-        Some(op) => Front::Got(op, len),
-        None => Front::Fault(text.lost_at(len)),
+        Some(op) => Ok(Front::Got(PeekedOp::boxed(alloc, op)?, len)),
+        None => Ok(Front::Fault(text.lost_at(len))),
     }
 }
 
-/// What a text is, by what is seen of it.
+// What a text is, by what is seen of it.
 fn front_by(alloc: Global, seen: Sight<'_>) -> Result<Front, NoMemory>
     ensures front { IfOk result (λ f. front_view f ≡ front_of_sight (sight_view seen.entry)) }
     ensures memory { OnErr result (IsTrue (is_whole (sight_view seen.entry))) }
@@ -40,14 +45,15 @@ fn front_by(alloc: Global, seen: Sight<'_>) -> Result<Front, NoMemory>
         Sight::Fault(n) => Ok(Front::Fault(n)),
         Sight::Whole(text, len) => {
             let found = copies::operation(alloc, &text)?;
-            Ok(front_with(found, &text, len))
+            front_with(alloc, found, &text, len)
         }
     }
 }
 
-// The same, where the parts of a message share the bytes.
-fn front_in(alloc: Global, bytes: &Bytes, seen: Sight<'_>) -> Result<Front, NoMemory>
-    requires { sight_view seen ≡ sight bytes.now }
+/// What stands at the front of kept bytes, by what is seen there. The parts of a message share the bytes where they
+/// can.
+pub(crate) fn front_kept(alloc: Global, buf: &InBuf, seen: Sight<'_>) -> Result<Front, NoMemory>
+    requires { sight_view seen ≡ sight buf.now }
     ensures front { IfOk result (λ f. front_view f ≡ front_of_sight (sight_view seen.entry)) }
     ensures memory { OnErr result (IsTrue (is_whole (sight_view seen.entry))) }
 {
@@ -55,21 +61,9 @@ fn front_in(alloc: Global, bytes: &Bytes, seen: Sight<'_>) -> Result<Front, NoMe
         Sight::Unfinished => Ok(Front::Unfinished),
         Sight::Fault(n) => Ok(Front::Fault(n)),
         Sight::Whole(text, len) => {
-            let found = copies::operation_in(alloc, bytes, &text, len)?;
-            Ok(front_with(found, &text, len))
+            let found = copies::operation_kept(alloc, buf, &text, len)?;
+            front_with(alloc, found, &text, len)
         }
-    }
-}
-
-/// What stands at the front of kept bytes, by what is seen there.
-pub(crate) fn front_kept(alloc: Global, store: &Store, seen: Sight<'_>) -> Result<Front, NoMemory>
-    requires { sight_view seen ≡ sight (store_bytes store.now) }
-    ensures front { IfOk result (λ f. front_view f ≡ front_of_sight (sight_view seen.entry)) }
-    ensures memory { OnErr result (IsTrue (is_whole (sight_view seen.entry))) }
-{
-    match store {
-        Store::Shared(bytes) => front_in(alloc, bytes, seen),
-        Store::Growing(_) => front_by(alloc, seen),
     }
 }
 

@@ -4,6 +4,7 @@ ghost use Rattle.std.specs.Str.Iter.{split_whitespace_rest};
 ghost use Rattle.nats_wire.specs.Operations.{number_of, pieces_of, head_with, head_of_pieces, head_of, words_of, with_block_len, header_head_of_words, header_head_of};
 ghost use Rattle.nats_wire.specs.Decoder.{head_view, header_head_view, pieces_from, words_from};
 
+use memchr::memchr;
 use std::str;
 use std::str::SplitWhitespace;
 
@@ -44,9 +45,13 @@ fn next_piece(text: &str) -> Option<Piece<'_>>
     ensures { pieces_from result ≡ pieces_of text.now }
 {
     let mut left = text;
-    while let Some((piece, rest)) = left.split_once(' ') {
-        if !piece.is_empty() {
-            return Some(Piece { text: piece, rest });
+    while let Some(at) = memchr(b' ', left.as_bytes()) {
+        let rest = &left[at + 1..];
+        if at > 0 {
+            return Some(Piece {
+                text: &left[..at],
+                rest,
+            });
         }
         left = rest;
     }

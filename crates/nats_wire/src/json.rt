@@ -279,9 +279,9 @@ fn json_of_bytes(alloc: Global, bytes: &[u8]) -> Result<Value, NoMemory>
 }
 
 impl Message {
-    /// The message as JSON: an object with `subject`, `reply` (a string or null), `payload` (a list of numbers 0 to 255),
-    /// `headers` (an object or null), `status` (a number or null), `description` (a string or null) and `length`, a number of
-    /// bytes. `from_json` reads an equal message from it. The crate's `Serialize`.
+    /// The message as JSON: an object with `subject`, `reply` (a string or null), `payload` (a list of numbers 0 to
+    /// 255), `headers` (an object or null), `status` (a number or null), `description` (a string or null) and
+    /// `length`, a number of bytes. `from_json` reads an equal message from it. The crate's `Serialize`.
     pub fn to_json(&self, alloc: Global) -> Result<Value, NoMemory>
         ensures json { IfOk result (λ v. view v ≡ message_json self.now) }
         ensures reads_back { IfOk result (λ v. ReadsAs (message_in (view v)) self.now) }
@@ -302,13 +302,15 @@ impl Message {
         Ok(Value::Object(members))
     }
 
-    /// The message that a JSON value is: an object with a `subject`, a `payload` and a `length` as `to_json` gives them. The
-    /// payload may also be a string, which means its bytes; the other fields may be missing or null, and other keys are ignored.
+    /// The message that a JSON value is: an object with a `subject`, a `payload` and a `length` as `to_json` gives
+    /// them. The payload may also be a string, which means its bytes; the other fields may be missing or null, and
+    /// other keys are ignored.
     ///
     /// # Errors
     ///
-    /// `NoMatch` exactly where the value is no such object, as where the status is outside 100 to 999 or a number of the payload
-    /// above 255; `NoMemory` for want of memory. The crate's `Deserialize`, which takes any number up to 65535 as a status.
+    /// `NoMatch` exactly where the value is no such object, as where the status is outside 100 to 999 or a number
+    /// of the payload above 255; `NoMemory` for want of memory. The crate's `Deserialize`, which takes any number
+    /// up to 65535 as a status.
     pub fn from_json(alloc: Global, v: &Value) -> Result<Message, JsonError>
         ensures { Gives (message_in (view v.now)) result }
     {

@@ -1,5 +1,5 @@
 //! Operations: what a server sends, and what a client sends.
-ghost use Rattle.std.specs.Prelude.{◌≡◌, Some};
+ghost use Rattle.std.specs.Prelude.{◌≡◌, Some, IfOk};
 ghost use Rattle.nats_wire.specs.Operations.{op_view, peeked_view};
 ghost use Rattle.nats_wire.specs.Wire.{wire_error_text};
 ghost use Rattle.nats_wire.specs.declared.op.WireError.TheVariants as refused;
@@ -9,6 +9,7 @@ use nats_connect::ConnectInfo;
 use nats_header::HeaderMap;
 use nats_info::ServerInfo;
 use nats_names::{Bytes, NoMemory, ServerError, Subject};
+use std::alloc::Global;
 use std::error::Error;
 use std::fmt;
 
@@ -29,7 +30,8 @@ pub enum ServerOp {
     Message { sid: u64, message: Message },
 }
 
-/// A `ServerOp` as it is handed on before it is consumed: a message is in a box of its own, so that it costs little. Own type.
+/// A `ServerOp` as it is handed on before it is consumed: a message is in a box of its own, so that it costs
+/// little. Own type.
 #[derive(Debug, Drop, PartialEq, Eq)]
 pub enum PeekedOp {
     /// The protocol's `+OK`.
@@ -47,40 +49,42 @@ pub enum PeekedOp {
 }
 
 impl PeekedOp {
-    /// The operation itself. It takes no memory.
-    pub fn into_op(self) -> ServerOp
-        ensures { op_view result ≡ peeked_view self }
+    /// The same operation, a message in a box. Memory is taken for a message alone.
+    pub fn boxed(alloc: Global, op: ServerOp) -> Result<PeekedOp, NoMemory>
+        ensures { IfOk result (λ boxed. peeked_view boxed ≡ op_view op) }
     {
-        match self {
-            PeekedOp::Ok => ServerOp::Ok,
-            PeekedOp::Info(info) => ServerOp::Info(info),
-            PeekedOp::Ping => ServerOp::Ping,
-            PeekedOp::Pong => ServerOp::Pong,
-            PeekedOp::Error(error) => ServerOp::Error(error),
-            PeekedOp::Message { sid, message } => ServerOp::Message {
+        Ok(match op {
+            ServerOp::Ok => PeekedOp::Ok,
+            ServerOp::Info(info) => PeekedOp::Info(info),
+            ServerOp::Ping => PeekedOp::Ping,
+            ServerOp::Pong => PeekedOp::Pong,
+            ServerOp::Error(error) => PeekedOp::Error(error),
+            ServerOp::Message { sid, message } => PeekedOp::Message {
                 sid,
-                message: Box::into_inner(message),
+                message: Box::new(alloc, message)?,
             },
-        }
+        })
     }
 }
 
 /// An operation for the server, by the NATS client protocol. The crate's `ClientOp`.
 #[derive(Debug, Drop, PartialEq, Eq)]
 pub enum ClientOp {
-    /// The protocol's `SUB`: asks for the messages of `subject`, under the number `sid`, shared with the others of the queue group.
+    /// The protocol's `SUB`: asks for the messages of `subject`, under the number `sid`, shared with the others of
+    /// the queue group.
     Subscribe {
         sid: u64,
         subject: Subject,
         queue_group: Option<Subject>,
     },
-    /// The protocol's `UNSUB`: ends the subscription of the number `sid`, at once or once `max` messages were delivered to it.
+    /// The protocol's `UNSUB`: ends the subscription of the number `sid`, at once or once `max` messages were
+    /// delivered to it.
     Unsubscribe {
         sid: u64,
         max: Option<u64>,
     },
-    /// The protocol's `PUB`, and `HPUB` where headers are there and not empty: sends a payload to the subscribers of `subject`,
-    /// and says where an answer is asked to go.
+    /// The protocol's `PUB`, and `HPUB` where headers are there and not empty: sends a payload to the subscribers
+    /// of `subject`, and says where an answer is asked to go.
     Publish {
         subject: Subject,
         payload: Bytes,
@@ -91,7 +95,8 @@ pub enum ClientOp {
     Ping,
     /// The protocol's `PONG`: the answer to a `PING`.
     Pong,
-    /// The protocol's `CONNECT`: what the client tells of itself when a link begins. The crate's rule: it comes before all else.
+    /// The protocol's `CONNECT`: what the client tells of itself when a link begins. The crate's rule: it comes
+    /// before all else.
     Connect(ConnectInfo),
 }
 

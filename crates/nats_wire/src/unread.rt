@@ -1,160 +1,271 @@
-//! The bytes that came over a link and that no operation took yet, with what is remembered of them: no byte is searched twice
-//! for the end of a line, and a line that announces a body isn't read again while the body comes.
-ghost use Rattle.std.specs.Prelude.{◌≡◌, ◌++◌, ◌<◌, ◌≤◌, [], length, drop, IsTrue, IfOk, OnOk, OnErr};
-ghost use Rattle.nats_wire.specs.Operations.{sight, front, takes_memory};
+//! The bytes that came over a link and that no operation took yet, with what is remembered of them: no byte is
+//! tested twice for the end of a line, and a line that announces a body isn't read again while the body comes.
+ghost use Rattle.std.specs.Prelude.{◌≡◌, ◌++◌, ◌+◌, ◌-◌, ◌<◌, ◌≤◌, [], length, drop, option_map, true, None, IsTrue, IfOk, OnOk, OnErr};
+ghost use Rattle.std.specs.Bool.{OnFalse};
+ghost use Rattle.nats_wire.specs.Operations.{cut_line, sight, front, takes_memory, is_unfinished, got_or_fault, size_of, op_view};
 ghost use Rattle.nats_wire.specs.Decoder.{sight_view, front_view, taken_by};
-ghost use Rattle.nats_wire.specs.Scan.{clear_to, Needs};
-ghost use Rattle.nats_wire.specs.Store.{store_bytes};
+ghost use Rattle.nats_wire.specs.Scan.{Looked, untested, Needs};
+ghost use Rattle.nats_wire.specs.Wire.{Paid};
+ghost use Rattle.nats_wire.specs.Connection.{Reads};
 
+use crate::copies;
 use crate::decode::{self, Sight};
 use crate::front::{Front, front_kept};
-use crate::store::Store;
+use crate::op::{ServerOp, WireError};
+use crate::search::{Found, NOT_LOOKED, search};
 use nats_names::NoMemory;
+use nats_outbuf::{InBuf, Steps};
 use std::alloc::Global;
-use std::marker::Model;
-use std::mem;
+use std::marker::{Brand, Model};
+use std::sync::ledger::{Blank, Ledger};
 
 /// From this length on bytes are shared that begin with no message. Own choice.
 const SHARED_LEAST: usize = 256;
 
-/// Unread bytes. Contracts see them as a list.
+/// Unread bytes. Contracts see them as a list, with the number of those that were not tested yet for the end of a line.
 #[derive(Drop)]
 pub struct Unread {
-    store: Store,
-    /// No line's end stands before this place.
-    place: usize,
+    buf: InBuf,
+    /// How far the end of the first line was looked for.
+    found: Found,
     /// Fewer bytes than these are less than an operation; 0 where that isn't known.
     needed: usize,
+    /// An operation or a fault is known to stand at the front.
+    ready: bool,
+    /// How many bytes came last.
+    fed: usize,
 }
 
 impl Model for Unread {
-    ghost use Rattle.std.specs.Prelude.{◌≤◌, List, ℕ, length, IsTrue};
-    ghost use Rattle.nats_wire.specs.Scan.{clear_to, Needs};
-    ghost use Rattle.nats_wire.specs.Store.{store_bytes};
+    ghost use Rattle.std.specs.Prelude.{◌≡◌, false};
+    ghost use Rattle.std.specs.Bool.{OnTrue};
+    ghost use Rattle.nats_wire.specs.Operations.{front, is_unfinished};
+    ghost use Rattle.nats_wire.specs.Scan.{Looked, untested, Needs};
+    ghost use Rattle.nats_wire.specs.Wire.{Unread};
 
-    ghost Value = { List ℕ };
+    ghost Value = { Unread };
 
-    ghost view = { λ u. store_bytes u.store };
+    ghost view = { λ u. record { bytes = u.buf; untested = untested u.found.place u.found.ended u.buf } };
 
-    ghost invariant = { λ u. (u.place ≤ length (store_bytes u.store)) × IsTrue (clear_to u.place (store_bytes u.store))
-        × Needs (store_bytes u.store) u.needed };
-}
-
-/// What is remembered of some bytes.
-#[derive(Clone, Copy)]
-struct Known {
-    place: usize,
-    needed: usize,
-}
-
-// What is known of some bytes, of which so much is known: the search goes on, or the line is read that was found before.
-fn know_more(bytes: &[u8], before: Known) -> Known
-    requires within { before.place ≤ length bytes.now }
-    requires clear { IsTrue (clear_to before.place bytes.now) }
-    requires needed { Needs bytes.now before.needed }
-    ensures within { result.place ≤ length bytes.now }
-    ensures clear { IsTrue (clear_to result.place bytes.now) }
-    ensures needed { Needs bytes.now result.needed }
-{
-    if !decode::is_crlf_at(bytes, before.place) {
-        return Known {
-            place: decode::clear_place(bytes, before.place),
-            needed: before.needed,
-        };
-    }
-    if before.needed > 0 {
-        return before;
-    }
-    Known {
-        place: before.place,
-        needed: decode::needed(bytes, before.place),
-    }
-}
-
-// Whether messages are to share some bytes: a whole line stands there, and what is left of the bytes at the next piece,
-// which is copied then, is at most twice what this piece had. A short text that begins with no message isn't worth it.
-fn is_worth_sharing(bytes: &[u8], place: usize, last: usize) -> bool
-    requires { place ≤ length bytes.now }
-{
-    let begins = bytes.starts_with(b"MSG ") || bytes.starts_with(b"HMSG ");
-    bytes.len() / 2 <= last
-        && (begins || bytes.len() >= SHARED_LEAST)
-        && decode::is_crlf_at(bytes, place)
+    ghost invariant = { λ u. Looked u.found.place u.found.ended u.buf × Needs u.buf u.needed
+        × OnTrue u.ready (is_unfinished (front u.buf) ≡ false) };
 }
 
 impl Unread {
     /// No bytes. It takes no memory.
     pub fn new(alloc: Global) -> Unread
-        ensures { result ≡ [] }
+        ensures { result ≡ record { bytes = []; untested = 0 } }
     {
         Unread {
-            store: Store::new(alloc),
-            place: 0,
+            buf: InBuf::new(alloc),
+            found: NOT_LOOKED,
             needed: 0,
+            ready: false,
+            fed: 0,
         }
     }
 
     /// How many bytes there are.
     pub fn len(&self) -> usize
-        ensures { result ≡ length self.now }
+        ensures { result ≡ length self.now.bytes }
     {
-        self.store.as_slice().len()
+        self.buf.len()
     }
 
-    /// All of them.
-    pub fn as_slice(&self) -> &[u8]
-        ensures { result.now ≡ self.now }
+    /// How many of them were not tested yet.
+    pub fn untested(&self) -> usize
+        ensures value { result ≡ self.now.untested }
+        ensures bound { self.now.untested ≤ length self.now.bytes }
     {
-        self.store.as_slice()
+        let len = self.buf.len();
+        let tested = if self.found.ended {
+            self.found.place + 1
+        } else {
+            self.found.place
+        };
+        len - tested
     }
 
     /// Appends bytes, whole or not at all.
     pub fn feed(&mut self, alloc: Global, bytes: &[u8]) -> Result<(), NoMemory>
-        ensures ok { OnOk result (self.new ≡ self.old ++ bytes.now) }
+        ensures ok { OnOk result (self.new ≡ record {
+          bytes = self.old.bytes ++ bytes.now;
+          untested = self.old.untested + length bytes.now;
+        }) }
         ensures err { OnErr result (self.new ≡ self.old) }
     {
-        let before = Known {
-            place: self.place,
-            needed: self.needed,
-        };
-        let (store, fed) = mem::replace(&mut self.store, Store::new(alloc)).fed(alloc, bytes);
-        self.store = store;
-        fed?;
-        let Known { place, needed } = know_more(self.store.as_slice(), before);
-        self.place = place;
-        self.needed = needed;
-        if is_worth_sharing(self.store.as_slice(), place, bytes.len()) {
-            self.store = mem::replace(&mut self.store, Store::new(alloc)).shared();
-        }
+        self.buf.feed(alloc, bytes)?;
+        self.fed = bytes.len();
         Ok(())
     }
 
     /// Takes the first `n` bytes away.
-    pub fn consume(&mut self, n: usize)
-        requires { n ≤ length self.old }
-        ensures { self.new ≡ drop n self.old }
+    pub fn advance(&mut self, n: usize)
+        requires { n ≤ length self.old.bytes }
+        ensures bytes { self.new.bytes ≡ drop n self.old.bytes }
+        ensures untested { self.new.untested ≤ self.old.untested }
     {
-        self.store.advance(n);
+        self.buf.advance(n);
         self.needed = 0;
-        self.place = decode::clear_place(self.store.as_slice(), 0);
+        self.ready = false;
+        self.found = self.found.behind(n);
+    }
+
+    // Looks on for the end of the first line.
+    fn search_on<L: Ledger>(&self, steps: &mut Steps<L>) -> Found
+        ensures looked { Looked result.place result.ended self.now.bytes }
+        ensures none { OnFalse result.ended (cut_line self.now.bytes ≡ None) }
+        ensures paid { Paid steps.old self.now.untested steps.new (untested result.place result.ended self.now.bytes) }
+    {
+        if self.found.ended {
+            self.found
+        } else {
+            search(&self.buf, self.found.place, steps)
+        }
+    }
+
+    // The same, and that is remembered.
+    fn search<L: Ledger>(&mut self, steps: &mut Steps<L>)
+        ensures same { self.new.bytes ≡ self.old.bytes }
+        ensures paid { Paid steps.old self.old.untested steps.new self.new.untested }
+    {
+        self.found = self.search_on(steps);
+    }
+
+    fn sight_counted<L: Ledger>(&self, blank: Blank) -> Sight<'_>
+        requires name { blank.name ≡ L.name }
+        requires parts { (blank.parts ≡ L.parts) × (0 < L.parts) }
+        ensures { sight_view result ≡ sight self.now.bytes }
+    {
+        let found = self.search_on(&mut Steps::<L>::new(blank));
+        if found.ended {
+            decode::sight_at(self.buf.as_slice(), found.place)
+        } else {
+            Sight::Unfinished
+        }
     }
 
     /// What stands at their front, where it is told without memory.
     pub fn sight(&self) -> Sight<'_>
-        ensures { sight_view result ≡ sight self.now }
+        ensures { sight_view result ≡ sight self.now.bytes }
     {
-        if self.store.as_slice().len() < self.needed {
-            return Sight::Unfinished;
+        if self.buf.len() < self.needed {
+            Sight::Unfinished
+        } else {
+            self.sight_counted::<Brand>(Blank::new(1))
         }
-        decode::sight_behind(self.store.as_slice(), self.place)
+    }
+
+    /// Whether less than an operation stands at their front.
+    pub fn is_unfinished(&self) -> bool
+        ensures { result ≡ is_unfinished (front self.now.bytes) }
+    {
+        !self.ready && matches!(self.sight(), Sight::Unfinished)
+    }
+
+    // What stands at the front is less than an operation: how many bytes it needs is remembered, where its line
+    // tells that.
+    fn await_body(&mut self)
+        ensures { self.new ≡ self.old }
+    {
+        if self.found.ended && self.needed == 0 {
+            self.needed = decode::needed(self.buf.as_slice(), self.found.place);
+        }
+    }
+
+    // Whether messages are to share the bytes: an operation may stand there, and what is left of the bytes at the
+    // next piece, which is copied then, is at most twice what the last piece had. A short text that begins with no
+    // message isn't worth it.
+    fn is_worth_sharing(&self) -> bool {
+        let bytes = self.buf.as_slice();
+        let begins = bytes.starts_with(b"MSG ") || bytes.starts_with(b"HMSG ");
+        self.found.ended
+            && bytes.len() >= self.needed
+            && bytes.len() / 2 <= self.fed
+            && (begins || bytes.len() >= SHARED_LEAST)
+    }
+
+    fn share(&mut self)
+        ensures { self.new ≡ self.old }
+    {
+        if self.is_worth_sharing() {
+            self.buf.share();
+        }
+    }
+
+    /// Looks at the front, and remembers what that told. Messages share the bytes from now on where that is worth it.
+    pub fn look<L: Ledger>(&mut self, steps: &mut Steps<L>)
+        ensures same { self.new.bytes ≡ self.old.bytes }
+        ensures paid { Paid steps.old self.old.untested steps.new self.new.untested }
+    {
+        self.search(steps);
+        self.share();
+        if self.is_unfinished() {
+            self.await_body();
+        } else {
+            self.ready = true;
+        }
     }
 
     /// What stands at their front. It takes memory only where the text of an operation is there whole.
     pub fn front(&self, alloc: Global) -> Result<Front, NoMemory>
-        ensures front { IfOk result (λ f. front_view f ≡ front self.now) }
-        ensures fits { IfOk result (λ f. taken_by f ≤ length self.now) }
-        ensures memory { OnErr result (IsTrue (takes_memory self.now)) }
+        ensures front { IfOk result (λ f. front_view f ≡ front self.now.bytes) }
+        ensures fits { IfOk result (λ f. taken_by f ≤ length self.now.bytes) }
+        ensures memory { OnErr result (IsTrue (takes_memory self.now.bytes)) }
     {
-        front_kept(alloc, &self.store, self.sight())
+        front_kept(alloc, &self.buf, self.sight())
+    }
+
+    /// Takes the operation at their front, `None` where that is less than an operation.
+    pub fn read<L: Ledger>(
+        &mut self,
+        alloc: Global,
+        steps: &mut Steps<L>,
+    ) -> Result<Option<ServerOp>, WireError>
+        ensures reads { Reads (front self.old.bytes) (takes_memory self.old.bytes)
+            self.old.bytes result self.new.bytes }
+        ensures paid { Paid steps.old self.old.untested steps.new self.new.untested }
+    {
+        self.search(steps);
+        self.share();
+        match self.sight() {
+            Sight::Unfinished => {
+                self.await_body();
+                Ok(None)
+            }
+            Sight::Fault(n) => {
+                self.advance(n);
+                Err(WireError::ReadFault)
+            }
+            Sight::Whole(text, len) => {
+                let lost = text.lost_at(len);
+                let found = copies::operation_kept(alloc, &self.buf, &text, len)?;
+                self.take(found, len, lost)
+            }
+        }
+    }
+
+    // Takes an operation that was read, with its bytes, or those of a text that turned out to be none.
+    fn take(
+        &mut self,
+        found: Option<ServerOp>,
+        len: usize,
+        lost: usize,
+    ) -> Result<Option<ServerOp>, WireError>
+        requires { size_of (got_or_fault len lost (option_map op_view found)) ≤ length self.old.bytes }
+        ensures reads { Reads (got_or_fault len lost (option_map op_view found)) true
+            self.old.bytes result self.new.bytes }
+        ensures untested { self.new.untested ≤ self.old.untested }
+    {
+        match found {
+            Some(op) => {
+                self.advance(len);
+                Ok(Some(op))
+            }
+            None => {
+                self.advance(lost);
+                Err(WireError::ReadFault)
+            }
+        }
     }
 }

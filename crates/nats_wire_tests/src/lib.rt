@@ -1,5 +1,6 @@
-//! The tests of the crates by which bytes are read and written: names, header maps, INFO, header blocks, operations, the text of a
-//! client, CONNECT and the buffers. They stand here and not in those crates, since a crate with tests is proved twice.
+//! The tests of the crates by which bytes are read and written: names, header maps, INFO, header blocks,
+//! operations, the text of a client, CONNECT and the buffers. They stand here and not in those crates, since a
+//! crate with tests is proved twice.
 #![tactic(auto)]
 
 #[cfg(test)]
@@ -20,5 +21,7 @@ mod info;
 mod message_json;
 #[cfg(test)]
 mod names;
+#[cfg(test)]
+mod steps;
 #[cfg(test)]
 mod wire;

@@ -69,7 +69,7 @@ fn a_delivered_message_is_read_back(rt: HostRuntime) -> Result<(), Fail> {
     let alloc = rt.alloc();
     let mut connection = Connection::new(alloc);
     connection.feed(alloc, b"MSG a 1 2\r\nhi\r\n")?;
-    let op = connection.try_read_op(alloc)?;
+    let op = connection.read_op(alloc)?;
     match &op {
         Some(ServerOp::Message { message, .. }) => assert!(rt; reads_back(alloc, message)?),
         Some(_) | None => assert!(rt; false),

@@ -2,14 +2,14 @@
 use nats_names::NoMemory;
 use nats_wire::{
     Bytes, ClientOp, ConnectInfo, Connection, HeaderMap, Message, OutboundMessage, Protocol,
-    ServerOp, Subject, Text, WireError,
+    ServerOp, ShouldFlush, Subject, Text, WireError,
 };
 use std::alloc::Global;
 use std::str;
 use std::test::Fail;
 
-// Texts, and behind `~` what is read at their front and how many bytes stay. A message is its number, subject, reply, payload,
-// length, status, description and its header `K`; rows end at `|`.
+// Texts, and behind `~` what is read at their front and how many bytes stay. A message is its number, subject,
+// reply, payload, length, status, description and its header `K`; rows end at `|`.
 const READ: &str = "+OK\r\n~ok 0|PINGX\r\n~ping 0|PONG\r\nPI~pong 2\
 |ONE\r\nPING\r\n~fault 6|ONE\nPING\r~unfinished 9\
 |INFO {\"port\":42}\r\n~info 42 0|INFO {\"port\":-1}\r\n~fault 18|INFO {\"po~unfinished 9\
@@ -64,7 +64,7 @@ fn told(alloc: Global, op: &ServerOp) -> Result<String, NoMemory> {
 }
 
 fn told_read(alloc: Global, connection: &mut Connection) -> Result<String, NoMemory> {
-    match connection.try_read_op(alloc) {
+    match connection.read_op(alloc) {
         Ok(Some(op)) => told(alloc, &op),
         Ok(None) => Ok(String::from_str(alloc, "unfinished")?),
         Err(WireError::ReadFault) => Ok(String::from_str(alloc, "fault")?),
@@ -107,7 +107,7 @@ fn a_message_is_read_at_its_last_byte(rt: HostRuntime) -> Result<(), Fail> {
 #[test]
 fn messages_outlive_the_bytes_that_they_share(rt: HostRuntime) -> Result<(), Fail> {
     let mut connection = fed(rt.alloc(), b"MSG a 1 2\r\nhi\r\nMSG b 2 r 3\r\nyo")?;
-    let first = connection.try_read_op(rt.alloc())?.ok_or("no message")?;
+    let first = connection.read_op(rt.alloc())?.ok_or("no message")?;
     assert!(rt; connection.is_unfinished());
     connection.feed(rt.alloc(), b"u\r\nPING\r\n")?;
     let second = told_read(rt.alloc(), &mut connection)?;
@@ -122,7 +122,7 @@ fn messages_outlive_the_bytes_that_they_share(rt: HostRuntime) -> Result<(), Fai
 #[test]
 fn bytes_that_are_no_text_are_a_fault(rt: HostRuntime) -> Result<(), Fail> {
     let mut connection = fed(rt.alloc(), b"MSG a.\xff 1 2\r\nhi\r\n")?;
-    let read = connection.try_read_op(rt.alloc());
+    let read = connection.read_op(rt.alloc());
     assert_eq!(rt; read.err(), Some(WireError::ReadFault));
     Ok(())
 }
@@ -150,6 +150,11 @@ fn subscribe(queue_group: Option<Subject>) -> ClientOp {
     }
 }
 
+// All bytes that wait.
+fn waiting(alloc: Global, connection: &Connection) -> Result<Vec<u8>, NoMemory> {
+    connection.copy_waiting(alloc, connection.pending())
+}
+
 #[test]
 fn commands_are_written_in_order(rt: HostRuntime) -> Result<(), Fail> {
     let mut connection = Connection::new(rt.alloc());
@@ -165,8 +170,9 @@ fn commands_are_written_in_order(rt: HostRuntime) -> Result<(), Fail> {
         ClientOp::Pong,
     ];
     connection.enqueue_write_ops(rt.alloc(), &ops)?;
+    let text = waiting(rt.alloc(), &connection)?;
     assert_eq!(rt;
-        connection.waiting(),
+        text.as_slice(),
         b"PING\r\nSUB FOO 7\r\nSUB FOO g 7\r\nUNSUB 7\r\nUNSUB 7 3\r\nPONG\r\n".as_slice()
     );
     Ok(())
@@ -183,11 +189,18 @@ fn a_payload_is_written_behind_its_length(rt: HostRuntime) -> Result<(), Fail> {
         ),
     ];
     connection.enqueue_write_ops(rt.alloc(), &ops)?;
+    let text = waiting(rt.alloc(), &connection)?;
     assert_eq!(rt;
-        connection.waiting(),
+        text.as_slice(),
         b"PUB FOO 2\r\nhi\r\nHPUB FOO r 23 25\r\nNATS/1.0\r\nHeader: X\r\n\r\nhi\r\n".as_slice()
     );
     Ok(())
+}
+
+// A link that took `n` bytes, or all where fewer wait.
+fn take_some(connection: &mut Connection, n: usize) -> ShouldFlush {
+    connection.written(n.min(connection.pending()));
+    connection.should_flush()
 }
 
 #[test]
@@ -197,9 +210,47 @@ fn what_was_written_no_longer_waits(rt: HostRuntime) -> Result<(), Fail> {
     assert_eq!(rt; connection.pending(), 6);
     assert!(rt; !connection.is_write_buf_full());
     let pieces = connection.pending_pieces(rt.alloc())?;
-    assert_eq!(rt; pieces[0].as_slice(), b"PING\r\n".as_slice());
-    connection.written(4);
-    assert_eq!(rt; connection.waiting(), b"\r\n".as_slice());
+    let first = pieces
+        .first()
+        .map_or(b"".as_slice(), |piece| piece.as_slice());
+    assert_eq!(rt; first, b"PING\r\n".as_slice());
+    take_some(&mut connection, 4);
+    let left = waiting(rt.alloc(), &connection)?;
+    assert_eq!(rt; left.as_slice(), b"\r\n".as_slice());
+    Ok(())
+}
+
+#[test]
+fn a_writer_is_flushed_once_something_was_written(rt: HostRuntime) -> Result<(), Fail> {
+    let mut connection = Connection::new(rt.alloc());
+    assert_eq!(rt; connection.should_flush(), ShouldFlush::No);
+    connection.enqueue_write_op(rt.alloc(), &ClientOp::Ping)?;
+    assert_eq!(rt; connection.should_flush(), ShouldFlush::No);
+    assert_eq!(rt; take_some(&mut connection, 3), ShouldFlush::May);
+    assert_eq!(rt; take_some(&mut connection, 3), ShouldFlush::Yes);
+    connection.flushed();
+    assert_eq!(rt; connection.should_flush(), ShouldFlush::No);
+    Ok(())
+}
+
+// How many pieces hold a publication with a payload of `count` bytes, and how many bytes they have.
+fn published(alloc: Global, count: usize) -> Result<(usize, usize), NoMemory> {
+    let mut connection = Connection::new(alloc);
+    let op = ClientOp::Publish {
+        subject: Subject::from_static("FOO"),
+        payload: Bytes::from_vec(vec![in alloc; b'x'; count]?)?,
+        respond: None,
+        headers: None,
+    };
+    connection.enqueue_write_op(alloc, &op)?;
+    let pieces = connection.pending_pieces(alloc)?;
+    Ok((pieces.len(), connection.pending()))
+}
+
+#[test]
+fn a_large_payload_is_a_piece_of_its_own(rt: HostRuntime) -> Result<(), Fail> {
+    assert_eq!(rt; published(rt.alloc(), 4_095)?, (1, 4_111));
+    assert_eq!(rt; published(rt.alloc(), 4_096)?, (3, 4_112));
     Ok(())
 }
 
@@ -240,7 +291,8 @@ fn plain_info(alloc: Global) -> Result<ConnectInfo, NoMemory> {
 fn is_connect(alloc: Global, info: ConnectInfo, text: &str) -> Result<bool, NoMemory> {
     let mut connection = Connection::new(alloc);
     connection.enqueue_write_op(alloc, &ClientOp::Connect(info))?;
-    Ok(connection.waiting() == text.as_bytes())
+    let waiting = waiting(alloc, &connection)?;
+    Ok(waiting.as_slice() == text.as_bytes())
 }
 
 #[test]

@@ -1,8 +1,10 @@
-//! `replay run` reads a script of turns from standard input and prints their transcript; `replay bulk N` plays N turns that are
-//! made by a rule and prints what they came to. `replay --help` and
-//! `replay --version` tell of the program.
+//! `replay run` reads a script of turns from standard input and prints their transcript; `replay bulk N` plays
+//! N turns that are made by a rule and prints what they came to; `replay pub` and `replay sub` publish to a
+//! server and receive from it. `replay --help` and `replay --version` tell of the program.
 #![tactic(auto)]
 
+use nats_client::{NetDialer, NetResolver, SystemClock, SystemDraw, ThreadSpawner, Whole};
+use nats_outside::Joined;
 use nats_replay::{NO_MEMORY, Reading, WRITE_FAULT, Writing, replay};
 use std::process::ExitCode;
 use std::rt::Env;
@@ -15,13 +17,18 @@ const VERSION: &str = "replay 0.1.0, of Wichapok, a port of the core of async-na
 const HELP: &str = "\
 usage: replay run < SCRIPT
        replay bulk N
+       replay pub ADDR SUBJECT PAYLOAD
+       replay sub ADDR SUBJECT N
        replay --help | --version
 
 run reads a script of turns from standard input, plays them and prints their transcript.
 bulk plays N turns that are made by a rule, 1 to 1,000,000, and prints what they came to.
+pub connects to a server and publishes a message, and prints published once it was written.
+sub connects to a server, receives N messages, 1 to 1,000,000, and prints a line for each.
+An address is as nats://127.0.0.1:4222, or a host alone.
 
 exit status:
-  0  the transcript, or what the turns came to, is printed
+  0  what was asked for is printed
   2  the words are no command
   3  standard input failed
   4  standard output failed
@@ -29,6 +36,7 @@ exit status:
   6  a turn of the script may not come where it stands
   7  out of memory
   8  the script is longer than 16,777,216 bytes
+  9  no link, a refused message or subject, or a link that ended first; the text says which
 ";
 
 /// The words of the command line, without the program's name.
@@ -70,5 +78,23 @@ fn main(rt: HostRuntime) -> ExitCode {
     }
     let mut source = Reading::new(rt.stdin());
     let mut sink = Writing::new(rt.stdout());
-    ExitCode::from(replay(rt.alloc(), words.as_slice(), &mut source, &mut sink))
+    let mut world = Whole {
+        reach: Joined {
+            dialer: NetDialer::new(rt),
+            resolver: NetResolver::new(rt),
+            clock: SystemClock::new(rt),
+            draw: SystemDraw::new(rt),
+        },
+        spawner: ThreadSpawner::new(rt.alloc(), rt),
+        clock: SystemClock::new(rt),
+    };
+    let status = replay(
+        &rt,
+        rt.alloc(),
+        words.as_slice(),
+        &mut source,
+        &mut sink,
+        &mut world,
+    );
+    ExitCode::from(status)
 }

@@ -1,5 +1,5 @@
 //! What a session tells of itself.
-ghost use Rattle.std.specs.Prelude.{◌≡◌, length, drop, is_some, not};
+ghost use Rattle.std.specs.Prelude.{◌≡◌, length, take, drop, min, is_some, not, IfOk};
 ghost use Rattle.std.specs.Option.{option_copied};
 ghost use Rattle.nats_history.specs.Queue.{first};
 ghost use Rattle.nats_tables.specs.Numbers.{item_of};
@@ -7,13 +7,16 @@ ghost use Rattle.nats_history.specs.declared.turn.Turn.TheVariants as turns;
 ghost use Rattle.nats_history.specs.History.{names};
 ghost use Rattle.nats_tickets.specs.Kept.{reply_in, without};
 ghost use Rattle.nats_history.specs.Schedule.{due, refusal, has_no_number, may_name, is_full, is_valid_turn, own_steps};
-ghost use Rattle.nats_subs.specs.Delivery.{youngest};
+ghost use Rattle.nats_subs.specs.Delivery.{youngest, first_of};
 ghost use Rattle.nats_session.specs.Handler.{can_play, HandsOut, HandsReply, end_in, state_of};
 
 use super::{ConnectionHandler, TICK_LIMIT};
 use nats_history::refusals::{has_group, has_subjects, size_of, subscribes, takes_ticket};
-use nats_history::{Call, CallReply, Event, LinkWord, Message, ServerInfo, Statistics, Turn};
+use nats_history::{
+    Call, CallReply, Config, Event, LinkWord, Message, NoMemory, ServerInfo, Statistics, Turn,
+};
 use nats_names::State;
+use std::alloc::Global;
 
 impl ConnectionHandler {
     /// The number of the newest link, from 1; 0 before any. Our own count: the crate numbers no links.
@@ -23,9 +26,9 @@ impl ConnectionHandler {
         self.link
     }
 
-    /// Whether a step is due, which `advance` plays: an operation or a fault is at the front of the unread bytes, or a call
-    /// waits while fewer bytes than the soft limit of the write buffer do. It takes no memory. Our own name for what the
-    /// crate's loop does next.
+    /// Whether a step is due, which `advance` plays: an operation or a fault is at the front of the unread bytes,
+    /// or a call waits while fewer bytes than the soft limit of the write buffer do. It takes no memory. Our own
+    /// name for what the crate's loop does next.
     pub fn is_due(&self) -> bool
         ensures { result ≡ is_some (due self.now.parts) }
     {
@@ -38,9 +41,9 @@ impl ConnectionHandler {
         !self.connection.is_write_buf_full() && !self.calls.is_empty()
     }
 
-    /// Whether a turn may be played: it may come here, and no step is due. It is the condition of the call of that turn; a
-    /// `Do` may come where the subscription that it names, if it does, was given and not let go, a `Deadline` where its ticket was
-    /// given to a request. It takes no memory.
+    /// Whether a turn may be played: it may come here, and no step is due. It is the condition of the call of that
+    /// turn; a `Do` may come where the subscription that it names, if it does, was given and not let go, a
+    /// `Deadline` where its ticket was given to a request. It takes no memory.
     pub fn check(&self, turn: &Turn) -> bool
         ensures { result ≡ can_play self.now.parts turn.now }
     {
@@ -116,8 +119,8 @@ impl ConnectionHandler {
         self.is_up
     }
 
-    /// How the session stands: `Pending` before its first link, `Connected` while a link is up, else `Disconnected`. The
-    /// crate's `connection_state`.
+    /// How the session stands: `Pending` before its first link, `Connected` while a link is up, else
+    /// `Disconnected`. The crate's `connection_state`.
     pub fn state(&self) -> State
         ensures { result ≡ state_of self.now.parts }
     {
@@ -138,7 +141,8 @@ impl ConnectionHandler {
         !is_full
     }
 
-    /// The limit of a payload's size with its header block, in bytes: that of the newest link's server, 1,048,576 before any.
+    /// The limit of a payload's size with its header block, in bytes: that of the newest link's server, 1,048,576
+    /// before any.
     pub fn max_payload(&self) -> u64
         ensures { result ≡ self.now.parts.link.max_payload }
     {
@@ -162,9 +166,10 @@ impl ConnectionHandler {
         self.reads
     }
 
-    /// What was counted over all links, each count up to 2^64 - 1: the messages that were read and their lengths, whatever became
-    /// of them; those of publishes and requests that were handled, with the bytes of subject, reply, header block and payload;
-    /// the links that came up. It takes no memory. The crate's `Client::statistics`; the crate counts the bytes of the link.
+    /// What was counted over all links, each count up to 2^64 - 1: the messages that were read and their lengths,
+    /// whatever became of them; those of publishes and requests that were handled, with the bytes of subject,
+    /// reply, header block and payload; the links that came up. It takes no memory. The crate's
+    /// `Client::statistics`; the crate counts the bytes of the link.
     pub fn statistics(&self) -> Statistics
         ensures { result ≡ self.now.parts.statistics }
     {
@@ -205,19 +210,44 @@ impl ConnectionHandler {
         self.connection.pending() as u64
     }
 
-    /// The bytes that wait to be taken.
-    pub(crate) fn waiting(&self) -> &[u8]
-        ensures { result.now ≡ self.now.parts.link.wire.waiting }
+    /// A copy of the first `n` bytes that wait to be taken, or of all where fewer wait.
+    pub(crate) fn copy_waiting(&self, alloc: Global, n: u64) -> Result<Vec<u8>, NoMemory>
+        ensures { IfOk result (λ copy. copy.items
+            ≡ take (min n (length self.now.parts.link.wire.waiting)) self.now.parts.link.wire.waiting) }
     {
-        self.connection.waiting()
+        let count = (n as usize).min(self.connection.pending());
+        self.connection.copy_waiting(alloc, count)
     }
 
-    /// The youngest waiting message of the subscription of number `s`, from 1; `None` where none waits, or the number was not
-    /// given or was let go. After `Due::Put(s)` it is the message that was put.
+    /// A copy of all bytes that wait to be taken.
+    pub(crate) fn copy_left(&self, alloc: Global) -> Result<Vec<u8>, NoMemory>
+        ensures { IfOk result (λ copy. copy.items ≡ self.now.parts.link.wire.waiting) }
+    {
+        self.connection
+            .copy_waiting(alloc, self.connection.pending())
+    }
+
+    /// The youngest waiting message of the subscription of number `s`, from 1; `None` where none waits, or the
+    /// number was not given or was let go. After `Due::Put(s)` it is the message that was put.
     pub fn last_put(&self, s: u64) -> Option<&Message>
         ensures { option_copied result ≡ youngest (item_of s self.now.parts.subs.rows) }
     {
         self.subs.last(s)
+    }
+
+    /// The oldest waiting message of the subscription of number `s`, from 1, which is the one that `take` takes;
+    /// `None` exactly where none waits. Own call.
+    pub fn first_waiting(&self, s: u64) -> Option<&Message>
+        ensures { option_copied result ≡ first_of (item_of s self.now.parts.subs.rows) }
+    {
+        self.subs.first(s)
+    }
+
+    /// The settings that the session was made with. Own call.
+    pub fn config(&self) -> &Config
+        ensures { result.now ≡ self.now.parts.config }
+    {
+        &self.config
     }
 
     fn take_event(&mut self) -> Option<Event>
@@ -252,9 +282,9 @@ impl ConnectionHandler {
         self.tickets.reply_of(t)
     }
 
-    /// Hands out the reply by which ticket `t` settled. `None` exactly where it did not settle or its reply was handed out, as
-    /// `laws::reply_once` says. It takes no memory, and looks through the settled tickets that were not handed out. Own call:
-    /// the crate has a channel for each.
+    /// Hands out the reply by which ticket `t` settled. `None` exactly where it did not settle or its reply was
+    /// handed out, as `laws::reply_once` says. It takes no memory, and looks through the settled tickets that were
+    /// not handed out. Own call: the crate has a channel for each.
     pub fn reply_of(&mut self, t: u64) -> Option<CallReply>
         ensures reply { result ≡ reply_in t self.old.ready }
         ensures rest { self.new ≡ record self.old { ready = without t self.old.ready } }

@@ -1,7 +1,7 @@
 //! The calls that play a session, turn by turn and step by step.
 ghost use Rattle.std.specs.Prelude.{◌≡◌, ◌<◌, [], ◌∷◌, ◌++◌, OnOk, OnErr, IfOk, IfErr, IsTrue, min, length, is_some, Some, None};
 ghost use Rattle.nats_names.specs.declared.event.Event.TheVariants.{Connected};
-ghost use Rattle.nats_wire.specs.Commands.{one_piece};
+ghost use Rattle.nats_outbuf.specs.Buffers.{IsFront};
 ghost use Rattle.nats_history.specs.declared.turn.Turn.TheVariants as turns;
 ghost use Rattle.nats_history.specs.History.{opened, fed, ticked, taken, took, all_again, waits_as, inbox_commands};
 ghost use Rattle.nats_history.specs.After.{after, write_all};
@@ -17,7 +17,7 @@ use nats_history::{
     Waits,
 };
 use nats_subs::{Alteration, Subscriptions};
-use nats_wire::{ClientOp, Connection};
+use nats_wire::{ClientOp, Connection, PIECES_MOST};
 use std::alloc::Global;
 
 /// A new link's buffers, where the texts wait that subscribe again, those of the inbox where a request was handled.
@@ -27,7 +27,7 @@ fn subscribed_again(
     requested: bool,
     subs: &Subscriptions,
 ) -> Result<Connection, NoMemory>
-    ensures { IfOk result (λ connection. connection ≡ record {
+    ensures { IfOk result (λ connection. connection.wire ≡ record {
       unread = [];
       waiting = write_all (all_again 1 subs.now.rows ++ inbox_commands config.now requested) [];
     }) }
@@ -43,10 +43,11 @@ impl ConnectionHandler {
     /// What wants memory as a link comes up: its buffers, and its event.
     fn new_link(&mut self, alloc: Global) -> Result<Connection, NoMemory>
         ensures buffers { IfOk result
-            (λ connection. connection ≡ record {
+            (λ connection. connection.wire ≡ record {
               unread = [];
               waiting = write_all
-                  (all_again 1 self.old.parts.subs.rows ++ inbox_commands self.old.parts.config self.old.parts.requested) [];
+                  (all_again 1 self.old.parts.subs.rows
+                  ++ inbox_commands self.old.parts.config self.old.parts.requested) [];
             }) }
         ensures ok { OnOk result (self.new ≡ record self.old { events = self.old.events ++ Connected ∷ [] }) }
         ensures err { OnErr result (self.new ≡ self.old) }
@@ -59,7 +60,7 @@ impl ConnectionHandler {
     /// The link is up, with these buffers.
     fn use_link(&mut self, info: Box<ServerInfo>, connection: Connection)
         ensures { self.new
-            ≡ with_buffers connection (record self.old { parts = after self.old.parts (opened info.value) }) }
+            ≡ with_buffers connection.wire (record self.old { parts = after self.old.parts (opened info.value) }) }
     {
         self.link = self.link.saturating_add(1);
         self.statistics = with_link(self.statistics);
@@ -82,10 +83,10 @@ impl ConnectionHandler {
         Ok(())
     }
 
-    /// A link came up, and its server said `info`. Each subscription that is open and not shut is subscribed again, by number,
-    /// with what is left of its limit; one that is shut ends. The replies to requests are asked for again where a request was
-    /// handled. Its condition is `check` of that turn: no link is up, and the
-    /// session did not close. The crate's connector answers so.
+    /// A link came up, and its server said `info`. Each subscription that is open and not shut is subscribed again,
+    /// by number, with what is left of its limit; one that is shut ends. The replies to requests are asked for
+    /// again where a request was handled. Its condition is `check` of that turn: no link is up, and the session did
+    /// not close. The crate's connector answers so.
     ///
     /// # Errors
     ///
@@ -104,7 +105,9 @@ impl ConnectionHandler {
         ensures ok { OnOk result (self.new ≡ seen_after self.old (fed bytes.now)) }
         ensures err { OnErr result (self.new ≡ self.old) }
     {
-        self.connection.feed(alloc, bytes)
+        self.connection.feed(alloc, bytes)?;
+        self.connection.look();
+        Ok(())
     }
 
     /// The link gave these bytes. Its condition is `check` of that turn; `advance` then reads what they complete.
@@ -129,8 +132,8 @@ impl ConnectionHandler {
         self.tickets.pass(count as u64);
     }
 
-    /// The link took the first `n` waiting bytes, or all where fewer wait; each flush that awaited no more of them settles. Its
-    /// condition is `check` of that turn. It takes no memory.
+    /// The link took the first `n` waiting bytes, or all where fewer wait; each flush that awaited no more of them
+    /// settles. Its condition is `check` of that turn. It takes no memory.
     pub fn written(&mut self, n: u64)
         requires { IsTrue (can_play self.old.parts (turns.Write n)) }
         ensures seen { self.new ≡ seen_after self.old (taken (min n (length self.old.parts.link.wire.waiting))) }
@@ -178,9 +181,9 @@ impl ConnectionHandler {
         }
     }
 
-    /// So long passed that the link is to show that it still works: a `PING` is written, or the link ends where two ticks of
-    /// this link have no answer yet; that end is like any other (see `lost`). Its condition is `check` of that turn. The crate's
-    /// timer of pings does so.
+    /// So long passed that the link is to show that it still works: a `PING` is written, or the link ends where two
+    /// ticks of this link have no answer yet; that end is like any other (see `lost`). Its condition is `check` of
+    /// that turn. The crate's timer of pings does so.
     ///
     /// # Errors
     ///
@@ -194,9 +197,10 @@ impl ConnectionHandler {
         self.ping_or_end(alloc)
     }
 
-    /// The link was lost: it ends, the bytes that waited for it go, subscriptions whose drain was handled end, and accepted calls
-    /// wait for the next one; where a drain of the session was handled, the session closes. Its condition is `check` of that
-    /// turn. The crate's handler does so after a fault of its stream; what a drain comes to then is own choice.
+    /// The link was lost: it ends, the bytes that waited for it go, subscriptions whose drain was handled end, and
+    /// accepted calls wait for the next one; where a drain of the session was handled, the session closes. Its
+    /// condition is `check` of that turn. The crate's handler does so after a fault of its stream; what a drain
+    /// comes to then is own choice.
     ///
     /// # Errors
     ///
@@ -210,8 +214,8 @@ impl ConnectionHandler {
         self.end_with(alloc, LinkWord::Lost)
     }
 
-    /// No further link is tried: the session closes, so its calls are dropped and each subscription ends. Its condition is
-    /// `check` of that turn. The crate's handler does so when it may reconnect no more.
+    /// No further link is tried: the session closes, so its calls are dropped and each subscription ends. Its
+    /// condition is `check` of that turn. The crate's handler does so when it may reconnect no more.
     ///
     /// # Errors
     ///
@@ -225,8 +229,9 @@ impl ConnectionHandler {
         self.close()
     }
 
-    /// The user hangs up: a link that is up ends without an event of its own, and the session closes. Its condition is `check`
-    /// of that turn. Own choice: the crate closes its connection when the last of its clients is dropped.
+    /// The user hangs up: a link that is up ends without an event of its own, and the session closes. Its condition
+    /// is `check` of that turn. Own choice: the crate closes its connection when the last of its clients is
+    /// dropped.
     ///
     /// # Errors
     ///
@@ -240,8 +245,8 @@ impl ConnectionHandler {
         self.end_all(alloc)
     }
 
-    /// Takes in a flush or a request: it is given a ticket, and with it all memory that settling it needs but for a flush's place
-    /// in the link's text and a request's among those that wait for a reply.
+    /// Takes in a flush or a request: it is given a ticket, and with it all memory that settling it needs but for a
+    /// flush's place in the link's text and a request's among those that wait for a reply.
     fn take_ticket(&mut self, call: Call, waits: Waits) -> Result<CallReply, Call>
         requires ticket { waits_as call ≡ Some waits }
         requires free { refusal self.old.parts call ≡ None }
@@ -304,16 +309,17 @@ impl ConnectionHandler {
         }
     }
 
-    /// Takes in a call, or refuses it by the first of these that holds. `InvalidSubject`: a publish or a request whose
-    /// subject, or a reply that is there, is empty, or is not publishable and the settings don't skip that; a request, and the
-    /// inbox prefix is not publishable, whatever the settings skip; a subscribe whose subject is not valid. `InvalidQueueName`: a group that is not publishable. `MaxPayloadExceeded`: the payload
-    /// with its header block is larger than the server of the newest link takes, 1,048,576 bytes before any.
-    /// `Closed`: the session closed, or a drain of the whole session was accepted. `NoNumber`: a subscribe, a flush or a
-    /// request, and number or ticket 2^64 - 1 was given. `Full`: as many accepted calls wait as the client capacity. A refused call is
-    /// dropped and changes nothing, but that a `DropSub` lets its subscription go whatever the reply. An accepted
-    /// call is handled by `advance`, in the order of acceptance; an accepted `Unsubscribe` shuts its subscription at
-    /// once, an accepted `DrainAll` the session to further calls. Its condition is `check` of that turn. The crate's
-    /// tests of what is published and subscribed to, and its bounded channel of commands.
+    /// Takes in a call, or refuses it by the first of these that holds. `InvalidSubject`: a publish or a request
+    /// whose subject, or a reply that is there, is empty, or is not publishable and the settings don't skip that; a
+    /// request, and the inbox prefix is not publishable, whatever the settings skip; a subscribe whose subject is
+    /// not valid. `InvalidQueueName`: a group that is not publishable. `MaxPayloadExceeded`: the payload with its
+    /// header block is larger than the server of the newest link takes, 1,048,576 bytes before any. `Closed`: the
+    /// session closed, or a drain of the whole session was accepted. `NoNumber`: a subscribe, a flush or a request,
+    /// and number or ticket 2^64 - 1 was given. `Full`: as many accepted calls wait as the client capacity. A
+    /// refused call is dropped and changes nothing, but that a `DropSub` lets its subscription go whatever the
+    /// reply. An accepted call is handled by `advance`, in the order of acceptance; an accepted `Unsubscribe` shuts
+    /// its subscription at once, an accepted `DrainAll` the session to further calls. Its condition is `check` of
+    /// that turn. The crate's tests of what is published and subscribed to, and its bounded channel of commands.
     ///
     /// # Errors
     ///
@@ -333,9 +339,9 @@ impl ConnectionHandler {
         self.subs.take(sid)
     }
 
-    /// Takes the oldest waiting message of the subscription of number `s` out of its queue. Where none waits it answers `Ended`
-    /// if the subscription is shut or ended, else `Empty`, and nothing changed. Its condition is `check` of that turn: the
-    /// number was given and not let go. It takes no memory.
+    /// Takes the oldest waiting message of the subscription of number `s` out of its queue. Where none waits it
+    /// answers `Ended` if the subscription is shut or ended, else `Empty`, and nothing changed. Its condition is
+    /// `check` of that turn: the number was given and not let go. It takes no memory.
     pub fn take(&mut self, s: u64) -> TakeReply
         requires { IsTrue (can_play self.old.parts (turns.Take s)) }
         ensures reply { result ≡ take_reply self.old.parts s }
@@ -351,9 +357,9 @@ impl ConnectionHandler {
         self.tickets.time_out(ticket);
     }
 
-    /// The deadline of the request of ticket `t` came: where it is unsettled, it settles as `TimedOut`, and its token waits no
-    /// more. A request that waits to be handled is written all the same. Its condition is `check` of that turn: the ticket was
-    /// given to a request. It takes no memory. The crate's timeout of a request.
+    /// The deadline of the request of ticket `t` came: where it is unsettled, it settles as `TimedOut`, and its
+    /// token waits no more. A request that waits to be handled is written all the same. Its condition is `check` of
+    /// that turn: the ticket was given to a request. It takes no memory. The crate's timeout of a request.
     pub fn deadline(&mut self, t: u64)
         requires { IsTrue (can_play self.old.parts (turns.Deadline t)) }
         ensures seen { self.new ≡ seen_all self.old (own_steps self.old.parts (turns.Deadline t)) }
@@ -371,9 +377,10 @@ impl ConnectionHandler {
         self.advance_by(alloc, look)
     }
 
-    /// Plays the one step that is due, with what follows it at once, and names it; `Nothing` exactly where none is due.
-    /// Reading comes before the calls that wait, as in the crate. A handled `Drain` asks the server for no more and writes a
-    /// `PING`, at whose `PONG` the subscription ends; the `PONG` of a `DrainAll` ends the link and closes the session.
+    /// Plays the one step that is due, with what follows it at once, and names it; `Nothing` exactly where none is
+    /// due. Reading comes before the calls that wait, as in the crate. A handled `Drain` asks the server for no
+    /// more and writes a `PING`, at whose `PONG` the subscription ends; the `PONG` of a `DrainAll` ends the link
+    /// and closes the session.
     ///
     /// # Errors
     ///
@@ -387,13 +394,14 @@ impl ConnectionHandler {
         self.play_next(alloc)
     }
 
-    /// All bytes that wait, as one piece; no piece where none waits. They stay until `written` tells that they were taken.
+    /// The first bytes that wait, in `PIECES_MOST` nonempty pieces at most, joined a front of all that wait; no
+    /// piece where none waits. They share their memory, and stay until `written` tells that they were taken.
     ///
     /// # Errors
     ///
     /// `NoMemory`, only where something waits, leaves the session unchanged.
     pub fn pending_pieces(&mut self, alloc: Global) -> Result<Vec<Bytes>, NoMemory>
-        ensures pieces { IfOk result (λ v. v.items ≡ one_piece self.old.parts.link.wire.waiting) }
+        ensures front { IfOk result (λ v. IsFront PIECES_MOST v.items self.old.parts.link.wire.waiting) }
         ensures wants { OnErr result (0 < length self.old.parts.link.wire.waiting) }
         ensures same { self.new ≡ self.old }
     {

@@ -2,6 +2,7 @@
 ghost use Rattle.std.specs.Prelude.{◌≡◌, ◌++◌, ◌∷◌, [], OnOk, OnErr, IfOk, true, None};
 ghost use Rattle.nats_wire.specs.declared.op.ClientOp.TheVariants as client;
 ghost use Rattle.nats_wire.specs.Commands.{command_texts};
+ghost use Rattle.nats_wire.specs.Wire.{with_waiting};
 ghost use Rattle.nats_tables.specs.Numbers.{item_of};
 ghost use Rattle.nats_history.specs.declared.ping.Ping.TheVariants as pinged;
 ghost use Rattle.nats_history.specs.History.{unsubscribe_command, unsubscribed, commands_from, is_open_at, drain_events};
@@ -23,9 +24,9 @@ pub fn write_unsubscribe(
     sid: u64,
     max: Option<u64>,
 ) -> Result<(), NoMemory>
-    ensures ok { OnOk result (connection.new ≡ record connection.old {
-      waiting = written true (unsubscribe_command is_open sid max) connection.old.waiting;
-    }) }
+    ensures ok { OnOk result (connection.new ≡ with_waiting
+        (written true (unsubscribe_command is_open sid max) connection.old.wire.waiting)
+        connection.old) }
     ensures err { OnErr result (connection.new ≡ connection.old) }
 {
     if !is_open {
@@ -43,10 +44,10 @@ pub fn unsubscribe(
     max: Option<u64>,
     alteration: Alteration,
 ) -> Result<(), NoMemory>
-    ensures text { OnOk result (connection.new ≡ record connection.old {
-      waiting
-          = written true (unsubscribe_command (is_open_at (item_of sid subs.old.rows)) sid max) connection.old.waiting;
-    }) }
+    ensures text { OnOk result (connection.new ≡ with_waiting
+        (written true (unsubscribe_command (is_open_at (item_of sid subs.old.rows)) sid max)
+        connection.old.wire.waiting)
+        connection.old) }
     ensures subs { OnOk result (subs.new ≡ with_rows (rows_with sid alteration subs.old.rows) subs.old) }
     ensures err { OnErr result ((connection.new ≡ connection.old) × (subs.new ≡ subs.old)) }
 {
@@ -64,9 +65,8 @@ fn write_with_ping(
     mut ops: Vec<ClientOp>,
     ping: Ping,
 ) -> Result<(), NoMemory>
-    ensures text { OnOk result (connection.new ≡ record connection.old {
-      waiting = written true (ops.items ++ client.Ping ∷ []) connection.old.waiting;
-    }) }
+    ensures text { OnOk result (connection.new
+        ≡ with_waiting (written true (ops.items ++ client.Ping ∷ []) connection.old.wire.waiting) connection.old) }
     ensures pings { OnOk result (pings.new ≡ pings.old ++ ping ∷ []) }
     ensures err { OnErr result ((connection.new ≡ connection.old) × (pings.new ≡ pings.old)) }
 {
@@ -101,11 +101,10 @@ pub fn drain(
     alloc: Global,
     sid: u64,
 ) -> Result<(), NoMemory>
-    ensures text { OnOk result (connection.new ≡ record connection.old {
-      waiting
-          = written true (unsubscribe_command (is_open_at (item_of sid subs.old.rows)) sid None ++ client.Ping ∷ [])
-          connection.old.waiting;
-    }) }
+    ensures text { OnOk result (connection.new ≡ with_waiting
+        (written true (unsubscribe_command (is_open_at (item_of sid subs.old.rows)) sid None ++ client.Ping ∷ [])
+        connection.old.wire.waiting)
+        connection.old) }
     ensures subs { OnOk result (subs.new ≡ with_rows (rows_with sid alterations.Drain subs.old.rows) subs.old) }
     ensures pings { OnOk result (pings.new ≡ pings.old ++ pinged.Drain sid ∷ []) }
     ensures err { OnErr result
@@ -125,9 +124,9 @@ pub fn drain_all(
     pings: &mut Pings,
     alloc: Global,
 ) -> Result<(), NoMemory>
-    ensures text { OnOk result (connection.new ≡ record connection.old {
-      waiting = written true (commands_from unsubscribed 1 subs.now.rows ++ client.Ping ∷ []) connection.old.waiting;
-    }) }
+    ensures text { OnOk result (connection.new ≡ with_waiting
+        (written true (commands_from unsubscribed 1 subs.now.rows ++ client.Ping ∷ []) connection.old.wire.waiting)
+        connection.old) }
     ensures pings { OnOk result (pings.new ≡ pings.old ++ pinged.DrainAll ∷ []) }
     ensures err { OnErr result ((connection.new ≡ connection.old) × (pings.new ≡ pings.old)) }
 {

@@ -3,6 +3,7 @@ ghost use Rattle.std.specs.Prelude.{◌≡◌, ◌++◌, ◌≤◌, length, drop
 ghost use Rattle.nats_wire.specs.declared.op.ClientOp.TheVariants as client;
 ghost use Rattle.nats_wire.specs.Operations.{pong_op, front, unfinished, got, peeked_view};
 ghost use Rattle.nats_wire.specs.Commands.{command_text};
+ghost use Rattle.nats_wire.specs.Wire.{with_waiting};
 ghost use Rattle.nats_history.specs.declared.turn.Due.TheVariants as due_names;
 ghost use Rattle.nats_history.specs.Queue.{first};
 ghost use Rattle.nats_tables.specs.Numbers.{item_of};
@@ -61,10 +62,10 @@ fn write_publish(
     alloc: Global,
     message: &OutboundMessage,
 ) -> Result<(), NoMemory>
-    ensures ok { OnOk result (connection.new ≡ record connection.old {
-      waiting = connection.old.waiting
-          ++ command_text (client.Publish message.now.subject message.now.payload message.now.reply message.now.headers);
-    }) }
+    ensures ok { OnOk result (connection.new ≡ with_waiting
+        (connection.old.wire.waiting
+        ++ command_text (client.Publish message.now.subject message.now.payload message.now.reply message.now.headers))
+        connection.old) }
     ensures err { OnErr result (connection.new ≡ connection.old) }
 {
     let op = ClientOp::Publish {
@@ -83,10 +84,9 @@ fn write_subscribe(
     subject: &Subject,
     queue_group: &Option<Subject>,
 ) -> Result<(), NoMemory>
-    ensures ok { OnOk result (connection.new ≡ record connection.old {
-      waiting = connection.old.waiting
-          ++ command_text (client.Subscribe sid subject.now queue_group.now);
-    }) }
+    ensures ok { OnOk result (connection.new ≡ with_waiting
+        (connection.old.wire.waiting ++ command_text (client.Subscribe sid subject.now queue_group.now))
+        connection.old) }
     ensures err { OnErr result (connection.new ≡ connection.old) }
 {
     let op = ClientOp::Subscribe {
@@ -108,15 +108,14 @@ fn handle_call(
     requested: bool,
     call: &Call,
 ) -> Result<(), NoMemory>
-    ensures text { OnOk result (connection.new ≡ record connection.old {
-      waiting
-          = written true (commands config.now requested (at_with pings.old subs.old) subs.old.rows (handled call.now))
-          connection.old.waiting;
-    }) }
+    ensures text { OnOk result (connection.new ≡ with_waiting
+        (written true (commands config.now requested (at_with pings.old subs.old) subs.old.rows (handled call.now))
+        connection.old.wire.waiting)
+        connection.old) }
     ensures subs { OnOk result (subs.new ≡ subs_after config.now pings.old (handled call.now) subs.old) }
     ensures pings { OnOk result (pings.new ≡ pings_after (handled call.now) pings.old) }
     ensures tickets { OnOk result
-        (tickets.new ≡ kept_after config.now (length connection.old.waiting) (handled call.now) tickets.old) }
+        (tickets.new ≡ kept_after config.now (length connection.old.wire.waiting) (handled call.now) tickets.old) }
     ensures err { OnErr result
         ((connection.new ≡ connection.old) × (subs.new ≡ subs.old) × (pings.new ≡ pings.old)
         × (tickets.new ≡ tickets.old)) }
@@ -355,6 +354,7 @@ impl ConnectionHandler {
     {
         self.count_read();
         self.connection.consume(len);
+        self.connection.look();
     }
 
     /// One more message was read, of such a length; it took so many bytes.
@@ -408,7 +408,8 @@ impl ConnectionHandler {
         sid: u64,
         message: Box<Message>,
     ) -> Result<Due, NoMemory>
-        ensures ok { OnOk result (self.new ≡ after_message sid message.value (delivery_of self.old.parts sid) self.old) }
+        ensures ok { OnOk result
+            (self.new ≡ after_message sid message.value (delivery_of self.old.parts sid) self.old) }
         ensures name { IfOk result (λ name. name ≡ delivery_name sid message.value (delivery_of self.old.parts sid)) }
         ensures err { OnErr result (self.new ≡ self.old) }
     {

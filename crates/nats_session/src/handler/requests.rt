@@ -2,6 +2,7 @@
 ghost use Rattle.std.specs.Prelude.{◌≡◌, ◌++◌, ◌∷◌, [], length, Some, OnOk, OnErr, IfOk};
 ghost use Rattle.nats_wire.specs.declared.op.ClientOp.TheVariants as client;
 ghost use Rattle.nats_wire.specs.Commands.{command_texts};
+ghost use Rattle.nats_wire.specs.Wire.{with_waiting};
 ghost use Rattle.nats_history.specs.History.{inbox, inbox_of, inbox_commands};
 ghost use Rattle.nats_tickets.specs.Kept.{request_one};
 
@@ -81,7 +82,7 @@ pub fn ask(
     reply: &Subject,
 ) -> Result<(), NoMemory>
     ensures text { OnOk result
-        (connection.new ≡ record connection.old { waiting = connection.old.waiting ++ command_texts ops.now }) }
+        (connection.new ≡ with_waiting (connection.old.wire.waiting ++ command_texts ops.now) connection.old) }
     ensures tickets { OnOk result (tickets.new ≡ request_one reply.now tickets.old) }
     ensures err { OnErr result ((connection.new ≡ connection.old) × (tickets.new ≡ tickets.old)) }
 {

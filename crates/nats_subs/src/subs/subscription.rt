@@ -5,7 +5,7 @@ ghost use Rattle.std.specs.Option.{option_copied};
 ghost use Rattle.nats_history.specs.History.{is_open, is_over, has_room, forgotten, open_if, end_if, reached, again, unsubscribed, limit_commands};
 ghost use Rattle.nats_wire.specs.declared.op.ClientOp.TheVariants as client;
 ghost use Rattle.nats_history.specs.Schedule.{sub_take};
-ghost use Rattle.nats_subs.specs.Delivery.{asked_sub, altered, deliver, take_from, delivery, youngest_of, commands_by};
+ghost use Rattle.nats_subs.specs.Delivery.{asked_sub, altered, deliver, take_from, delivery, youngest_of, oldest_of, commands_by};
 ghost use Rattle.nats_subs.specs.Draining.{is_drained};
 ghost use Rattle.nats_subs.specs.Forgetting.{rests, over_rests, still, still_rests, rests_on};
 
@@ -355,7 +355,8 @@ impl Subscription {
         Ok(())
     }
 
-    /// Adds the commands that subscribe it again on a new link: where it is open and not shut, with what is left of its limit.
+    /// Adds the commands that subscribe it again on a new link: where it is open and not shut, with what is left of
+    /// its limit.
     fn push_again(&self, alloc: Global, sid: u64, ops: &mut Vec<ClientOp>) -> Result<(), NoMemory>
         ensures { OnOk result (ops.new.items ≡ ops.old.items ++ again sid self.now) }
     {
@@ -396,5 +397,15 @@ impl Subscription {
             return None;
         }
         self.waiting.back()
+    }
+
+    /// The oldest waiting message.
+    pub fn first(&self) -> Option<&Message>
+        ensures { option_copied result ≡ oldest_of self.now }
+    {
+        if self.is_gone {
+            return None;
+        }
+        self.waiting.front()
     }
 }

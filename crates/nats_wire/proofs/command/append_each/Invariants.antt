@@ -4,4 +4,4 @@ use Rattle.nats_wire.specs.Commands.{command_texts}
 use Rattle.nats_wire.proofs.command.append_each.Given as goal
 
 abbrev pub invariant-loop-op : goal.invariant-loop-op
-invariant-loop-op l = l.out.items ≡ l.fn.out.items ++ command_texts (take l.op-index l.ops)
+invariant-loop-op l = l.out ≡ l.fn.out ++ command_texts (take l.op-index l.ops)

@@ -11,7 +11,6 @@ returns-clause-ok c =
     let subject : c.as_bytes.result.now ≡ c.args.subject.now = search rules in
     let h : c.as_bytes-header_len.result.now ≡ decimal (length c.args.block.now) = search rules in
     let total : c.as_bytes-total.result.now ≡ decimal (length c.args.block.now + length c.args.payload.now) = search rules in
-    let payload : c.as_slice.result.now ≡ c.args.payload.now = search rules in
-    on_ok_weaker c.append_all.result
-    (λ e. e ∙ hpub_parts c.args.out.now.items (word_and_space c.args.respond.now) c.args.subject.now c.word_and_space.result.0.now c.word_and_space.result.1.now c.args.block.now c.args.payload.now (decimal (length c.args.block.now)) (decimal (length c.args.block.now + length c.args.payload.now)) c.as_bytes.result.now c.as_bytes-header_len.result.now c.as_bytes-total.result.now c.as_slice.result.now c.word_and_space.ensures subject h total payload)
-    c.append_all.ensures.ok
+    on_ok_weaker c.append_message.result
+    (λ e. e ∙ hpub_parts c.args.out.now (word_and_space c.args.respond.now) c.args.subject.now c.word_and_space.result.0.now c.word_and_space.result.1.now c.args.block.now c.args.payload.now (decimal (length c.args.block.now)) (decimal (length c.args.block.now + length c.args.payload.now)) c.as_bytes.result.now c.as_bytes-header_len.result.now c.as_bytes-total.result.now c.word_and_space.ensures subject h total)
+    c.append_message.ensures.ok

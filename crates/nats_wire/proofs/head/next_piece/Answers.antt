@@ -1,18 +1,24 @@
--- What `split_once` cuts off is the first piece, unless it's empty.
-use Rattle.std.proofs.Common.{Some, None, lit<, sym, ◌∙◌}
-use Rattle.std.proofs.lemmas.Str.Pattern.{split_once_first, split_parts}
-use Rattle.nats_wire.proofs.Pieces.{pieces_at_space, pieces_whole}
+-- What stands before the first space is the first piece, unless it's empty.
+use Rattle.std.proofs.Common.{◌≡◌, None, take, subst, sym, rules, ◌∙◌}
+use Rattle.std.specs.Str.{IsUtf8}
+use Rattle.memchr.specs.Find.{IsFirstByte, is_byte}
+use Rattle.nats_wire.proofs.Pieces.{past_space, pieces_by_byte, pieces_whole, no_space}
 use Rattle.nats_wire.proofs.head.next_piece.Goals as goal
 
-pub returns-then-not-is_empty : goal.returns-then-not-is_empty
-returns-then-not-is_empty c =
-    let piece = c.in-Some.piece in
-    let rest = c.in-Some.rest in
-    let left = c.loop-piece.left.now in
-    let first = split_once_first 32 left (Some (piece, rest)) c.in-Some.ensures.cases (lit< tt) in
-    pieces_at_space left piece.now rest.now first.0 first.1 first.2 (sym c.is_empty.ensures ∙ c.if-not-is_empty.true) ∙ c.loop-piece.invariant.1
+pub range_from-rest-requires : goal.range_from-rest-requires
+range_from-rest-requires c =
+    let left = c.loop-at.left.now in
+    λ _. past_space left c.in-Some.at (subst IsUtf8 c.as_bytes.ensures.value c.as_bytes.ensures.utf8) (rw c.as_bytes.ensures.value at c.in-Some.ensures)
+
+pub returns-then-at-gt0 : goal.returns-then-at-gt0
+returns-then-at-gt0 c =
+    let left = c.loop-at.left.now in
+    let front : c.range.result.now ≡ take c.in-Some.at left = search rules in
+    pieces_by_byte left c.range.result.now c.range_from-rest.result.now c.in-Some.at (rw c.as_bytes.ensures.value at c.in-Some.ensures) front c.range_from-rest.ensures.value c.if-at-gt0.true
+    ∙ c.loop-at.invariant.1
 
 pub returns-else-is_empty : goal.returns-else-is_empty
 returns-else-is_empty c =
-    let left = c.loop-piece.left.now in
-    pieces_whole left (split_parts 32 left None c.in_default.ensures.cases (lit< tt)) (sym c.is_empty-2.ensures ∙ c.if-is_empty.false) ∙ c.loop-piece.invariant.1
+    let left = c.loop-at.left.now in
+    let none : IsFirstByte (is_byte 32) c.as_bytes.result.now None = c.in_default.ensures in
+    pieces_whole left (no_space left (rw c.as_bytes.ensures.value at none)) (sym c.is_empty.ensures ∙ c.if-is_empty.false) ∙ c.loop-at.invariant.1

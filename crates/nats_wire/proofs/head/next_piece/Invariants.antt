@@ -5,8 +5,8 @@ use denote.Shadow.{shadow}
 use Rattle.nats_wire.specs.Operations.{pieces_of}
 use Rattle.nats_wire.proofs.head.next_piece.Given as goal
 
-abbrev pub invariant-loop-piece : goal.invariant-loop-piece
-invariant-loop-piece l = shadow (Utf8 l.left) × (pieces_of l.left ≡ pieces_of l.fn.text)
+abbrev pub invariant-loop-at : goal.invariant-loop-at
+invariant-loop-at l = shadow (Utf8 l.left) × (pieces_of l.left ≡ pieces_of l.fn.text)
 
-abbrev pub decreases-loop-piece : goal.decreases-loop-piece
-decreases-loop-piece l = length l.left
+abbrev pub decreases-loop-at : goal.decreases-loop-at
+decreases-loop-at l = length l.left

@@ -1,5 +1,5 @@
 -- A part of the last piece goes, or all of it.
-use Rattle.std.proofs.Common.{arith, ap, sym, ◌∙◌, ◌++◌, take, length, ◌-◌, ℕ, List}
+use Rattle.std.proofs.Common.{arith, ap, sym, ◌∙◌, ◌++◌, take, ◌-◌, ℕ, List}
 use Rattle.std.specs.List.{concat}
 use Rattle.bytes.proofs.Chunks.{concat_push}
 use Rattle.nats_outbuf.specs.Buffers.{one_piece}

@@ -1,5 +1,5 @@
 -- The pieces give what they have, and the joined texts the rest.
-use Rattle.std.proofs.Common.{ap, sym, ◌∙◌, drop, rules}
+use Rattle.std.proofs.Common.{rules}
 use Rattle.bytes.proofs.Chunks.{drop-append_min}
 use Rattle.nats_outbuf.proofs.outbuf.OutBuf.taken.Goals as goal
 

@@ -7,5 +7,5 @@ use Rattle.nats_wire.proofs.connection.Connection.peek_op.Goals as goal
 
 pub returns-in-Err-clause-looks : goal.returns-in-Err-clause-looks
 returns-in-Err-clause-looks c =
-    let same : c.self.inside.unread ≡ c.args.self.now.unread = search rules in
-    looks_without_memory c.args.self.now.unread (subst (λ bytes. IsTrue (takes_memory bytes)) same c.in-Err.ensures.memory)
+    let same : c.self.inside.unread.bytes ≡ c.args.self.now.wire.unread = search rules in
+    looks_without_memory c.args.self.now.wire.unread (subst (λ bytes. IsTrue (takes_memory bytes)) same c.in-Err.ensures.memory)

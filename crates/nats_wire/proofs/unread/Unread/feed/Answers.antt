@@ -1,10 +1,13 @@
 -- What is known of some bytes is true of more.
-use Rattle.std.proofs.Common.{◌≡◌, ◌++◌, rules}
-use Rattle.nats_wire.specs.Store.{store_bytes}
-use Rattle.nats_wire.proofs.Scans.{clear_more}
+use Rattle.nats_wire.proofs.Scans.{looked_more, needs_more, ready_more}
 use Rattle.nats_wire.proofs.unread.Unread.feed.Goals as goal
 
-pub know_more-place-requires-clause-clear : goal.know_more-place-requires-clause-clear
-know_more-place-requires-clause-clear c =
-    let same : c.as_slice.result.now ≡ store_bytes c.self.inside.store ++ c.args.bytes.now = search rules in
-    rw same (clear_more c.self.inside.place (store_bytes c.self.inside.store) c.args.bytes.now c.self.invariant.1)
+pub invariant_of-self-2 : goal.invariant_of-self-2
+invariant_of-self-2 c =
+    let buf = c.self.inside.buf in
+    let more = c.args.bytes.now in
+    rw c.in_ok-feed.ensures.ok (
+      looked_more c.self.inside.found.place c.self.inside.found.ended buf more c.self.invariant.0,
+      needs_more buf more c.self.inside.needed c.self.invariant.1,
+      ready_more c.self.inside.ready buf more c.self.invariant.2,
+    )

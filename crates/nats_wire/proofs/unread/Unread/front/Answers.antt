@@ -4,8 +4,8 @@ use Rattle.nats_wire.proofs.Sights.{ok_by_sight, ok_fits}
 use Rattle.nats_wire.proofs.unread.Unread.front.Goals as goal
 
 pub returns-clause-front : goal.returns-clause-front
-returns-clause-front c = ok_by_sight c.args.self.now (sight_view c.sight.result) c.front_kept.result c.sight.ensures c.front_kept.ensures.front
+returns-clause-front c = ok_by_sight c.args.self.now.bytes (sight_view c.sight.result) c.front_kept.result c.sight.ensures c.front_kept.ensures.front
 
 pub returns-clause-fits : goal.returns-clause-fits
 returns-clause-fits c =
-    ok_fits c.args.self.now c.front_kept.result (ok_by_sight c.args.self.now (sight_view c.sight.result) c.front_kept.result c.sight.ensures c.front_kept.ensures.front)
+    ok_fits c.args.self.now.bytes c.front_kept.result (ok_by_sight c.args.self.now.bytes (sight_view c.sight.result) c.front_kept.result c.sight.ensures c.front_kept.ensures.front)

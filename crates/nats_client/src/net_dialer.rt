@@ -1,0 +1,104 @@
+//! A dialer over the network of the system.
+ghost use Rattle.std.specs.Prelude.{◌≡◌, None};
+ghost use Rattle.nats_outside.specs.declared.dialer.DialWord.TheVariants as word;
+ghost use Rattle.nats_outside.specs.Told.{word_of};
+ghost use Rattle.nats_client.specs.System.{dialer_told_of, net_read_told, net_write_told};
+
+use crate::net_link::{NetRead, NetWrite};
+use nats_names::Failed;
+use nats_outside::{DialWord, Dialer};
+use std::io;
+use std::net::{Net, OpenStream, SocketAddr};
+
+/// A dialer over the network of the system: each link is a stream, whose two halves are two handles of it. Each
+/// `Err` of the system is a failure. It tells its counts and words, and no bytes. As the crate's links it has
+/// no TLS; unlike them it does not ask for small packets at once.
+#[derive(Drop)]
+pub struct NetDialer<R> {
+    rt: R,
+    faults: u64,
+    ends: u64,
+    dials: u64,
+    word: DialWord,
+    to: Option<SocketAddr>,
+}
+
+impl<R> NetDialer<R> {
+    /// It dialed nothing yet.
+    pub fn new(rt: R) -> NetDialer<R>
+        ensures { dialer_told_of result
+            ≡ record { faults = 0; ends = 0; dials = 0; word = word.Fine; to = None; ended = None } }
+    {
+        NetDialer {
+            rt,
+            faults: 0,
+            ends: 0,
+            dials: 0,
+            word: DialWord::Fine,
+            to: None,
+        }
+    }
+}
+
+impl<R: Net> NetDialer<R> {
+    // Two handles of a new stream to this address.
+    fn open(&self, to: &SocketAddr) -> io::Result<(R::Stream, R::Stream)> {
+        let stream = self.rt.connect(*to)?;
+        let other = stream.try_clone()?;
+        Ok((stream, other))
+    }
+}
+
+// The word of a link handed back with that many failures of its halves, and ends.
+fn word_of(read_faults: u64, write_faults: u64, ends: u64) -> DialWord
+    ensures { result ≡ word_of read_faults write_faults ends }
+{
+    if read_faults > 0 || write_faults > 0 {
+        DialWord::Failed
+    } else if ends > 0 {
+        DialWord::Ended
+    } else {
+        DialWord::Fine
+    }
+}
+
+impl<R: Net> Dialer for NetDialer<R> {
+    type Read = NetRead<R::Stream>;
+
+    type Write = NetWrite<R::Stream>;
+
+    ghost dialer_told = { dialer_told_of };
+
+    ghost BesideDialer = { Unit {0} };
+
+    ghost beside_dialer = { λ _. tt };
+
+    fn dial(
+        &mut self,
+        to: &SocketAddr,
+    ) -> Result<(NetRead<R::Stream>, NetWrite<R::Stream>), Failed> {
+        self.dials = self.dials.saturating_add(1);
+        self.to = Some(*to);
+        match self.open(to) {
+            Ok((stream, other)) => {
+                self.word = DialWord::Fine;
+                Ok((NetRead::new(stream), NetWrite::new(other)))
+            }
+            Err(_) => {
+                self.faults = self.faults.saturating_add(1);
+                self.word = DialWord::Failed;
+                Err(Failed)
+            }
+        }
+    }
+
+    fn hang_up(&mut self, read: NetRead<R::Stream>, write: NetWrite<R::Stream>) {
+        self.word = word_of(read.faults(), write.faults(), read.ends());
+        if read.faults() > 0 || write.faults() > 0 {
+            self.faults = self.faults.saturating_add(1);
+        }
+        if read.ends() > 0 {
+            self.ends = self.ends.saturating_add(1);
+        }
+    }
+}

@@ -1,0 +1,4 @@
+pub mod Cores
+pub mod Dues
+pub mod Journals
+pub mod Plain

@@ -1,0 +1,4 @@
+pub mod Journal
+pub mod Replies
+pub mod Calls
+pub mod Links

@@ -1,0 +1,16 @@
+mod Begins
+mod Beyond
+mod Coming
+mod Dialing
+mod Ends
+mod Flushing
+mod Handing
+mod Hearing
+mod Ops
+mod Posting
+mod Quiet
+mod Rounds
+mod Sending
+mod States
+mod Stepping
+mod Wants

@@ -1,0 +1,37 @@
+-- What was received, or why not, is what the last ended link shows.
+use Rattle.std.proofs.Common.{subst, sym}
+use Rattle.nats_dial.specs.Causes.{Onward}
+use Rattle.nats_live.proofs.Ends.{not_received_clause, received_clause}
+use Rattle.nats_live.proofs.Handing.{onward_back}
+use Rattle.nats_live.proofs.live.receive.Goals as goal
+
+pub returns-clause-received : goal.returns-clause-received
+returns-clause-received g c =
+    let l = c.in_ok-info.field-0 in
+    let up = c.in_ok-info.ensures.up in
+    received_clause l.info l.rest.items c.args.subject.now c.args.count (g.W.Read.LinkRead.read_told l.read)
+    (g.W.Read.LinkRead.read_told c.receive_over-result.new.read)
+    (g.W.Write.LinkWrite.write_told l.write) (g.W.Write.LinkWrite.write_told c.receive_over-result.new.write)
+    (g.W.Reach.seen c.draw-seed.new.world) (g.W.Reach.seen c.hand_back.new.world) c.receive_over-result.result up
+    c.hand_back.ensures.back (c.receive_over-result.ensures up.wrote up.took)
+
+pub returns-clause-refused : goal.returns-clause-refused
+returns-clause-refused g c =
+    let l = c.in_ok-info.field-0 in
+    let up = c.in_ok-info.ensures.up in
+    not_received_clause c.args.addr.now l.info l.rest.items c.args.subject.now c.args.count
+    (g.W.Read.LinkRead.read_told l.read)
+    (g.W.Read.LinkRead.read_told c.receive_over-result.new.read)
+    (g.W.Write.LinkWrite.write_told l.write) (g.W.Write.LinkWrite.write_told c.receive_over-result.new.write)
+    (g.W.Reach.seen c.args.world.now) (g.W.Reach.seen c.draw-seed.new.world) (g.W.Reach.seen c.hand_back.new.world)
+    c.receive_over-result.result c.requires up
+    (subst (Onward (g.W.Reach.seen c.args.world.now)) (sym c.draw-seed.ensures.told) c.in_ok-info.ensures.onward)
+    c.hand_back.ensures.back (c.receive_over-result.ensures up.wrote up.took)
+
+pub returns-clause-onward : goal.returns-clause-onward
+returns-clause-onward g c =
+    onward_back (g.W.Read.LinkRead.read_told c.receive_over-result.new.read)
+    (g.W.Write.LinkWrite.write_told c.receive_over-result.new.write)
+    (g.W.Reach.seen c.args.world.now) (g.W.Reach.seen c.draw-seed.new.world) (g.W.Reach.seen c.hand_back.new.world)
+    (subst (Onward (g.W.Reach.seen c.args.world.now)) (sym c.draw-seed.ensures.told) c.in_ok-info.ensures.onward)
+    c.hand_back.ensures.back

@@ -1,0 +1,7 @@
+pub mod Back
+pub mod Causes
+pub mod Ended
+pub mod Flow
+pub mod Pooled
+pub mod State
+pub mod Steps

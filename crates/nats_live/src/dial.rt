@@ -1,0 +1,83 @@
+//! A link to the server of an address.
+ghost use Rattle.std.specs.Prelude.{◌≡◌, ◌⊎◌, false, None, Ok, IfOk, IfErr};
+ghost use Rattle.url.specs.Parts.{Parts};
+ghost use Rattle.nats_addr.specs.Addr.{addr_of};
+ghost use Rattle.nats_pool.specs.Handing.{pool_told};
+ghost use Rattle.nats_handshake.specs.Shaking.{wanting};
+ghost use Rattle.nats_dial.specs.Causes.{Onward};
+ghost use Rattle.nats_dial.specs.Tries.{IsUp};
+ghost use Rattle.nats_live.specs.Causes.{OffersNothing, IsRoundWith, RoundFailed, WhyNotDialed, WhyNotParsed};
+ghost use Rattle.nats_live.specs.Pooled.{IsPoolOf};
+
+use crate::error::{LiveError, connect_refused};
+use nats_client::World;
+use nats_dial::{ConnectError, ConnectErrorKind, ConnectOptions, Linked, Reach, try_connect};
+use nats_names::{AddrError, Cause, NoMemory};
+use nats_outside::seen;
+use nats_pool::{Pool, ServerAddr, ServerInfo};
+use std::alloc::Global;
+
+// The server of this address.
+fn server_of(alloc: Global, addr: &str) -> Result<ServerAddr, LiveError>
+    ensures ok { IfOk result (λ server. addr_of addr.now ≡ Ok server) }
+    ensures err { IfErr result (λ e. WhyNotParsed addr.now e) }
+{
+    match ServerAddr::parse(alloc, addr) {
+        Ok(server) => Ok(server),
+        Err(AddrError::NoMemory) => Err(LiveError::NoMemory),
+        Err(error) => Err(LiveError::Connect(ConnectError::with_source(
+            ConnectErrorKind::ServerParse,
+            Cause::Addr(error),
+        ))),
+    }
+}
+
+// A pool of this server, on default options.
+fn pool_of(alloc: Global, server: ServerAddr, start: u64) -> Result<Pool, NoMemory>
+    ensures { IfOk result (λ pool. IsPoolOf server pool) }
+{
+    let mut addrs = Vec::new(alloc);
+    addrs.push(server)?;
+    let mut options = ConnectOptions::new();
+    Pool::new(alloc, addrs, options.take_pool_options(), start)
+}
+
+// One round of connecting, on default options.
+fn round<W: Reach>(
+    alloc: Global,
+    pool: &mut Pool,
+    world: &mut W,
+) -> Result<Linked<W::Read, W::Write>, ConnectError>
+    ensures beside { W.beside_reach world.new ≡ W.beside_reach world.old }
+    ensures onward { Onward (W.seen world.old) (W.seen world.new) }
+    ensures up { IfOk result (λ linked. IsUp OffersNothing None false linked.info linked.rest.items
+        (W.Read.read_told linked.read) (W.Write.write_told linked.write)) }
+    ensures failed { (server : Parts) → IsPoolOf server pool.old → IfErr result (λ e. (e ≡ wanting)
+        ⊎ (IsRoundWith server (pool_told pool.new)
+        × RoundFailed (pool_told pool.old) (pool_told pool.new) (W.seen world.old) e (W.seen world.new))) }
+{
+    let options = ConnectOptions::new();
+    let last = ServerInfo::default(alloc);
+    try_connect(alloc, pool, &options, &last, world)
+}
+
+// A link to the server of this address, by one round of connecting on default options.
+pub(crate) fn dial<W: World>(
+    alloc: Global,
+    addr: &str,
+    world: &mut W,
+) -> Result<Linked<W::Read, W::Write>, LiveError>
+    ensures beside { W.beside_reach world.new ≡ W.beside_reach world.old }
+    ensures onward { Onward (W.seen world.old) (W.seen world.new) }
+    ensures up { IfOk result (λ linked. IsUp OffersNothing None false linked.info linked.rest.items
+        (W.Read.read_told linked.read) (W.Write.write_told linked.write)) }
+    ensures refused { IfErr result (λ e. WhyNotDialed addr.now (W.seen world.old) e (W.seen world.new)) }
+{
+    let server = server_of(alloc, addr)?;
+    let start = seen::draw(world);
+    let mut pool = pool_of(alloc, server, start)?;
+    match round(alloc, &mut pool, world) {
+        Ok(linked) => Ok(linked),
+        Err(error) => Err(connect_refused(error)),
+    }
+}

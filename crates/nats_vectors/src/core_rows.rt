@@ -1,0 +1,230 @@
+//! A core that is driven step by step, as scripts say.
+
+use crate::words::{say, say_event, say_number, say_reply, say_take};
+use nats_core::{
+    Bytes, Call, Config, Core, Entry, LinkRead, LinkWrite, NoMemory, ReadOnce, ServerInfo,
+    StepError, StepReply, Turn, WriteOnce,
+};
+use nats_outside::{Dialer, FakeDialer, FakeLink, FakeRead, FakeWrite};
+use nats_script::{Script, read_script};
+use std::alloc::Global;
+use std::net::{IpAddr, Ipv4Addr, SocketAddr};
+use std::test::Fail;
+
+// A link that is never up in these rows.
+const OTHER_LINK: u64 = 9;
+
+fn say_answer(out: &mut Vec<u8>, reply: &StepReply) -> Result<(), NoMemory> {
+    match reply {
+        StepReply::Done => say(out, "done"),
+        StepReply::Call(reply) => say_reply(out, reply),
+        StepReply::Take(reply) => say_take(out, reply),
+    }
+}
+
+fn say_refusal(out: &mut Vec<u8>, error: StepError) -> Result<(), NoMemory> {
+    match error {
+        StepError::OutOfTurn => say(out, "out of turn"),
+        StepError::LinkGone { current } => say_number(out, "gone", current),
+        StepError::NoMemory => Err(NoMemory),
+    }
+}
+
+fn say_outcome(out: &mut Vec<u8>, answer: &Result<StepReply, StepError>) -> Result<(), NoMemory> {
+    match answer {
+        Ok(reply) => say_answer(out, reply),
+        Err(error) => say_refusal(out, *error),
+    }
+}
+
+fn say_step(out: &mut Vec<u8>, answer: &Result<StepReply, StepError>) -> Result<(), NoMemory> {
+    say_outcome(out, answer)?;
+    say(out, "\n")
+}
+
+// A turn is played on link 1 where that is up.
+fn step(alloc: Global, core: &mut Core, out: &mut Vec<u8>, turn: Turn) -> Result<(), NoMemory> {
+    if core.handler().is_up() {
+        say_step(out, &core.step_on(alloc, 1, turn))
+    } else {
+        say_step(out, &core.step(alloc, turn))
+    }
+}
+
+fn submit(alloc: Global, core: &mut Core, out: &mut Vec<u8>) -> Result<(), NoMemory> {
+    match core.submit(alloc, Call::Flush) {
+        Ok(reply) => say_reply(out, &reply)?,
+        Err(_) => return Err(NoMemory),
+    }
+    say(out, "\n")
+}
+
+fn say_entry(out: &mut Vec<u8>, entry: &Entry) -> Result<(), NoMemory> {
+    say(out, " ")?;
+    say_answer(out, &entry.reply)
+}
+
+fn say_journal(out: &mut Vec<u8>, entries: &[Entry]) -> Result<(), NoMemory> {
+    say(out, "journal")?;
+    for entry in entries {
+        say_entry(out, entry)?;
+    }
+    Ok(())
+}
+
+fn hand_out(alloc: Global, core: &mut Core, out: &mut Vec<u8>) -> Result<(), NoMemory> {
+    match core.next_event() {
+        Some(event) => say_event(alloc, out, &event),
+        None => say(out, " no event"),
+    }
+}
+
+fn say_ticket(core: &mut Core, out: &mut Vec<u8>) -> Result<(), NoMemory> {
+    match core.reply_of(1) {
+        Some(reply) => say_reply(out, &reply),
+        None => say(out, " unsettled"),
+    }
+}
+
+fn drive(
+    alloc: Global,
+    core: &mut Core,
+    out: &mut Vec<u8>,
+    turns: &[Turn],
+) -> Result<(), NoMemory> {
+    for turn in turns {
+        step(alloc, core, out, turn.copy(alloc)?)?;
+    }
+    say_step(out, &core.step_on(alloc, OTHER_LINK, Turn::Tick))?;
+    submit(alloc, core, out)?;
+    core.catch_up(alloc)?;
+    say_journal(out, core.journal())?;
+    hand_out(alloc, core, out)?;
+    say_ticket(core, out)
+}
+
+fn drive_new(
+    alloc: Global,
+    out: &mut Vec<u8>,
+    config: &Config,
+    turns: &[Turn],
+    is_kept: bool,
+) -> Result<(), NoMemory> {
+    let mut core = Core::new(alloc, config.copy(alloc)?, is_kept)?;
+    drive(alloc, &mut core, out, turns)
+}
+
+fn steps_of(alloc: Global, script: &str, is_kept: bool) -> Result<Vec<u8>, NoMemory> {
+    let mut out = Vec::new(alloc);
+    match read_script(alloc, script.as_bytes())? {
+        Script::Good { config, turns } => {
+            drive_new(alloc, &mut out, &config, turns.as_slice(), is_kept)?
+        }
+        Script::Bad(line) => say_number(&mut out, "line", line)?,
+    }
+    Ok(out)
+}
+
+const SCRIPT: &str = "config 2048 65536 check _INBOX MUX1
+up 1048576
+sub a ~
+piece MSG%20a%201%202%0D%0Ahi%0D%0A
+take 1
+take 9
+";
+
+const STEPS: &str = "done\nnumbered 1\ndone\nmessage hi\nout of turn\ngone 1\nnumbered 1\n";
+
+const KEPT: &str = "journal done numbered 1 done message hi numbered 1 (connected) unsettled";
+
+#[test]
+fn each_turn_is_noted_with_its_reply(rt: HostRuntime) -> Result<(), Fail> {
+    let alloc = rt.alloc();
+    let kept = steps_of(alloc, SCRIPT, true)?;
+    assert_eq!(rt;
+        kept.as_slice(),
+        format!(in alloc; "{STEPS}{KEPT}")?.as_bytes()
+    );
+    let bare = steps_of(alloc, SCRIPT, false)?;
+    assert!(rt; bare.as_slice().starts_with(STEPS.as_bytes()));
+    Ok(())
+}
+
+// ---- a link that is lent
+
+fn settings(alloc: Global) -> Result<Config, NoMemory> {
+    match read_script(alloc, b"config 10 10 check _INBOX MUX1\n")? {
+        Script::Good { config, .. } => Ok(config),
+        Script::Bad(_) => Err(NoMemory),
+    }
+}
+
+fn bring_up(alloc: Global, core: &mut Core) -> Result<(), NoMemory> {
+    let mut out = Vec::new(alloc);
+    let up = Turn::Up(ServerInfo::default(alloc));
+    step(alloc, core, &mut out, up)
+}
+
+fn on_a_link(alloc: Global) -> Result<Core, NoMemory> {
+    let mut core = Core::new(alloc, settings(alloc)?, true)?;
+    bring_up(alloc, &mut core)?;
+    Ok(core)
+}
+
+// The halves of a link in memory that gives this text and takes 4 bytes at a write.
+fn halves(alloc: Global, text: &str) -> Result<(FakeRead, FakeWrite), &'static str> {
+    let bytes = Bytes::copy_from_slice(alloc, text.as_bytes());
+    let link = FakeLink::new(alloc, bytes.ok().ok_or("memory")?, 4);
+    let links = vec![in alloc; link.ok().ok_or("memory")?];
+    let home = SocketAddr::new(IpAddr::V4(Ipv4Addr::LOCALHOST), 4222);
+    let mut dialer = FakeDialer::told(alloc, links.ok().ok_or("memory")?);
+    dialer.dial(&home).ok().ok_or("no link")
+}
+
+fn reads<L: LinkRead>(core: &mut Core, alloc: Global, link: &mut L) -> Option<ReadOnce> {
+    let mut buf = [0u8; 16];
+    if !core.handler().is_up() || core.is_behind() {
+        return None;
+    }
+    core.read_link(alloc, link, &mut buf).ok()
+}
+
+fn writes<L: LinkWrite>(core: &mut Core, alloc: Global, link: &mut L) -> Option<WriteOnce> {
+    if !core.handler().is_up() || core.is_behind() {
+        return None;
+    }
+    core.write_link(alloc, link).ok()
+}
+
+fn answers_a_ping(
+    alloc: Global,
+    core: &mut Core,
+    read: &mut FakeRead,
+    write: &mut FakeWrite,
+) -> Result<bool, NoMemory> {
+    Ok(
+        writes(core, alloc, write) == Some(WriteOnce::Idle)
+            && reads(core, alloc, read) == Some(ReadOnce::Played(4))
+            && reads(core, alloc, read) == Some(ReadOnce::Played(2))
+            && writes(core, alloc, write) == Some(WriteOnce::Wrote(4))
+            && core.pending_pieces(alloc)?.len() == 1
+            && writes(core, alloc, write) == Some(WriteOnce::Wrote(2)),
+    )
+}
+
+fn is_lost(alloc: Global, core: &mut Core, read: &mut FakeRead) -> bool {
+    reads(core, alloc, read) == Some(ReadOnce::Lost)
+        && !core.handler().is_up()
+        && core.journal().len() == 6
+}
+
+#[test]
+fn a_link_is_read_and_written(rt: HostRuntime) -> Result<(), Fail> {
+    let alloc = rt.alloc();
+    let mut core = on_a_link(alloc)?;
+    let (mut read, mut write) = halves(alloc, "PING\r\n")?;
+    assert!(rt; answers_a_ping(alloc, &mut core, &mut read, &mut write)?);
+    assert!(rt; write.taken() == b"PONG\r\n".as_slice());
+    assert!(rt; is_lost(alloc, &mut core, &mut read));
+    Ok(())
+}

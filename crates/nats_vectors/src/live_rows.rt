@@ -1,0 +1,219 @@
+//! Rows of commands on a live link, over a world in memory.
+
+use bytes::Bytes;
+use nats_outside::FakeLink;
+use nats_replay::{MemorySink, MemorySource, MemoryWorld, NoMemory, memory_world, replay};
+use std::alloc::Global;
+use std::sync::Wait;
+use std::test::Fail;
+
+/// What a new connection writes first, on default options.
+const OPENING: &str =
+    "CONNECT {\"verbose\":false,\"pedantic\":false,\"jwt\":null,\"nkey\":null,\"sig\":null,\"name\":null,\
+\"echo\":true,\"lang\":\"rust\",\"version\":\"0.51.0\",\"protocol\":1,\"tls_required\":false,\"user\":null,\"pass\":null,\
+\"auth_token\":null,\"headers\":true,\"no_responders\":true}\r\nPING\r\n";
+
+/// A row: the words; what the link gives, each text by a read of its own; the status, what is printed, and what
+/// the link took behind the opening.
+#[derive(Clone, Copy)]
+struct Row<'a> {
+    words: &'a [&'a str],
+    gives: &'a [&'a str],
+    status: u8,
+    printed: &'a str,
+    took: &'a str,
+}
+
+const SMALL: &str = "INFO {\"max_payload\":100}\r\n";
+
+const ROWS: [Row; 14] = [
+    Row {
+        words: &["pub", "nats://h", "a", "hi"],
+        gives: &[SMALL, "PONG\r\n"],
+        status: 0,
+        printed: "published\n",
+        took: "PUB a 2\r\nhi\r\n",
+    },
+    Row {
+        words: &["pub", "nats://h", "a", "hi"],
+        gives: &["INFO {}\r\n", "PONG\r\n"],
+        status: 9,
+        printed: "max payload size exceeded: Payload size limit of 0 exceeded by message size of 2\n",
+        took: "",
+    },
+    Row {
+        words: &["sub", "nats://h", "a", "1"],
+        gives: &[SMALL, "PONG\r\n", "MSG a 1 2\r\nhi\r\n"],
+        status: 0,
+        printed: "message a ~ hi ~ ~ 3 ~\n",
+        took: "SUB a 1\r\n",
+    },
+    Row {
+        words: &["sub", "nats://h", "a", "1"],
+        gives: &[SMALL, "PONG\r\n"],
+        status: 9,
+        printed: "link ended\n",
+        took: "SUB a 1\r\n",
+    },
+    Row {
+        words: &["pub", "http://a", "x", "y"],
+        gives: &[],
+        status: 9,
+        printed: "failed to parse server or server list: invalid scheme for NATS server URL\n",
+        took: "",
+    },
+    // A PING that came with the handshake's last piece is answered before the publish.
+    Row {
+        words: &["pub", "h", "a", ""],
+        gives: &[SMALL, "PONG\r\nPING\r\nPING\r\n"],
+        status: 0,
+        printed: "published\n",
+        took: "PONG\r\nPONG\r\nPUB a 0\r\n\r\n",
+    },
+    // A message that came with it is none of the subscription's; later ones are, though they begin there, and
+    // PINGs are answered.
+    Row {
+        words: &["sub", "h", "a", "2"],
+        gives: &[
+            SMALL,
+            "PONG\r\nMSG a 1 1\r\nx\r\nPING\r\nMSG a 1 2\r\n",
+            "hi\r\nMSG b 2 1\r\ny\r\nPING\r\n",
+            "MSG a 1 r 2\r\nho\r\nMSG a 1 1\r\nz\r\n",
+        ],
+        status: 0,
+        printed: "message a ~ hi ~ ~ 3 ~\nmessage a r ho ~ ~ 4 ~\n",
+        took: "PONG\r\nSUB a 1\r\nPONG\r\n",
+    },
+    // What is no operation ends the link: at once, later, and behind enough messages, where that is no matter.
+    Row {
+        words: &["pub", "h", "a", "hi"],
+        gives: &[SMALL, "PONG\r\nWHAT\r\n"],
+        status: 9,
+        printed: "link ended\n",
+        took: "",
+    },
+    Row {
+        words: &["sub", "h", "a", "2"],
+        gives: &[SMALL, "PONG\r\n", "MSG a 1 2\r\nhi\r\nWHAT\r\n"],
+        status: 9,
+        printed: "link ended\n",
+        took: "SUB a 1\r\n",
+    },
+    Row {
+        words: &["sub", "h", "a", "1"],
+        gives: &[SMALL, "PONG\r\n", "MSG a 1 2\r\nhi\r\nWHAT\r\n"],
+        status: 0,
+        printed: "message a ~ hi ~ ~ 3 ~\n",
+        took: "SUB a 1\r\n",
+    },
+    // A refusal is tested before the link's end.
+    Row {
+        words: &["pub", "h", "a b", "hi"],
+        gives: &[SMALL, "PONG\r\nWHAT\r\n"],
+        status: 9,
+        printed: "invalid subject: invalid subject format\n",
+        took: "",
+    },
+    Row {
+        words: &["sub", "h", "a..b", "1"],
+        gives: &[SMALL, "PONG\r\nWHAT\r\n"],
+        status: 9,
+        printed: "invalid subject: invalid subject format\n",
+        took: "",
+    },
+    // Words that are no row.
+    Row {
+        words: &["sub", "h", "a", "0"],
+        gives: &[],
+        status: 2,
+        printed: "unknown command\n",
+        took: "",
+    },
+    Row {
+        words: &["pub", "h", "a"],
+        gives: &[],
+        status: 2,
+        printed: "unknown command\n",
+        took: "",
+    },
+];
+
+// A world with one link that gives these texts, each by a read of its own, and fails at this read and this
+// write, counted from 1.
+fn in_memory(
+    alloc: Global,
+    gives: &[&str],
+    read: u64,
+    write: u64,
+) -> Result<MemoryWorld, NoMemory> {
+    let mut text = Vec::new(alloc);
+    let mut cuts = Vec::new(alloc);
+    for piece in gives {
+        text.extend_from_slice(piece.as_bytes())?;
+        cuts.push(piece.len())?;
+    }
+    let link = FakeLink::failing(
+        alloc,
+        Bytes::from_vec(text)?,
+        65_536,
+        vec![in alloc; read]?,
+        vec![in alloc; write]?,
+    )?;
+    memory_world(alloc, vec![in alloc; link.with_cuts(cuts)]?)
+}
+
+// The status and what is printed.
+fn plays<R: Wait>(
+    rt: &R,
+    alloc: Global,
+    row: &Row,
+    world: &mut MemoryWorld,
+) -> Result<(u8, MemorySink), NoMemory> {
+    let mut words = Vec::new(alloc);
+    for word in row.words {
+        words.push(String::from_str(alloc, word)?)?;
+    }
+    let mut source = MemorySource::new(Vec::new(alloc), 1);
+    let mut sink = MemorySink::new(alloc, 65_536);
+    let status = replay(rt, alloc, words.as_slice(), &mut source, &mut sink, world);
+    Ok((status, sink))
+}
+
+// Whether the link took the opening and then that; where none was handed back, it took nothing.
+fn took(alloc: Global, world: &MemoryWorld, text: &str) -> Result<bool, NoMemory> {
+    let Some(taken) = world.reach.dialer.last_taken() else {
+        return Ok(text.is_empty());
+    };
+    let mut want = Vec::from_slice(alloc, OPENING.as_bytes())?;
+    want.extend_from_slice(text.as_bytes())?;
+    Ok(taken == want.as_slice())
+}
+
+#[test]
+fn commands_on_a_live_link(rt: HostRuntime) -> Result<(), Fail> {
+    let alloc = rt.alloc();
+    for row in &ROWS {
+        let mut world = in_memory(alloc, row.gives, 0, 0)?;
+        let (status, sink) = plays(&rt, alloc, row, &mut world)?;
+        assert_eq!(rt; status, row.status);
+        assert!(rt; sink.bytes() == row.printed.as_bytes());
+        assert!(rt; took(alloc, &world, row.took)?);
+    }
+    Ok(())
+}
+
+#[test]
+fn a_link_that_fails_has_ended(rt: HostRuntime) -> Result<(), Fail> {
+    let alloc = rt.alloc();
+    let published = &ROWS[0];
+    let mut world = in_memory(alloc, published.gives, 0, 2)?;
+    let (status, sink) = plays(&rt, alloc, published, &mut world)?;
+    assert!(rt; status == 9 && sink.bytes() == b"link ended\n".as_slice());
+    assert!(rt; took(alloc, &world, "")?);
+    let received = &ROWS[2];
+    let mut world = in_memory(alloc, received.gives, 3, 0)?;
+    let (status, sink) = plays(&rt, alloc, received, &mut world)?;
+    assert!(rt; status == 9 && sink.bytes() == b"link ended\n".as_slice());
+    assert!(rt; took(alloc, &world, "SUB a 1\r\n")?);
+    Ok(())
+}

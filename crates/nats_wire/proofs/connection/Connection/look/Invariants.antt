@@ -1,0 +1,5 @@
+-- nobody counts the steps
+use Rattle.nats_wire.proofs.connection.Connection.look.Given as goal
+
+abbrev pub ghosts-look_counted : goal.ghosts-look_counted
+ghosts-look_counted a = record { name = a.blank.name; parts = a.blank.parts }

@@ -1,0 +1,11 @@
+-- Less than an operation is seen where less stands there.
+use Rattle.std.proofs.Common.{ap}
+use Rattle.nats_wire.specs.Operations.{is_unfinished}
+use Rattle.nats_wire.proofs.Sights.{less_seen, not_less}
+use Rattle.nats_wire.proofs.unread.Unread.is_unfinished.Goals as goal
+
+pub returns-in-Unfinished : goal.returns-in-Unfinished
+returns-in-Unfinished c = ap is_unfinished (less_seen c.args.self.now.bytes c.in-Unfinished.ensures)
+
+pub returns-in_default : goal.returns-in_default
+returns-in_default c = not_less c.sight.result c.args.self.now.bytes c.sight.ensures c.in_default.not-Unfinished
