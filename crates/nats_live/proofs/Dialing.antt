@@ -41,10 +41,10 @@ use Rattle.nats_dial.specs.Began.{BeganRound, wants, began}
 use Rattle.nats_dial.specs.Causes.{last_tls, LinkCause, ServerCause, Why, RoundCause}
 use Rattle.nats_dial.specs.declared.linked.Linked.{Linked}
 use Rattle.nats_dial.specs.Tries.{Connects, IsUp}
+use Rattle.nats_live.specs.declared.error.LiveError.{LiveError}
 use Rattle.nats_live.specs.declared.error.LiveError.TheVariants as refused
-use Rattle.nats_live.specs.Causes.{IsRoundWith, default_timeout, NotConnected, OffersNothing, RoundFailed, TakesTexts, WhyNotDialed, connect_refused}
+use Rattle.nats_live.specs.Causes.{IsRoundWith, default_timeout, OffersNothing, RoundFailed, TakesTexts, WhyNotDialed, WhyNotLinked, connect_refused}
 use Rattle.nats_live.specs.Ended.{nothing}
-use Rattle.nats_live.specs.Pooled.{IsPoolOf}
 
 -- ---- the round of one server
 
@@ -241,17 +241,17 @@ module _ {X Y : Type 0} {F : X → Type 0} {G : Y → Type 0} {g : Mut ((x : X) 
     {h : Mut ((y : Y) × G y) (Vec Server × (ServerInfo × Unit {0})) (Option ReconnectToServer)} where
   -- the round that began on it has that server alone, and no limit
   pub begun_alone : (server : Parts) (p n : Pool X Y F G g h) (chosen : Choice) (named : Option ReconnectToServer)
-      (told : RoundTold) → IsPoolOf server p → named ≡ None
+      (told : RoundTold) → servers_of p ≡ new_server server ∷ [] → (options_of p).max_reconnects ≡ None → named ≡ None
       → IsRoundBy named (servers_of p) ((options_of p).retain_servers_order) (numbers_left p) chosen (round_of n)
       (numbers_left n)
       → options_of n ≡ options_of p → told.round ≡ (pool_told n).round → told.limit ≡ (pool_told n).limit
       → IsRoundWith server told
-  begun_alone server p n chosen named told is none plan options round limit = (
+  begun_alone server p n chosen named told servers unlimited none plan options round limit = (
     plan_of (new_server server),
     refl,
     round ∙ one_planned server (servers_of p) ((options_of p).retain_servers_order) (numbers_left p) named chosen
-        (round_of n) (numbers_left n) none is.servers plan,
-    limit ∙ (ap (λ (o : _). o.max_reconnects) options ∙ is.unlimited),
+        (round_of n) (numbers_left n) none servers plan,
+    limit ∙ (ap (λ (o : _). o.max_reconnects) options ∙ unlimited),
   )
 
 -- ---- by what a call answered
@@ -266,29 +266,32 @@ if_err P (Err e) f = f e refl
 
 -- ---- no link came of an address
 
-pub not_dialed : (addr : List ℕ) (server : Parts) (a b : Seen) (e : Failure) (before after : RoundTold)
-    → addr_of addr ≡ Ok server
+pub not_linked : (server : Parts) (a b : Seen) (e : Failure) (before after : RoundTold)
     → (e ≡ wanting) ⊎ (IsRoundWith server after × RoundFailed before after a e b)
-    → WhyNotDialed addr a (connect_refused e) b
-not_dialed addr server a b e before after spelled failed = by (is_wanting e.0) refl
+    → WhyNotLinked server a (connect_refused e) b
+not_linked server a b e before after failed = by (is_wanting e.0) refl
   where
     why : is_wanting e.0 ≡ false → (e ≡ wanting) ⊎ (IsRoundWith server after × RoundFailed before after a e b)
-        → NotConnected addr a e b
+        → WhyNotLinked server a (refused.Connect e) b
     why fine (inl is) = absurd (true≢false (sym (ap (λ (f : Failure). is_wanting f.0) is) ∙ fine))
-    why fine (inr (alone, round)) = (fine, inr (before, after, (server, spelled, alone), round))
+    why fine (inr (alone, round)) = (fine, (before, after, alone, round))
 
-    by : (w : Bool) → is_wanting e.0 ≡ w → WhyNotDialed addr a (if w then refused.NoMemory else refused.Connect e) b
+    by : (w : Bool) → is_wanting e.0 ≡ w → WhyNotLinked server a (if w then refused.NoMemory else refused.Connect e) b
     by true is = tt
     by false is = why is failed
 
-pub if_ok_to : {L E : Type 0} (P Q : L → Type 0) (r : Result L E) → IfOk r P → ((l : L) → P l → Q l) → IfOk r Q
-if_ok_to P Q (Ok l) p f = f l p
-if_ok_to P Q (Err e) p f = tt
+pub not_dialed : (addr : List ℕ) (server : Parts) (a b : Seen) (e : LiveError) → addr_of addr ≡ Ok server
+    → WhyNotLinked server a e b → WhyNotDialed addr a e b
+not_dialed addr server a b (refused.Connect e) spelled (fine, (before, after, alone, round)) =
+    (fine, inr (before, after, (server, spelled, alone), round))
+not_dialed addr server a b (refused.Publish e) spelled why = absurd why
+not_dialed addr server a b (refused.Subscribe e) spelled why = absurd why
+not_dialed addr server a b refused.LinkEnded spelled why = absurd why
+not_dialed addr server a b refused.NoMemory spelled why = tt
 
-pub if_err_two : {L E : Type 0} (P Q S : E → Type 0) (r : Result L E) → IfErr r P → IfErr r Q
-    → ((e : E) → P e → Q e → S e) → IfErr r S
-if_err_two P Q S (Ok l) p q f = tt
-if_err_two P Q S (Err e) p q f = f e p q
+pub if_err_to : {L E : Type 0} (P Q : E → Type 0) (r : Result L E) → IfErr r P → ((e : E) → P e → Q e) → IfErr r Q
+if_err_to P Q (Ok l) p f = tt
+if_err_to P Q (Err e) p f = f e p
 
 -- ---- a round of connecting on default options
 

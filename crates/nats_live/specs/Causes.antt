@@ -73,6 +73,15 @@ NotConnected addr a e b = (is_wanting e.0 ≡ false)
     × (((x : AddrError) × (e ≡ (connecting.ServerParse, Some (cause.Addr x))) × (addr_of addr ≡ Err x))
     ⊎ ((before : RoundTold) × (after : RoundTold) × IsRoundOf addr after × RoundFailed before after a e b))
 
+-- why no link came of this server
+abbrev pub WhyNotLinked : Parts → Seen → LiveError → Seen → Type 0
+WhyNotLinked server a (refused.Connect e) b = (is_wanting e.0 ≡ false)
+    × ((before : RoundTold) × (after : RoundTold) × IsRoundWith server after × RoundFailed before after a e b)
+WhyNotLinked server a (refused.Publish e) b = ⊥
+WhyNotLinked server a (refused.Subscribe e) b = ⊥
+WhyNotLinked server a refused.LinkEnded b = ⊥
+WhyNotLinked server a refused.NoMemory b = Unit {0}
+
 -- why an address spells no server
 abbrev pub WhyNotParsed : List ℕ → LiveError → Type 0
 WhyNotParsed addr (refused.Connect e) =

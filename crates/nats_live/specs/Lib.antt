@@ -2,6 +2,5 @@ pub mod Back
 pub mod Causes
 pub mod Ended
 pub mod Flow
-pub mod Pooled
 pub mod State
 pub mod Steps

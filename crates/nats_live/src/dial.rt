@@ -1,20 +1,17 @@
 //! A link to the server of an address.
-ghost use Rattle.std.specs.Prelude.{◌≡◌, ◌⊎◌, false, None, Ok, IfOk, IfErr};
-ghost use Rattle.url.specs.Parts.{Parts};
+ghost use Rattle.std.specs.Prelude.{◌≡◌, false, [], ◌∷◌, None, Ok, IfOk, IfErr};
 ghost use Rattle.nats_addr.specs.Addr.{addr_of};
-ghost use Rattle.nats_pool.specs.Handing.{pool_told};
-ghost use Rattle.nats_handshake.specs.Shaking.{wanting};
+ghost use Rattle.nats_pool.specs.Pools.{NewPool};
 ghost use Rattle.nats_dial.specs.Causes.{Onward};
 ghost use Rattle.nats_dial.specs.Tries.{IsUp};
-ghost use Rattle.nats_live.specs.Causes.{OffersNothing, IsRoundWith, RoundFailed, WhyNotDialed, WhyNotParsed};
-ghost use Rattle.nats_live.specs.Pooled.{IsPoolOf};
+ghost use Rattle.nats_live.specs.Causes.{OffersNothing, WhyNotDialed, WhyNotLinked, WhyNotParsed};
 
 use crate::error::{LiveError, connect_refused};
 use nats_client::World;
 use nats_dial::{ConnectError, ConnectErrorKind, ConnectOptions, Linked, Reach, try_connect};
 use nats_names::{AddrError, Cause, NoMemory};
 use nats_outside::seen;
-use nats_pool::{Pool, ServerAddr, ServerInfo};
+use nats_pool::{Pool, PoolOptions, ServerAddr, ServerInfo};
 use std::alloc::Global;
 
 // The server of this address.
@@ -32,33 +29,40 @@ fn server_of(alloc: Global, addr: &str) -> Result<ServerAddr, LiveError>
     }
 }
 
-// A pool of this server, on default options.
-fn pool_of(alloc: Global, server: ServerAddr, start: u64) -> Result<Pool, NoMemory>
-    ensures { IfOk result (λ pool. IsPoolOf server pool) }
+// A pool of this server, on these options.
+fn pool_of(
+    alloc: Global,
+    server: ServerAddr,
+    options: PoolOptions,
+    start: u64,
+) -> Result<Pool, NoMemory>
+    ensures { IfOk result (NewPool (server ∷ []) options start) }
 {
     let mut addrs = Vec::new(alloc);
     addrs.push(server)?;
-    let mut options = ConnectOptions::new();
-    Pool::new(alloc, addrs, options.take_pool_options(), start)
+    Pool::new(alloc, addrs, options, start)
 }
 
-// One round of connecting, on default options.
-fn round<W: Reach>(
+// A link to this server, by one round of connecting on default options over a pool of it alone.
+fn link_to<W: Reach>(
     alloc: Global,
-    pool: &mut Pool,
+    server: ServerAddr,
+    start: u64,
     world: &mut W,
-) -> Result<Linked<W::Read, W::Write>, ConnectError>
+) -> Result<Linked<W::Read, W::Write>, LiveError>
     ensures beside { W.beside_reach world.new ≡ W.beside_reach world.old }
     ensures onward { Onward (W.seen world.old) (W.seen world.new) }
     ensures up { IfOk result (λ linked. IsUp OffersNothing None false linked.info linked.rest.items
         (W.Read.read_told linked.read) (W.Write.write_told linked.write)) }
-    ensures failed { (server : Parts) → IsPoolOf server pool.old → IfErr result (λ e. (e ≡ wanting)
-        ⊎ (IsRoundWith server (pool_told pool.new)
-        × RoundFailed (pool_told pool.old) (pool_told pool.new) (W.seen world.old) e (W.seen world.new))) }
+    ensures refused { IfErr result (λ e. WhyNotLinked server (W.seen world.old) e (W.seen world.new)) }
 {
-    let options = ConnectOptions::new();
+    let mut options = ConnectOptions::new();
+    let mut pool = pool_of(alloc, server, options.take_pool_options(), start)?;
     let last = ServerInfo::default(alloc);
-    try_connect(alloc, pool, &options, &last, world)
+    match try_connect(alloc, &mut pool, &options, &last, world) {
+        Ok(linked) => Ok(linked),
+        Err(error) => Err(connect_refused(error)),
+    }
 }
 
 // A link to the server of this address, by one round of connecting on default options.
@@ -75,9 +79,5 @@ pub(crate) fn dial<W: World>(
 {
     let server = server_of(alloc, addr)?;
     let start = seen::draw(world);
-    let mut pool = pool_of(alloc, server, start)?;
-    match round(alloc, &mut pool, world) {
-        Ok(linked) => Ok(linked),
-        Err(error) => Err(connect_refused(error)),
-    }
+    link_to(alloc, server, start, world)
 }

@@ -1,12 +1,12 @@
 -- What each status says of commands on a live link.
-use Rattle.std.proofs.Common.{◌≡◌, ◌≢◌, refl, ◌∙◌, sym, ap, subst, inl, inr, ◌⊎◌, ℕ, arith, true, List, [], ◌∷◌, Option, Some}
+use Rattle.std.proofs.Common.{◌≡◌, ◌≢◌, refl, ◌∙◌, sym, ap, subst, inl, inr, ◌⊎◌, ℕ, arith, true, List, [], ◌∷◌, length, map, ◌<◌, ◌≤◌, Option, None, Some}
 use Rattle.std.specs.Io.KnownBytes.{Appends}
 use Rattle.nats_outside.specs.Told.{Seen}
 use Rattle.nats_live.specs.declared.error.LiveError.{LiveError}
 use Rattle.nats_live.specs.Causes.{WhyNotPublished, WhyNotReceived}
 use Rattle.nats_live.specs.Ended.{WasPublished, WasReceived}
 use Rattle.nats_replay.specs.Outside.{Rose, AppendsFront}
-use Rattle.nats_replay.specs.Live.{LiveWords, publishes, receives, others, live_of, LastShows, IsToldOf, LiveAnswers, LiveAnswersBy, PubAnswers, SubAnswers, PubPrints, SubPrints, PrintsAt, RefusalAnswers, published_line, error_line}
+use Rattle.nats_replay.specs.Live.{LiveWords, publishes, receives, others, live_of, LastShows, IsToldOf, LiveAnswers, LiveAnswersBy, is_told, PubAnswers, SubAnswers, PubPrints, SubPrints, PrintsAt, RefusalAnswers, published_line, error_line}
 use Rattle.nats_replay.specs.Words.{run_words, bulk_count, is_status_of_live}
 
 -- ---- words
@@ -201,29 +201,97 @@ live_status words a b status faults faults_now old new answers =
 
 -- ---- what was printed
 
-pub prints_at : (whole status : ℕ) (text : List ℕ) (faults faults_now : ℕ) (old new : Option (List ℕ))
-    → (status ≡ whole → Appends old new text)
-    → (status ≡ 4 → AppendsFront old new text) → (status ≡ 4 → Rose faults faults_now)
-    → (status ≡ whole) ⊎ (status ≡ 4)
-    → PrintsAt whole status text faults faults_now old new
-prints_at whole status text faults faults_now old new all cut rose (inl is) = inl (is, all is)
-prints_at whole status text faults faults_now old new all cut rose (inr is) = inr (is, rose is, cut is)
+-- a status that is another than that of want of memory
+pub not_wanting : {A : Type 0} (whole status : ℕ) (text : List ℕ) (faults faults_now : ℕ) (old new : Option (List ℕ))
+    → whole ≢ 7 → PrintsAt whole status text faults faults_now old new → status ≡ 7 → A
+not_wanting whole status text faults faults_now old new other (inl (is, all)) seven = absurd (other (sym is ∙ seven))
+not_wanting whole status text faults faults_now old new other (inr (four, rose, front)) seven =
+    absurd (omega (arith, four, seven))
+
+pub refusal_told : (e : LiveError) (status faults faults_now : ℕ) (text : List ℕ) (old new : Option (List ℕ))
+    → is_told e ≡ true → text ≡ error_line e → PrintsAt 9 status text faults faults_now old new
+    → RefusalAnswers e status faults faults_now old new
+refusal_told e status faults faults_now text old new told is prints =
+    inl (told, subst (λ (t : List ℕ). PrintsAt 9 status t faults faults_now old new) is prints)
 
 pub pub_refused : (addr subject payload : List ℕ) (a b : Seen) (e : LiveError) (status faults faults_now : ℕ)
     (old new : Option (List ℕ))
-    → IsToldOf e → WhyNotPublished addr subject payload a e b → RefusalAnswers e status faults faults_now old new
+    → WhyNotPublished addr subject payload a e b → RefusalAnswers e status faults faults_now old new
     → PubAnswers addr subject payload a status b faults faults_now old new
-pub_refused addr subject payload a b e status faults faults_now old new told why (inl prints) =
+pub_refused addr subject payload a b e status faults faults_now old new why (inl (told, prints)) =
     inr (inr (e, told, why, prints))
-pub_refused addr subject payload a b e status faults faults_now old new told why (inr seven) = inl seven
+pub_refused addr subject payload a b e status faults faults_now old new why (inr seven) = inl seven
 
 pub sub_refused : (addr subject : List ℕ) (n : ℕ) (a b : Seen) (e : LiveError) (status faults faults_now : ℕ)
     (old new : Option (List ℕ))
-    → IsToldOf e → WhyNotReceived addr subject n a e b → RefusalAnswers e status faults faults_now old new
+    → WhyNotReceived addr subject n a e b → RefusalAnswers e status faults faults_now old new
     → SubAnswers addr subject n a status b faults faults_now old new
-sub_refused addr subject n a b e status faults faults_now old new told why (inl prints) =
+sub_refused addr subject n a b e status faults faults_now old new why (inl (told, prints)) =
     inr (inr (e, told, why, prints))
-sub_refused addr subject n a b e status faults faults_now old new told why (inr seven) = inl seven
+sub_refused addr subject n a b e status faults faults_now old new why (inr seven) = inl seven
+
+-- ---- a cut text
+
+pub_rose : (addr subject payload : List ℕ) (a b : Seen) (status faults faults_now : ℕ) (old new : Option (List ℕ))
+    → PubAnswers addr subject payload a status b faults faults_now old new → status ≡ 4 → Rose faults faults_now
+pub_rose addr subject payload a b status faults faults_now old new (inl seven) four = absurd (omega (arith, four, seven))
+pub_rose addr subject payload a b status faults faults_now old new (inr (inl (shows, inl (zero, text)))) four =
+    absurd (omega (arith, four, zero))
+pub_rose addr subject payload a b status faults faults_now old new (inr (inl (shows, inr (is, rose, text)))) four = rose
+pub_rose addr subject payload a b status faults faults_now old new (inr (inr (e, told, why, inl (nine, text)))) four =
+    absurd (omega (arith, four, nine))
+pub_rose addr subject payload a b status faults faults_now old new (inr (inr (e, told, why, inr (is, rose, text))))
+    four =
+    rose
+
+sub_rose : (addr subject : List ℕ) (n : ℕ) (a b : Seen) (status faults faults_now : ℕ) (old new : Option (List ℕ))
+    → SubAnswers addr subject n a status b faults faults_now old new → status ≡ 4 → Rose faults faults_now
+sub_rose addr subject n a b status faults faults_now old new (inl seven) four = absurd (omega (arith, four, seven))
+sub_rose addr subject n a b status faults faults_now old new (inr (inl (text, shows, inl (zero, all)))) four =
+    absurd (omega (arith, four, zero))
+sub_rose addr subject n a b status faults faults_now old new (inr (inl (text, shows, inr (is, rose, front)))) four =
+    rose
+sub_rose addr subject n a b status faults faults_now old new (inr (inr (e, told, why, inl (nine, text)))) four =
+    absurd (omega (arith, four, nine))
+sub_rose addr subject n a b status faults faults_now old new (inr (inr (e, told, why, inr (is, rose, text)))) four =
+    rose
+
+rose_by : (w : LiveWords) (a b : Seen) (status faults faults_now : ℕ) (old new : Option (List ℕ))
+    → LiveAnswersBy w a (Some status) b faults faults_now old new → status ≡ 4 → Rose faults faults_now
+rose_by (publishes addr subject payload) a b status faults faults_now old new answers four =
+    pub_rose addr subject payload a b status faults faults_now old new answers four
+rose_by (receives addr subject n) a b status faults faults_now old new answers four =
+    sub_rose addr subject n a b status faults faults_now old new answers four
+rose_by others a b status faults faults_now old new answers four = absurd answers
+
+pub live_rose : (words : List (List ℕ)) (a b : Seen) (status faults faults_now : ℕ) (old new : Option (List ℕ))
+    → LiveAnswers words a (Some status) b faults faults_now old new → status ≡ 4 → Rose faults faults_now
+live_rose words a b status faults faults_now old new answers four =
+    rose_by (live_of words) a b status faults faults_now old new answers four
+
+-- ---- words that are four, and others
+
+pub fewer_not_live : {A : Type 0} (text : A → List ℕ) (words : List A) → length words < 4
+    → live_of (map text words) ≡ others
+fewer_not_live text [] few = refl
+fewer_not_live text (w ∷ []) few = refl
+fewer_not_live text (w ∷ x ∷ []) few = refl
+fewer_not_live text (w ∷ x ∷ y ∷ []) few = refl
+fewer_not_live text (w ∷ x ∷ y ∷ z ∷ more) few = absurd (omega arith)
+
+pub more_not_live : {A : Type 0} (text : A → List ℕ) (words : List A) → 5 ≤ length words
+    → live_of (map text words) ≡ others
+more_not_live text [] many = absurd (omega arith)
+more_not_live text (w ∷ []) many = absurd (omega arith)
+more_not_live text (w ∷ x ∷ []) many = absurd (omega arith)
+more_not_live text (w ∷ x ∷ y ∷ []) many = absurd (omega arith)
+more_not_live text (w ∷ x ∷ y ∷ z ∷ []) many = absurd (omega arith)
+more_not_live text (w ∷ x ∷ y ∷ z ∷ v ∷ more) many = refl
+
+pub others_answer : (words : List (List ℕ)) (a : Seen) (faults : ℕ) (old : Option (List ℕ)) → live_of words ≡ others
+    → LiveAnswers words a None a faults faults old old
+others_answer words a faults old is =
+    subst (λ (w : LiveWords). LiveAnswersBy w a None a faults faults old old) (sym is) tt
 
 -- ---- words that play a script ask for no live link
 

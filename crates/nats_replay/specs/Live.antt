@@ -1,5 +1,5 @@
 -- The words of commands on a live link, and what each status says of them.
-use Rattle.std.specs.Prelude.{◌≡◌, ◌≢◌, ◌⊎◌, ℕ, ◌&&◌, nat_le, List, [], ◌∷◌, ◌++◌, codes, bytes_eq, Option, Some, None, option_and_then, IfSome, if◌then◌else◌}
+use Rattle.std.specs.Prelude.{◌≡◌, ◌⊎◌, ℕ, Bool, true, false, ◌&&◌, nat_le, List, [], ◌∷◌, ◌++◌, codes, bytes_eq, Option, Some, None, option_and_then, IfSome, if◌then◌else◌}
 use Rattle.std.specs.Io.KnownBytes.{Appends}
 use Rattle.nats_outside.specs.Told.{Seen}
 use Rattle.nats_script.specs.Printed.{lf}
@@ -46,9 +46,16 @@ published_line = codes "published\n"
 abbrev pub error_line : LiveError → List ℕ
 error_line e = live_error_text e ++ lf
 
--- want of memory is no such refusal
+-- want of memory is told by no text
+abbrev pub is_told : LiveError → Bool
+is_told (refused.Connect e) = true
+is_told (refused.Publish e) = true
+is_told (refused.Subscribe e) = true
+is_told refused.LinkEnded = true
+is_told refused.NoMemory = false
+
 abbrev pub IsToldOf : LiveError → Type 0
-IsToldOf e = e ≢ refused.NoMemory
+IsToldOf e = is_told e ≡ true
 
 -- ---- statuses
 
@@ -62,10 +69,10 @@ abbrev pub PrintsAt : ℕ → ℕ → List ℕ → ℕ → ℕ → Option (List 
 PrintsAt whole status text faults faults_now before now = ((status ≡ whole) × Appends before now text)
     ⊎ ((status ≡ 4) × Rose faults faults_now × AppendsFront before now text)
 
--- a refusal is printed, unless memory is wanting for its text
+-- a refusal is printed, unless memory is wanting, for the call or for the text
 abbrev pub RefusalAnswers : LiveError → ℕ → ℕ → ℕ → Option (List ℕ) → Option (List ℕ) → Type 0
 RefusalAnswers e status faults faults_now before now =
-    PrintsAt 9 status (error_line e) faults faults_now before now ⊎ (status ≡ 7)
+    (IsToldOf e × PrintsAt 9 status (error_line e) faults faults_now before now) ⊎ (status ≡ 7)
 
 -- what publishing comes to
 abbrev pub PubAnswers : List ℕ → List ℕ → List ℕ → Seen → ℕ → Seen → ℕ → ℕ → Option (List ℕ) → Option (List ℕ) → Type 0

@@ -1,5 +1,5 @@
-//! The top call of the program: playing a script, whose bytes a source gives, and printing its transcript into a sink; and commands
-//! on a live link, which a world gives.
+//! The top call of the program: playing a script, whose bytes a source gives, and printing its transcript into a
+//! sink; and commands on a live link, which a world gives.
 #![tactic(auto)]
 
 mod live;

@@ -1,10 +1,9 @@
 //! The words of commands on a live link, and what is printed of them.
-ghost use Rattle.std.specs.Prelude.{◌≡◌, ◌≤◌, ◌⊎◌, None, IfOk, IfSome, map, option_and_then};
+ghost use Rattle.std.specs.Prelude.{◌≡◌, ◌≤◌, None, IfOk, IfSome, map, option_and_then};
 ghost use Rattle.std.specs.String.{string_bytes};
-ghost use Rattle.std.specs.Io.KnownBytes.{Appends};
 ghost use Rattle.nats_script.specs.Spelling.{field_number};
-ghost use Rattle.nats_replay.specs.Outside.{Rose, AppendsFront};
-ghost use Rattle.nats_replay.specs.Live.{LiveAnswers, PubAnswers, RefusalAnswers, SubAnswers, error_line, in_sub};
+ghost use Rattle.nats_replay.specs.Live.{LiveAnswers, PrintsAt, PubAnswers, RefusalAnswers, SubAnswers};
+ghost use Rattle.nats_replay.specs.Live.{error_line, in_sub, is_told};
 
 use crate::outside::Sink;
 use crate::top::{DONE, NO_MEMORY, REFUSED, WRITE_FAULT};
@@ -43,15 +42,20 @@ fn error_line(alloc: Global, error: &LiveError) -> Result<String, NoMemory>
 
 // Prints a text whole; the status says whether that went well.
 fn print<K: Sink>(text: &[u8], status: u8, sink: &mut K) -> u8
-    ensures whole { result ≡ status → Appends (K.written sink.old) (K.written sink.new) text.now }
-    ensures cut { result ≡ WRITE_FAULT → AppendsFront (K.written sink.old) (K.written sink.new) text.now }
-    ensures fault { result ≡ WRITE_FAULT → Rose (K.faults sink.old) (K.faults sink.new) }
-    ensures either { (result ≡ status) ⊎ (result ≡ WRITE_FAULT) }
+    ensures { PrintsAt status result text.now (K.faults sink.old) (K.faults sink.new)
+        (K.written sink.old) (K.written sink.new) }
 {
     match write_all(text, sink) {
         Ok(()) => status,
         Err(_) => WRITE_FAULT,
     }
+}
+
+// Whether a text tells of the error: none does of want of memory.
+fn is_told(error: &LiveError) -> bool
+    ensures { result ≡ is_told error.now }
+{
+    !matches!(error, LiveError::NoMemory)
 }
 
 // Prints why a command was refused.
@@ -60,6 +64,9 @@ fn refuse<K: Sink>(alloc: Global, error: &LiveError, sink: &mut K) -> u8
         (K.written sink.old) (K.written sink.new) }
     ensures silent { result ≡ NO_MEMORY → sink.new ≡ sink.old }
 {
+    if !is_told(error) {
+        return NO_MEMORY;
+    }
     match error_line(alloc, error) {
         Ok(text) => print(text.as_bytes(), REFUSED, sink),
         Err(NoMemory) => NO_MEMORY,
@@ -83,7 +90,6 @@ fn answer_pub<R: Wait, K: Sink, W: World>(
 {
     match publish(rt, alloc, addr, subject, payload.as_bytes(), world) {
         Ok(()) => print(PUBLISHED, DONE, sink),
-        Err(LiveError::NoMemory) => NO_MEMORY,
         Err(error) => refuse(alloc, &error, sink),
     }
 }
@@ -106,7 +112,6 @@ fn answer_sub<R: Wait, K: Sink, W: World>(
 {
     match receive(rt, alloc, addr, subject, count, world) {
         Ok(text) => print(text.as_slice(), DONE, sink),
-        Err(LiveError::NoMemory) => NO_MEMORY,
         Err(error) => refuse(alloc, &error, sink),
     }
 }

@@ -51,6 +51,21 @@ fn step(alloc: Global, core: &mut Core, out: &mut Vec<u8>, turn: Turn) -> Result
     }
 }
 
+fn step_copy(
+    alloc: Global,
+    core: &mut Core,
+    out: &mut Vec<u8>,
+    turn: &Turn,
+) -> Result<(), NoMemory> {
+    let turn = turn.copy(alloc)?;
+    step(alloc, core, out, turn)
+}
+
+fn step_elsewhere(alloc: Global, core: &mut Core, out: &mut Vec<u8>) -> Result<(), NoMemory> {
+    let answer = core.step_on(alloc, OTHER_LINK, Turn::Tick);
+    say_step(out, &answer)
+}
+
 fn submit(alloc: Global, core: &mut Core, out: &mut Vec<u8>) -> Result<(), NoMemory> {
     match core.submit(alloc, Call::Flush) {
         Ok(reply) => say_reply(out, &reply)?,
@@ -93,9 +108,9 @@ fn drive(
     turns: &[Turn],
 ) -> Result<(), NoMemory> {
     for turn in turns {
-        step(alloc, core, out, turn.copy(alloc)?)?;
+        step_copy(alloc, core, out, turn)?;
     }
-    say_step(out, &core.step_on(alloc, OTHER_LINK, Turn::Tick))?;
+    step_elsewhere(alloc, core, out)?;
     submit(alloc, core, out)?;
     core.catch_up(alloc)?;
     say_journal(out, core.journal())?;
@@ -218,13 +233,27 @@ fn is_lost(alloc: Global, core: &mut Core, read: &mut FakeRead) -> bool {
         && core.journal().len() == 6
 }
 
+fn answers_and_loses(
+    alloc: Global,
+    core: &mut Core,
+    read: &mut FakeRead,
+    write: &mut FakeWrite,
+) -> Result<bool, NoMemory> {
+    let answers = answers_a_ping(alloc, core, read, write)?;
+    Ok(answers && write.taken() == b"PONG\r\n".as_slice() && is_lost(alloc, core, read))
+}
+
+fn lends_a_link(alloc: Global, core: &mut Core) -> Result<bool, &'static str> {
+    let (mut read, mut write) = halves(alloc, "PING\r\n")?;
+    answers_and_loses(alloc, core, &mut read, &mut write).map_err(|_| "memory")
+}
+
 #[test]
 fn a_link_is_read_and_written(rt: HostRuntime) -> Result<(), Fail> {
     let alloc = rt.alloc();
     let mut core = on_a_link(alloc)?;
-    let (mut read, mut write) = halves(alloc, "PING\r\n")?;
-    assert!(rt; answers_a_ping(alloc, &mut core, &mut read, &mut write)?);
-    assert!(rt; write.taken() == b"PONG\r\n".as_slice());
-    assert!(rt; is_lost(alloc, &mut core, &mut read));
+    let is_lent = lends_a_link(alloc, &mut core);
+    drop(core);
+    assert!(rt; is_lent?);
     Ok(())
 }

@@ -299,6 +299,16 @@ fn look(alloc: Global, handler: &mut ConnectionHandler, out: &mut Vec<u8>) -> Re
 
 // ---- whole scripts
 
+fn play_copy(
+    alloc: Global,
+    handler: &mut ConnectionHandler,
+    out: &mut Vec<u8>,
+    turn: &Turn,
+) -> Result<(), NoMemory> {
+    let turn = turn.copy(alloc)?;
+    play_turn(alloc, handler, out, &turn)
+}
+
 fn play_all(
     alloc: Global,
     handler: &mut ConnectionHandler,
@@ -306,7 +316,7 @@ fn play_all(
     turns: &[Turn],
 ) -> Result<(), NoMemory> {
     for turn in turns {
-        play_turn(alloc, handler, out, &turn.copy(alloc)?)?;
+        play_copy(alloc, handler, out, turn)?;
     }
     look(alloc, handler, out)
 }

@@ -189,15 +189,35 @@ fn took(alloc: Global, world: &MemoryWorld, text: &str) -> Result<bool, NoMemory
     Ok(taken == want.as_slice())
 }
 
+// Whether the row plays as it says in this world.
+fn goes<R: Wait>(
+    rt: &R,
+    alloc: Global,
+    row: &Row,
+    world: &mut MemoryWorld,
+) -> Result<bool, NoMemory> {
+    let (status, sink) = plays(rt, alloc, row, world)?;
+    let printed = status == row.status && sink.bytes() == row.printed.as_bytes();
+    Ok(printed && took(alloc, world, row.took)?)
+}
+
+// Whether it does on a link that fails at this read and this write, counted from 1.
+fn goes_on<R: Wait>(
+    rt: &R,
+    alloc: Global,
+    row: &Row,
+    read: u64,
+    write: u64,
+) -> Result<bool, NoMemory> {
+    let mut world = in_memory(alloc, row.gives, read, write)?;
+    goes(rt, alloc, row, &mut world)
+}
+
 #[test]
 fn commands_on_a_live_link(rt: HostRuntime) -> Result<(), Fail> {
     let alloc = rt.alloc();
     for row in &ROWS {
-        let mut world = in_memory(alloc, row.gives, 0, 0)?;
-        let (status, sink) = plays(&rt, alloc, row, &mut world)?;
-        assert_eq!(rt; status, row.status);
-        assert!(rt; sink.bytes() == row.printed.as_bytes());
-        assert!(rt; took(alloc, &world, row.took)?);
+        assert!(rt; goes_on(&rt, alloc, row, 0, 0)?);
     }
     Ok(())
 }
@@ -205,15 +225,19 @@ fn commands_on_a_live_link(rt: HostRuntime) -> Result<(), Fail> {
 #[test]
 fn a_link_that_fails_has_ended(rt: HostRuntime) -> Result<(), Fail> {
     let alloc = rt.alloc();
-    let published = &ROWS[0];
-    let mut world = in_memory(alloc, published.gives, 0, 2)?;
-    let (status, sink) = plays(&rt, alloc, published, &mut world)?;
-    assert!(rt; status == 9 && sink.bytes() == b"link ended\n".as_slice());
-    assert!(rt; took(alloc, &world, "")?);
-    let received = &ROWS[2];
-    let mut world = in_memory(alloc, received.gives, 3, 0)?;
-    let (status, sink) = plays(&rt, alloc, received, &mut world)?;
-    assert!(rt; status == 9 && sink.bytes() == b"link ended\n".as_slice());
-    assert!(rt; took(alloc, &world, "SUB a 1\r\n")?);
+    let (status, printed) = (9, "link ended\n");
+    let not_published = Row {
+        status,
+        printed,
+        took: "",
+        ..ROWS[0]
+    };
+    assert!(rt; goes_on(&rt, alloc, &not_published, 0, 2)?);
+    let not_received = Row {
+        status,
+        printed,
+        ..ROWS[2]
+    };
+    assert!(rt; goes_on(&rt, alloc, &not_received, 3, 0)?);
     Ok(())
 }

@@ -1,8 +1,8 @@
 //! The delays before attempts, and what a pool of servers hands out and becomes.
 use nats_names::{NoMemory, Text};
 use nats_pool::{
-    AddrError, ConnectOptions, Next, Outcome, Pool, ServerAddr, ServerInfo, addrs_of_texts,
-    reconnect_delay_default,
+    AddrError, ConnectOptions, Next, Outcome, Pool, PoolOptions, ServerAddr, ServerInfo,
+    addrs_of_texts, reconnect_delay_default,
 };
 use std::alloc::Global;
 use std::test::Fail;
@@ -14,15 +14,26 @@ fn delays_are_those_of_their_rows(rt: HostRuntime) {
     }
 }
 
-/// A pool of a, b and c, whose first server failed twice.
-fn failed_pool(alloc: Global, mut options: ConnectOptions) -> Result<Pool, AddrError> {
+fn pool_of(alloc: Global, options: PoolOptions) -> Result<Pool, AddrError> {
     let addrs = addrs_of_texts(alloc, &["a", "b", "c"])?;
-    let mut pool = Pool::new(alloc, addrs, options.take_pool_options(), 7)?;
+    Ok(Pool::new(alloc, addrs, options, 7)?)
+}
+
+fn fail_twice(alloc: Global, pool: &mut Pool) -> Result<(), AddrError> {
     let first = ServerAddr::parse(alloc, "a")?;
     for _ in 0..2 {
         pool.report(&first, Outcome::Failed(Text::from_text(alloc, "no")?));
     }
-    Ok(pool)
+    Ok(())
+}
+
+/// A pool of a, b and c, whose first server failed twice.
+fn failed_pool(alloc: Global, mut options: ConnectOptions) -> Result<Pool, AddrError> {
+    let mut pool = pool_of(alloc, options.take_pool_options())?;
+    match fail_twice(alloc, &mut pool) {
+        Ok(()) => Ok(pool),
+        Err(error) => Err(error),
+    }
 }
 
 fn tell_next(out: &mut String, next: &Next) -> Result<(), NoMemory> {

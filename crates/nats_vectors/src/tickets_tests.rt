@@ -17,29 +17,54 @@ fn told(alloc: Global, flushes: &mut Tickets) -> Result<Vec<u64>, NoMemory> {
     Ok(told)
 }
 
-#[test]
-fn flushes_settle_in_order(rt: HostRuntime) -> Result<(), Fail> {
-    let alloc = rt.alloc();
-    let mut flushes = Tickets::new(alloc);
+/// Whether just these wait to be handed out.
+fn tells(alloc: Global, flushes: &mut Tickets, want: &[u64]) -> Result<bool, NoMemory> {
+    Ok(told(alloc, flushes)?.as_slice() == want)
+}
+
+/// Four flushes, of which the first wrote nothing, the second is behind five bytes, the others behind seven.
+fn wait_four(flushes: &mut Tickets) -> Result<(), NoMemory> {
     for waiting in [0, 5, 7, 7] {
         flushes.give(Waits::Flush)?;
         flushes.handle_flush(waiting)?;
     }
-    assert_eq!(rt; told(alloc, &mut flushes)?.as_slice(), [1, 1].as_slice());
+    Ok(())
+}
+
+fn settle_by_bytes(alloc: Global, flushes: &mut Tickets) -> Result<bool, NoMemory> {
+    let at_once = tells(alloc, flushes, &[1, 1])?;
     flushes.pass(4);
-    assert_eq!(rt; told(alloc, &mut flushes)?.len(), 0);
+    let none = tells(alloc, flushes, &[])?;
     flushes.pass(1);
-    assert_eq!(rt; told(alloc, &mut flushes)?.as_slice(), [2, 1].as_slice());
+    Ok(at_once && none && tells(alloc, flushes, &[2, 1])?)
+}
+
+/// The replies of a ticket, by two calls.
+fn failed_once(flushes: &mut Tickets, ticket: u64) -> bool {
+    let failed = matches!(flushes.reply_of(ticket), Some(CallReply::FlushFailed));
+    failed && flushes.reply_of(ticket).is_none()
+}
+
+fn fail_at_the_end(alloc: Global, flushes: &mut Tickets) -> Result<bool, NoMemory> {
     flushes.give(Waits::Flush)?;
     flushes.fail();
     flushes.drop_waiting();
-    assert!(rt; matches!(flushes.reply_of(4), Some(CallReply::FlushFailed)));
-    assert!(rt; flushes.reply_of(4).is_none());
-    assert_eq!(rt;
-        told(alloc, &mut flushes)?.as_slice(),
-        [3, 0, 5, 0].as_slice()
-    );
-    assert_eq!(rt; flushes.given(), 5);
+    let failed = failed_once(flushes, 4);
+    Ok(failed && tells(alloc, flushes, &[3, 0, 5, 0])? && flushes.given() == 5)
+}
+
+fn settle(alloc: Global, flushes: &mut Tickets) -> Result<bool, NoMemory> {
+    wait_four(flushes)?;
+    Ok(settle_by_bytes(alloc, flushes)? && fail_at_the_end(alloc, flushes)?)
+}
+
+#[test]
+fn flushes_settle_in_order(rt: HostRuntime) -> Result<(), Fail> {
+    let alloc = rt.alloc();
+    let mut flushes = Tickets::new(alloc);
+    let settled = settle(alloc, &mut flushes);
+    drop(flushes);
+    assert!(rt; settled?);
     Ok(())
 }
 

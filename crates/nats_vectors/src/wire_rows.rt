@@ -131,12 +131,23 @@ const CONNECT: &str =
 \"echo\":false,\"lang\":\"Rust\",\"version\":\"1.0.0\",\"protocol\":1,\"tls_required\":false,\"user\":null,\"pass\":null,\
 \"auth_token\":null,\"headers\":false,\"no_responders\":false}\r\n";
 
+fn connect(alloc: Global, connection: &mut Connection) -> Result<(), NoMemory> {
+    let op = ClientOp::Connect(plain_info(alloc)?);
+    connection.enqueue_write_op(alloc, &op)
+}
+
+fn connecting(alloc: Global, connection: &mut Connection) -> Result<Vec<u8>, NoMemory> {
+    connect(alloc, connection)?;
+    connection.copy_waiting(alloc, connection.pending())
+}
+
 #[test]
 fn a_client_with_nothing_to_tell_connects(rt: HostRuntime) -> Result<(), Fail> {
     let alloc = rt.alloc();
     let mut connection = Connection::new(alloc);
-    connection.enqueue_write_op(alloc, &ClientOp::Connect(plain_info(alloc)?))?;
-    let text = connection.copy_waiting(alloc, connection.pending())?;
+    let text = connecting(alloc, &mut connection);
+    drop(connection);
+    let text = text?;
     assert_eq!(rt; text.as_slice(), CONNECT.as_bytes());
     Ok(())
 }
