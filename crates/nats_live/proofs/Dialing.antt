@@ -21,10 +21,8 @@ use Rattle.nats_pool.specs.declared.server.Server.{Server}
 use Rattle.nats_pool.specs.declared.server.ReconnectToServer.{ReconnectToServer}
 use Rattle.nats_pool.specs.Discovery.{Discovers, DiscoversWhere}
 use Rattle.nats_pool.specs.declared.callbacks.ChoiceFn.{ChoiceFn}
-use Rattle.nats_pool.specs.declared.pool_parts.Next.{Next}
-use Rattle.nats_pool.specs.declared.pool_parts.Outcome.{Outcome}
-use Rattle.nats_pool.specs.Handing.{RoundTold, HandsNext, IsBegun, pool_told, told_of}
-use Rattle.nats_pool.specs.Pools.{Begins as Began, NamedBy, numbers_left, options_of, round_of, servers_of}
+use Rattle.nats_pool.specs.Handing.{RoundTold, pool_told}
+use Rattle.nats_pool.specs.Pools.{NamedBy, numbers_left, options_of, round_of, servers_of}
 use Rattle.nats_pool.specs.Rounds.{IsDefaultOrder, IsRoundBy, plan_of}
 use Rattle.nats_pool.specs.Servers.{new_server}
 use Rattle.nats_outside.specs.Told.{Seen, ReadTold, WriteTold}
@@ -39,8 +37,7 @@ use Rattle.nats_handshake.specs.Heard.{RefusesIn, RefusesText}
 use Rattle.nats_handshake.specs.Shaking.{Declines, is_wanting, wanting}
 use Rattle.nats_dial.specs.Began.{BeganRound, wants, began}
 use Rattle.nats_dial.specs.Causes.{last_tls, LinkCause, ServerCause, Why, RoundCause}
-use Rattle.nats_dial.specs.declared.linked.Linked.{Linked}
-use Rattle.nats_dial.specs.Tries.{Connects, IsUp}
+use Rattle.nats_dial.specs.Tries.{IsUp}
 use Rattle.nats_live.specs.declared.error.LiveError.{LiveError}
 use Rattle.nats_live.specs.declared.error.LiveError.TheVariants as refused
 use Rattle.nats_live.specs.Causes.{IsRoundWith, default_timeout, OffersNothing, RoundFailed, TakesTexts, WhyNotDialed, WhyNotLinked, connect_refused}

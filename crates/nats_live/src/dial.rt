@@ -1,7 +1,6 @@
 //! A link to the server of an address.
 ghost use Rattle.std.specs.Prelude.{◌≡◌, false, [], ◌∷◌, None, Ok, IfOk, IfErr};
 ghost use Rattle.nats_addr.specs.Addr.{addr_of};
-ghost use Rattle.nats_pool.specs.Pools.{NewPool};
 ghost use Rattle.nats_dial.specs.Causes.{Onward};
 ghost use Rattle.nats_dial.specs.Tries.{IsUp};
 ghost use Rattle.nats_live.specs.Causes.{OffersNothing, WhyNotDialed, WhyNotLinked, WhyNotParsed};
@@ -11,7 +10,7 @@ use nats_client::World;
 use nats_dial::{ConnectError, ConnectErrorKind, ConnectOptions, Linked, Reach, try_connect};
 use nats_names::{AddrError, Cause, NoMemory};
 use nats_outside::seen;
-use nats_pool::{Pool, PoolOptions, ServerAddr, ServerInfo};
+use nats_pool::{Pool, ServerAddr, ServerInfo};
 use std::alloc::Global;
 
 // The server of this address.
@@ -29,18 +28,13 @@ fn server_of(alloc: Global, addr: &str) -> Result<ServerAddr, LiveError>
     }
 }
 
-// A pool of this server, on these options.
-fn pool_of(
-    alloc: Global,
-    server: ServerAddr,
-    options: PoolOptions,
-    start: u64,
-) -> Result<Pool, NoMemory>
-    ensures { IfOk result (NewPool (server ∷ []) options start) }
+// This server alone.
+fn alone(alloc: Global, server: ServerAddr) -> Result<Vec<ServerAddr>, NoMemory>
+    ensures { IfOk result (λ addrs. addrs.items ≡ server ∷ []) }
 {
     let mut addrs = Vec::new(alloc);
     addrs.push(server)?;
-    Pool::new(alloc, addrs, options, start)
+    Ok(addrs)
 }
 
 // A link to this server, by one round of connecting on default options over a pool of it alone.
@@ -56,8 +50,9 @@ fn link_to<W: Reach>(
         (W.Read.read_told linked.read) (W.Write.write_told linked.write)) }
     ensures refused { IfErr result (λ e. WhyNotLinked server (W.seen world.old) e (W.seen world.new)) }
 {
+    let addrs = alone(alloc, server)?;
     let mut options = ConnectOptions::new();
-    let mut pool = pool_of(alloc, server, options.take_pool_options(), start)?;
+    let mut pool = Pool::new(alloc, addrs, options.take_pool_options(), start)?;
     let last = ServerInfo::default(alloc);
     match try_connect(alloc, &mut pool, &options, &last, world) {
         Ok(linked) => Ok(linked),

@@ -3,7 +3,7 @@ use Rattle.std.proofs.Common.{subst}
 use Rattle.std.specs.Prelude.{IfErr}
 use Rattle.nats_outside.specs.Told.{Seen}
 use Rattle.nats_dial.specs.Causes.{Onward}
-use Rattle.nats_live.specs.Causes.{WhyNotDialed, WhyNotLinked}
+use Rattle.nats_live.specs.Causes.{WhyNotDialed}
 use Rattle.nats_live.proofs.Dialing.{if_err_to, not_dialed}
 use Rattle.nats_live.proofs.dial.dial.Goals as goal
 

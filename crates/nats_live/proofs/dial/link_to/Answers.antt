@@ -1,15 +1,16 @@
 -- A round on default options is one of a client that offers nothing, and of the pool's server alone.
-use Rattle.std.proofs.Common.{◌≡◌, ◌∙◌, ap, sym}
+use Rattle.std.proofs.Common.{◌∙◌, ap, map}
 use Rattle.nats_pool.specs.Auths.{auth_value}
 use Rattle.nats_pool.specs.Discovery.{Discovers}
 use Rattle.nats_pool.specs.Handing.{pool_told}
+use Rattle.nats_pool.specs.Servers.{new_server}
 use Rattle.nats_handshake.specs.Credentials.{SignerAnswers, AuthAnswers, Offers}
 use Rattle.nats_live.proofs.Dialing.{began_alone, begun_alone, failed_default, not_linked, offers_default, refuses_texts, up_default}
 use Rattle.nats_live.proofs.dial.link_to.Goals as goal
 
 pub returns-in-Ok-clause-up : goal.returns-in-Ok-clause-up
 returns-in-Ok-clause-up g c =
-    let o = c.take_pool_options.new.options in
+    let o = c.take_pool_options.new.self in
     let rest = c.take_pool_options.ensures.rest in
     up_default (Offers SignerAnswers AuthAnswers o.signer o.auth_callback (auth_value o.auth))
     (offers_default SignerAnswers AuthAnswers o.signer o.auth_callback (auth_value o.auth)
@@ -23,7 +24,7 @@ returns-in-Ok-clause-up g c =
 
 pub returns-clause-refused : goal.returns-clause-refused
 returns-clause-refused g c =
-    let o = c.take_pool_options.new.options in
+    let o = c.take_pool_options.new.self in
     let rest = c.take_pool_options.ensures.rest in
     let p = c.in_ok-pool.pool in
     rw c.connect_refused.ensures
@@ -43,7 +44,7 @@ returns-clause-refused g c =
     (ap (λ (x : _). x.connection_timeout) rest ∙ c.new-options.ensures.connection_timeout)
     _ _ _ c.in-Err.error _ c.in-Err.ensures.failed)
     (λ chosen n began round limit. begun_alone c.args.server p n chosen began.named (pool_told c.try_connect.new.pool)
-    c.in_ok-pool.ensures.servers
+    (c.in_ok-pool.ensures.servers ∙ ap (map new_server) c.in_ok-addrs.ensures)
     (ap (λ (x : _). x.max_reconnects) c.in_ok-pool.ensures.options
     ∙ (ap (λ (x : _). x.max_reconnects) c.take_pool_options.ensures.options ∙ c.new-options.ensures.max_reconnects))
     (rw (ap (λ (x : _). x.choice) c.in_ok-pool.ensures.options
