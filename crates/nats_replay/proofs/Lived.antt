@@ -1,12 +1,14 @@
 -- What each status says of commands on a live link.
-use Rattle.std.proofs.Common.{◌≡◌, ◌≢◌, refl, ◌∙◌, sym, ap, subst, inl, inr, ◌⊎◌, ℕ, arith, true, List, [], ◌∷◌, length, map, ◌<◌, ◌≤◌, Option, None, Some}
+use Rattle.std.proofs.Common.{◌≡◌, ◌≢◌, refl, ◌∙◌, sym, ap, subst, inl, inr, ◌⊎◌, ℕ, arith, Bool, true, false, if◌then◌else◌, List, [], ◌∷◌, length, get_or, map, ◌<◌, ◌≤◌, Option, None, Some}
+use Rattle.std.specs.Prelude.{codes, bytes_eq, not, option_and_then}
 use Rattle.std.specs.Io.KnownBytes.{Appends}
 use Rattle.nats_outside.specs.Told.{Seen}
+use Rattle.nats_script.specs.Spelling.{field_number}
 use Rattle.nats_live.specs.declared.error.LiveError.{LiveError}
 use Rattle.nats_live.specs.Causes.{WhyNotPublished, WhyNotReceived}
 use Rattle.nats_live.specs.Ended.{WasPublished, WasReceived}
 use Rattle.nats_replay.specs.Outside.{Rose, AppendsFront}
-use Rattle.nats_replay.specs.Live.{LiveWords, publishes, receives, others, live_of, LastShows, IsToldOf, LiveAnswers, LiveAnswersBy, is_told, PubAnswers, SubAnswers, PubPrints, SubPrints, PrintsAt, RefusalAnswers, published_line, error_line}
+use Rattle.nats_replay.specs.Live.{LiveWords, publishes, receives, others, live_of, in_sub, receives_by, LastShows, IsToldOf, LiveAnswers, LiveAnswersBy, is_told, PubAnswers, SubAnswers, PubPrints, SubPrints, PrintsAt, RefusalAnswers, published_line, error_line}
 use Rattle.nats_replay.specs.Words.{run_words, bulk_count, is_status_of_live}
 
 -- ---- words
@@ -230,45 +232,6 @@ sub_refused addr subject n a b e status faults faults_now old new why (inl (told
     inr (inr (e, told, why, prints))
 sub_refused addr subject n a b e status faults faults_now old new why (inr seven) = inl seven
 
--- ---- a cut text
-
-pub_rose : (addr subject payload : List ℕ) (a b : Seen) (status faults faults_now : ℕ) (old new : Option (List ℕ))
-    → PubAnswers addr subject payload a status b faults faults_now old new → status ≡ 4 → Rose faults faults_now
-pub_rose addr subject payload a b status faults faults_now old new (inl seven) four = absurd (omega (arith, four, seven))
-pub_rose addr subject payload a b status faults faults_now old new (inr (inl (shows, inl (zero, text)))) four =
-    absurd (omega (arith, four, zero))
-pub_rose addr subject payload a b status faults faults_now old new (inr (inl (shows, inr (is, rose, text)))) four = rose
-pub_rose addr subject payload a b status faults faults_now old new (inr (inr (e, told, why, inl (nine, text)))) four =
-    absurd (omega (arith, four, nine))
-pub_rose addr subject payload a b status faults faults_now old new (inr (inr (e, told, why, inr (is, rose, text))))
-    four =
-    rose
-
-sub_rose : (addr subject : List ℕ) (n : ℕ) (a b : Seen) (status faults faults_now : ℕ) (old new : Option (List ℕ))
-    → SubAnswers addr subject n a status b faults faults_now old new → status ≡ 4 → Rose faults faults_now
-sub_rose addr subject n a b status faults faults_now old new (inl seven) four = absurd (omega (arith, four, seven))
-sub_rose addr subject n a b status faults faults_now old new (inr (inl (text, shows, inl (zero, all)))) four =
-    absurd (omega (arith, four, zero))
-sub_rose addr subject n a b status faults faults_now old new (inr (inl (text, shows, inr (is, rose, front)))) four =
-    rose
-sub_rose addr subject n a b status faults faults_now old new (inr (inr (e, told, why, inl (nine, text)))) four =
-    absurd (omega (arith, four, nine))
-sub_rose addr subject n a b status faults faults_now old new (inr (inr (e, told, why, inr (is, rose, text)))) four =
-    rose
-
-rose_by : (w : LiveWords) (a b : Seen) (status faults faults_now : ℕ) (old new : Option (List ℕ))
-    → LiveAnswersBy w a (Some status) b faults faults_now old new → status ≡ 4 → Rose faults faults_now
-rose_by (publishes addr subject payload) a b status faults faults_now old new answers four =
-    pub_rose addr subject payload a b status faults faults_now old new answers four
-rose_by (receives addr subject n) a b status faults faults_now old new answers four =
-    sub_rose addr subject n a b status faults faults_now old new answers four
-rose_by others a b status faults faults_now old new answers four = absurd answers
-
-pub live_rose : (words : List (List ℕ)) (a b : Seen) (status faults faults_now : ℕ) (old new : Option (List ℕ))
-    → LiveAnswers words a (Some status) b faults faults_now old new → status ≡ 4 → Rose faults faults_now
-live_rose words a b status faults faults_now old new answers four =
-    rose_by (live_of words) a b status faults faults_now old new answers four
-
 -- ---- words that are four, and others
 
 pub fewer_not_live : {A : Type 0} (text : A → List ℕ) (words : List A) → length words < 4
@@ -279,14 +242,56 @@ fewer_not_live text (w ∷ x ∷ []) few = refl
 fewer_not_live text (w ∷ x ∷ y ∷ []) few = refl
 fewer_not_live text (w ∷ x ∷ y ∷ z ∷ more) few = absurd (omega arith)
 
-pub more_not_live : {A : Type 0} (text : A → List ℕ) (words : List A) → 5 ≤ length words
-    → live_of (map text words) ≡ others
-more_not_live text [] many = absurd (omega arith)
-more_not_live text (w ∷ []) many = absurd (omega arith)
-more_not_live text (w ∷ x ∷ []) many = absurd (omega arith)
-more_not_live text (w ∷ x ∷ y ∷ []) many = absurd (omega arith)
-more_not_live text (w ∷ x ∷ y ∷ z ∷ []) many = absurd (omega arith)
-more_not_live text (w ∷ x ∷ y ∷ z ∷ v ∷ more) many = refl
+-- each of four words is the one at its place
+pub four_words : {A : Type 0} (text : A → List ℕ) (words : List A) (w a s l : A) → 4 ≤ length words → length words < 5
+    → w ≡ get_or words 0 w → a ≡ get_or words 1 a → s ≡ get_or words 2 s → l ≡ get_or words 3 l
+    → map text words ≡ text w ∷ text a ∷ text s ∷ text l ∷ []
+four_words text [] w a s l some few is1 is2 is3 is4 = absurd (omega arith)
+four_words text (x ∷ []) w a s l some few is1 is2 is3 is4 = absurd (omega arith)
+four_words text (x ∷ y ∷ []) w a s l some few is1 is2 is3 is4 = absurd (omega arith)
+four_words text (x ∷ y ∷ z ∷ []) w a s l some few is1 is2 is3 is4 = absurd (omega arith)
+four_words {A = A} text (x ∷ y ∷ z ∷ v ∷ []) w a s l some few is1 is2 is3 is4 =
+    ap (λ (t : A). text t ∷ text y ∷ text z ∷ text v ∷ []) (sym is1)
+    ∙ (ap (λ (t : A). text w ∷ text t ∷ text z ∷ text v ∷ []) (sym is2)
+    ∙ (ap (λ (t : A). text w ∷ text a ∷ text t ∷ text v ∷ []) (sym is3)
+    ∙ ap (λ (t : A). text w ∷ text a ∷ text s ∷ text t ∷ []) (sym is4)))
+four_words text (x ∷ y ∷ z ∷ v ∷ u ∷ more) w a s l some few is1 is2 is3 is4 = absurd (omega arith)
+
+-- what four words ask for, by whether the first is `pub`, whether it is `sub`, and the number that the last spells
+abbrev asked : (a s l : List ℕ) → Bool → Bool → Option ℕ → LiveWords
+asked a s l is_pub is_sub number =
+    if is_pub then publishes a s l else (if is_sub then receives_by a s number else others)
+
+asked_of : (w a s l : List ℕ) → live_of (w ∷ a ∷ s ∷ l ∷ []) ≡ asked a s l (bytes_eq w (codes "pub"))
+    (bytes_eq w (codes "sub")) (option_and_then in_sub (field_number l))
+asked_of w a s l = refl
+
+not_pub : (w a s l : List ℕ) → bytes_eq w (codes "pub") ≡ false → live_of (w ∷ a ∷ s ∷ l ∷ []) ≡ asked a s l false
+    (bytes_eq w (codes "sub")) (option_and_then in_sub (field_number l))
+not_pub w a s l other =
+    asked_of w a s l
+    ∙ ap (λ (b : Bool). asked a s l b (bytes_eq w (codes "sub")) (option_and_then in_sub (field_number l))) other
+
+live_receives : (w a s l : List ℕ) (n : ℕ) → bytes_eq w (codes "pub") ≡ false → bytes_eq w (codes "sub") ≡ true
+    → option_and_then in_sub (field_number l) ≡ Some n → live_of (w ∷ a ∷ s ∷ l ∷ []) ≡ receives a s n
+live_receives w a s l n other is number =
+    not_pub w a s l other
+    ∙ (ap (λ (b : Bool). asked a s l false b (option_and_then in_sub (field_number l))) is
+    ∙ ap (λ (o : Option ℕ). asked a s l false true o) number)
+
+pub not_false : (b : Bool) → not b ≡ false → b ≡ true
+not_false true is = refl
+not_false false is = cc
+
+-- what receiving comes to is what the words come to that ask for it
+pub receives_answer : (words : List (List ℕ)) (w a s l : List ℕ) (n : ℕ) (x y : Seen) (status faults faults_now : ℕ)
+    (old new : Option (List ℕ)) → words ≡ w ∷ a ∷ s ∷ l ∷ [] → bytes_eq w (codes "pub") ≡ false
+    → bytes_eq w (codes "sub") ≡ true → option_and_then in_sub (field_number l) ≡ Some n
+    → SubAnswers a s n x status y faults faults_now old new
+    → LiveAnswers words x (Some status) y faults faults_now old new
+receives_answer words w a s l n x y status faults faults_now old new four other is number answers =
+    subst (λ (asks : LiveWords). LiveAnswersBy asks x (Some status) y faults faults_now old new)
+    (sym (ap live_of four ∙ live_receives w a s l n other is number)) answers
 
 pub others_answer : (words : List (List ℕ)) (a : Seen) (faults : ℕ) (old : Option (List ℕ)) → live_of words ≡ others
     → LiveAnswers words a None a faults faults old old
