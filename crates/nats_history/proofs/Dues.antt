@@ -14,7 +14,7 @@ use Rattle.nats_history.specs.After.{after, after_all, due_steps_within, due_ste
 
 -- ---- each due step brings the end nearer
 
-nothing_there : front [] ≡ unfinished
+pub nothing_there : front [] ≡ unfinished
 unfolding front sight
 nothing_there = refl
 

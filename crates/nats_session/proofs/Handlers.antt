@@ -25,6 +25,8 @@ use Rattle.nats_history.specs.History.{Step, accepted, took, passed, History, as
 use Rattle.nats_history.specs.Parts.{Subs, Parts}
 use Rattle.nats_history.specs.Schedule.{refusal, reply_by, accepted_reply, call_reply, accepted_step, gone_step, call_steps, is_closed_sub, oldest, sub_take, take_reply_of, take_reply, is_there, took_step, own_steps, due, put_steps, chain, due_chain}
 use Rattle.nats_history.specs.After.{new_sub, sub_after, subs_after, after, after_all, events_of, settled_of}
+use Rattle.nats_wire.specs.Operations.{unfinished, front}
+use Rattle.nats_history.proofs.Dues.{nothing_there}
 use Rattle.nats_history.proofs.Refines.{parts_after}
 use Rattle.nats_tables.proofs.Numbers.{at_number_same, agree_at}
 use Rattle.nats_subs.specs.declared.subs.subscription.Alteration.TheVariants as alterations
@@ -34,6 +36,12 @@ use Rattle.nats_tickets.specs.Kept as tickets_kept
 use Rattle.nats_tickets.proofs.Marks.{pushed}
 use Rattle.nats_session.specs.Machine.{quiet}
 use Rattle.nats_session.specs.Handler.{Seen, kept_of, HandedOut, settled_tickets, without_all, StoodThere, StandsFor, push_all, seen_after, seen_all, LeadTo, can_play, Advances, Answers, Submits, handed, HandsOut, handed_reply, HandsReply}
+
+-- ---- nothing stands at the front where no byte is unread
+
+pub none_unread : (bytes : List ℕ) → length bytes ≡ 0 → front bytes ≡ unfinished
+none_unread [] none = nothing_there
+none_unread (b ∷ bytes) none = cc
 
 -- ---- a take where nothing waits changes nothing
 

@@ -85,7 +85,7 @@ impl Connection {
     }
 
     /// Looks at the front of the unread bytes and remembers what that told, so that `peek_op` and `is_unfinished`
-    /// cost little until bytes come or go: for a caller that asks by them. Own call.
+    /// cost little while an operation comes in pieces: for a caller that asks by them. Own call.
     pub fn look(&mut self)
         ensures same { self.new ≡ record self.old { untested = self.new.untested } }
         ensures untested { self.new.untested ≤ self.old.untested }

@@ -2,13 +2,13 @@
 ghost use Rattle.std.specs.Prelude.{◌≡◌, ◌+◌, ◌<◌, ◌≤◌, length, IfOk, option_map};
 ghost use Rattle.nats_info.specs.Fields.{info_at};
 ghost use Rattle.nats_block.specs.Block.{block_of};
-ghost use Rattle.nats_wire.specs.Operations.{info_op, message, with_block, op_view, op_of, whole, sight};
+ghost use Rattle.nats_wire.specs.Operations.{info_op, message, with_block, op_view, peeked_view, op_of, whole, sight};
 ghost use Rattle.nats_wire.specs.Decoder.{op_text_view, message_view, error_view, EndsAt};
 
 use crate::decode::{MessageText, OpText};
 use crate::error_line::ErrorText;
 use crate::message::Message;
-use crate::op::ServerOp;
+use crate::op::{PeekedOp, ServerOp};
 use nats_block::{Block, BlockError, read_block};
 use nats_info::{InfoError, read_info};
 use nats_names::{Bytes, NoMemory, ServerError, Subject, Text};
@@ -220,5 +220,55 @@ pub fn operation_kept(
     match buf.shared() {
         Some(bytes) => operation_in(alloc, bytes, text, len),
         None => operation(alloc, text),
+    }
+}
+
+// The message of a text that takes the first `len` of kept bytes, which it shares where they can be shared.
+fn message_kept(
+    alloc: Global,
+    buf: &InBuf,
+    text: &MessageText<'_>,
+    len: usize,
+) -> Result<Message, NoMemory>
+    requires { EndsAt buf.now len text.now.payload.now }
+    ensures { IfOk result (λ copy. copy ≡ message_view text.now) }
+{
+    match buf.shared() {
+        Some(bytes) => message_in(alloc, bytes, text, len, PLAIN),
+        None => message(alloc, text),
+    }
+}
+
+// The same as it is handed on before it is consumed, put straight into its box.
+fn message_boxed(
+    alloc: Global,
+    buf: &InBuf,
+    sid: u64,
+    text: &MessageText<'_>,
+    len: usize,
+) -> Result<PeekedOp, NoMemory>
+    requires { EndsAt buf.now len text.now.payload.now }
+    ensures { IfOk result (λ op. peeked_view op ≡ message sid (message_view text.now)) }
+{
+    let message = Box::new(alloc, message_kept(alloc, buf, text, len)?)?;
+    Ok(PeekedOp::Message { sid, message })
+}
+
+/// `operation_kept` for whoever hands the operation on before it is consumed.
+pub fn peeked_kept(
+    alloc: Global,
+    buf: &InBuf,
+    text: &OpText<'_>,
+    len: usize,
+) -> Result<Option<PeekedOp>, NoMemory>
+    requires { whole (op_text_view text.now) len ≡ sight buf.now }
+    ensures { IfOk result (λ op. option_map peeked_view op ≡ op_of (op_text_view text.now)) }
+{
+    if let OpText::Message { sid, message } = text {
+        return Ok(Some(message_boxed(alloc, buf, *sid, message, len)?));
+    }
+    match operation_kept(alloc, buf, text, len)? {
+        Some(op) => Ok(Some(PeekedOp::boxed(alloc, op)?)),
+        None => Ok(None),
     }
 }

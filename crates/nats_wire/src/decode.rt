@@ -100,11 +100,16 @@ fn line_at(bytes: &[u8], end: usize) -> Line<'_>
     }
 }
 
+// The words are tested in another order than the grammar names them, since messages are most of what comes.
 fn first_word(line: &[u8]) -> Word
     ensures word { result ≡ word_of line.now }
     ensures long { word_len result ≤ length line.now }
 {
-    if line.starts_with(b"+OK") {
+    if line.starts_with(b"MSG ") {
+        Word::Message
+    } else if line.starts_with(b"HMSG ") {
+        Word::HeaderMessage
+    } else if line.starts_with(b"+OK") {
         Word::Ok
     } else if line.starts_with(b"PING") {
         Word::Ping
@@ -114,10 +119,6 @@ fn first_word(line: &[u8]) -> Word
         Word::Error
     } else if line.starts_with(b"INFO ") {
         Word::Info
-    } else if line.starts_with(b"MSG ") {
-        Word::Message
-    } else if line.starts_with(b"HMSG ") {
-        Word::HeaderMessage
     } else {
         Word::Other
     }

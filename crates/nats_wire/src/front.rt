@@ -60,10 +60,10 @@ pub(crate) fn front_kept(alloc: Global, buf: &InBuf, seen: Sight<'_>) -> Result<
     match seen {
         Sight::Unfinished => Ok(Front::Unfinished),
         Sight::Fault(n) => Ok(Front::Fault(n)),
-        Sight::Whole(text, len) => {
-            let found = copies::operation_kept(alloc, buf, &text, len)?;
-            front_with(alloc, found, &text, len)
-        }
+        Sight::Whole(text, len) => match copies::peeked_kept(alloc, buf, &text, len)? {
+            Some(op) => Ok(Front::Got(op, len)),
+            None => Ok(Front::Fault(text.lost_at(len))),
+        },
     }
 }
 

@@ -124,14 +124,6 @@ impl Unread {
         }
     }
 
-    // The same, and that is remembered.
-    fn search<L: Ledger>(&mut self, steps: &mut Steps<L>)
-        ensures same { self.new.bytes ≡ self.old.bytes }
-        ensures paid { Paid steps.old self.old.untested steps.new self.new.untested }
-    {
-        self.found = self.search_on(steps);
-    }
-
     fn sight_counted<L: Ledger>(&self, blank: Blank) -> Sight<'_>
         requires name { blank.name ≡ L.name }
         requires parts { (blank.parts ≡ L.parts) × (0 < L.parts) }
@@ -177,12 +169,15 @@ impl Unread {
     // next piece, which is copied then, is at most twice what the last piece had. A short text that begins with no
     // message isn't worth it.
     fn is_worth_sharing(&self) -> bool {
+        if !self.found.ended {
+            return false;
+        }
         let bytes = self.buf.as_slice();
-        let begins = bytes.starts_with(b"MSG ") || bytes.starts_with(b"HMSG ");
-        self.found.ended
-            && bytes.len() >= self.needed
+        bytes.len() >= self.needed
             && bytes.len() / 2 <= self.fed
-            && (begins || bytes.len() >= SHARED_LEAST)
+            && (bytes.len() >= SHARED_LEAST
+                || bytes.starts_with(b"MSG ")
+                || bytes.starts_with(b"HMSG "))
     }
 
     fn share(&mut self)
@@ -193,17 +188,37 @@ impl Unread {
         }
     }
 
-    /// Looks at the front, and remembers what that told. Messages share the bytes from now on where that is worth it.
+    // Looks on for the end of the first line, and remembers how far. Messages share the bytes from now on where that
+    // is worth it.
+    fn search<L: Ledger>(&mut self, steps: &mut Steps<L>)
+        ensures same { self.new.bytes ≡ self.old.bytes }
+        ensures paid { Paid steps.old self.old.untested steps.new self.new.untested }
+    {
+        self.found = self.search_on(steps);
+        self.share();
+    }
+
+    // Reads the line at the front, and remembers what that told.
+    fn look_into(&mut self)
+        ensures { self.new ≡ self.old }
+    {
+        if self.is_unfinished() {
+            self.await_body();
+        } else {
+            self.ready = true;
+        }
+    }
+
+    /// Looks for the end of the first line, and remembers how far. Where an operation was begun by an earlier piece
+    /// its line is read too, so that it isn't read again at each further piece; what came in one piece is read once,
+    /// by whoever asks for it.
     pub fn look<L: Ledger>(&mut self, steps: &mut Steps<L>)
         ensures same { self.new.bytes ≡ self.old.bytes }
         ensures paid { Paid steps.old self.old.untested steps.new self.new.untested }
     {
         self.search(steps);
-        self.share();
-        if self.is_unfinished() {
-            self.await_body();
-        } else {
-            self.ready = true;
+        if self.buf.len() > self.fed {
+            self.look_into();
         }
     }
 
@@ -227,7 +242,6 @@ impl Unread {
         ensures paid { Paid steps.old self.old.untested steps.new self.new.untested }
     {
         self.search(steps);
-        self.share();
         match self.sight() {
             Sight::Unfinished => {
                 self.await_body();

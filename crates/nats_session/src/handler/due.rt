@@ -166,6 +166,9 @@ impl ConnectionHandler {
         if !self.is_up {
             return Ok(Look::Nothing);
         }
+        if self.connection.unread() == 0 {
+            return Ok(self.look_at_calls());
+        }
         match self.connection.peek_op(alloc) {
             Ok(Some(peeked)) => Ok(Look::Read(peeked)),
             Ok(None) => Ok(self.look_at_calls()),
