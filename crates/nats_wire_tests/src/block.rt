@@ -1,8 +1,9 @@
 //! What no clause says: blocks of the protocol with what they mean.
 use nats_block::{Block, BlockError, read_block};
 use nats_header::HeaderMap;
-use nats_names::Text;
+use nats_names::{NoMemory, Text};
 use std::alloc::Global;
+use std::process::Abort;
 use std::test::Fail;
 
 fn status_of(block: &Block) -> u16 {
@@ -19,6 +20,24 @@ fn text_of(text: &Option<Text>) -> &str {
     }
 }
 
+fn assert_block<R: Abort>(rt: &R, block: &Block, status: u16, description: &str) {
+    assert_eq!(rt; status_of(block), status);
+    assert_eq!(rt; text_of(&block.description), description);
+    assert!(rt; block.headers.is_empty());
+}
+
+fn assert_first_line<R: Abort>(
+    rt: &R,
+    alloc: Global,
+    text: &str,
+    status: u16,
+    description: &str,
+) -> Result<(), BlockError> {
+    let block = read_block(alloc, text.as_bytes())?;
+    assert_block(rt, &block, status, description);
+    Ok(())
+}
+
 #[test]
 fn a_first_line_is_a_status_and_a_description(rt: HostRuntime) -> Result<(), Fail> {
     for (text, status, description) in [
@@ -29,10 +48,7 @@ fn a_first_line_is_a_status_and_a_description(rt: HostRuntime) -> Result<(), Fai
         ("NATS/1.0  100\u{2003} Idle \t\r\n", 100, "Idle"),
         ("NATS/1.0 404 \r", 404, ""),
     ] {
-        let block = read_block(rt.alloc(), text.as_bytes())?;
-        assert_eq!(rt; status_of(&block), status);
-        assert_eq!(rt; text_of(&block.description), description);
-        assert!(rt; block.headers.is_empty());
+        assert_first_line(&rt, rt.alloc(), text, status, description)?;
     }
     Ok(())
 }
@@ -42,6 +58,26 @@ fn value_of<'a>(headers: &'a HeaderMap, name: &str) -> &'a str {
         Some(value) => value.as_str(),
         None => "none",
     }
+}
+
+fn assert_value<R: Abort>(rt: &R, headers: &HeaderMap, name: &str, value: &str) {
+    assert_eq!(rt; value_of(headers, name), value);
+}
+
+fn assert_line<R: Abort>(
+    rt: &R,
+    alloc: Global,
+    text: &str,
+    name: &str,
+    value: &str,
+) -> Result<(), BlockError> {
+    let block = read_block(alloc, text.as_bytes())?;
+    assert_value(rt, &block.headers, name, value);
+    Ok(())
+}
+
+fn with_first_line(alloc: Global, lines: &str) -> Result<String, NoMemory> {
+    Ok(format!(in alloc; "NATS/1.0\r\n{lines}")?)
 }
 
 #[test]
@@ -60,9 +96,8 @@ fn a_line_is_a_name_and_a_value(rt: HostRuntime) -> Result<(), Fail> {
         (": x\r\n", "", "x"),
         ("A: 1\r\n", "a", "none"),
     ] {
-        let text = format!(in rt.alloc(); "NATS/1.0\r\n{lines}")?;
-        let block = read_block(rt.alloc(), text.as_str().as_bytes())?;
-        assert_eq!(rt; value_of(&block.headers, name), value);
+        let text = with_first_line(rt.alloc(), lines)?;
+        assert_line(&rt, rt.alloc(), text.as_str(), name, value)?;
     }
     Ok(())
 }

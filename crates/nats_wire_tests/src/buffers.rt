@@ -3,6 +3,7 @@ ghost use Rattle.std.specs.Prelude.{◌≡◌, ◌<◌};
 use nats_outbuf::{Bytes, InBuf, NoMemory, OutBuf, Steps};
 use std::alloc::Global;
 use std::marker::Brand;
+use std::process::Abort;
 use std::sync::ledger::{Blank, Ledger};
 use std::test::Fail;
 
@@ -44,26 +45,34 @@ fn many(alloc: Global) -> Result<OutBuf, NoMemory> {
     Ok(out)
 }
 
-#[test]
-fn texts_wait_in_order_and_are_taken_in_parts(rt: HostRuntime) -> Result<(), Fail> {
-    let mut out = joined(rt.alloc())?;
+fn assert_texts<R: Abort>(rt: &R, alloc: Global, out: &mut OutBuf) -> Result<(), NoMemory> {
     assert_eq!(rt; out.pending(), 5_013);
-    assert_eq!(rt; handed_out(rt.alloc(), &mut out)?, (5_013, 3));
-    assert_eq!(rt; take_some(&mut out, 12), 5_001);
-    assert_eq!(rt; handed_out(rt.alloc(), &mut out)?, (5_001, 2));
+    assert_eq!(rt; handed_out(alloc, out)?, (5_013, 3));
+    assert_eq!(rt; take_some(out, 12), 5_001);
+    assert_eq!(rt; handed_out(alloc, out)?, (5_001, 2));
     assert!(rt; !out.is_full());
     Ok(())
 }
 
 #[test]
-fn pieces_are_handed_out_64_at_a_time(rt: HostRuntime) -> Result<(), Fail> {
-    let mut out = many(rt.alloc())?;
+fn texts_wait_in_order_and_are_taken_in_parts(rt: HostRuntime) -> Result<(), NoMemory> {
+    let mut out = joined(rt.alloc())?;
+    assert_texts(&rt, rt.alloc(), &mut out)
+}
+
+fn assert_pieces<R: Abort>(rt: &R, alloc: Global, out: &mut OutBuf) -> Result<(), NoMemory> {
     assert!(rt; out.is_full());
-    assert_eq!(rt; handed_out(rt.alloc(), &mut out)?, (262_144, 64));
-    assert_eq!(rt; take_some(&mut out, 262_145), 24_575);
+    assert_eq!(rt; handed_out(alloc, out)?, (262_144, 64));
+    assert_eq!(rt; take_some(out, 262_145), 24_575);
     out.clear();
-    assert_eq!(rt; handed_out(rt.alloc(), &mut out)?, (0, 0));
+    assert_eq!(rt; handed_out(alloc, out)?, (0, 0));
     Ok(())
+}
+
+#[test]
+fn pieces_are_handed_out_64_at_a_time(rt: HostRuntime) -> Result<(), NoMemory> {
+    let mut out = many(rt.alloc())?;
+    assert_pieces(&rt, rt.alloc(), &mut out)
 }
 
 /// What is left of joined texts once the first `n` bytes are kept.

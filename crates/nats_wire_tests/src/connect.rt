@@ -2,9 +2,8 @@ use nats_connect::{ConnectInfo, NoMemory, Protocol, Text, connect_text};
 use std::alloc::Global;
 use std::test::Fail;
 
-// One that says nothing but the language and the version.
-fn plain(alloc: Global) -> Result<ConnectInfo, NoMemory> {
-    Ok(ConnectInfo {
+fn plain_of(lang: Text, version: Text) -> ConnectInfo {
+    ConnectInfo {
         verbose: false,
         pedantic: false,
         user_jwt: None,
@@ -12,8 +11,8 @@ fn plain(alloc: Global) -> Result<ConnectInfo, NoMemory> {
         signature: None,
         name: None,
         echo: false,
-        lang: Text::from_text(alloc, "Rust")?,
-        version: Text::from_text(alloc, "1.0.0")?,
+        lang,
+        version,
         protocol: Protocol::Dynamic,
         tls_required: false,
         user: None,
@@ -21,14 +20,22 @@ fn plain(alloc: Global) -> Result<ConnectInfo, NoMemory> {
         auth_token: None,
         headers: false,
         no_responders: false,
-    })
+    }
 }
 
-fn says(alloc: Global, info: ConnectInfo, text: &str) -> Result<bool, NoMemory> {
-    Ok(connect_text(alloc, &info)?.as_slice() == text.as_bytes())
+/// One that says nothing but the language and the version.
+pub fn plain(alloc: Global) -> Result<ConnectInfo, NoMemory> {
+    let lang = Text::from_text(alloc, "Rust")?;
+    let version = Text::from_text(alloc, "1.0.0")?;
+    Ok(plain_of(lang, version))
 }
 
-const PLAIN: &str = "CONNECT {\"verbose\":false,\"pedantic\":false,\"jwt\":null,\"nkey\":null,\
+fn says(alloc: Global, info: &ConnectInfo, text: &str) -> Result<bool, NoMemory> {
+    Ok(connect_text(alloc, info)?.as_slice() == text.as_bytes())
+}
+
+/// The text of a plain one.
+pub const PLAIN: &str = "CONNECT {\"verbose\":false,\"pedantic\":false,\"jwt\":null,\"nkey\":null,\
         \"sig\":null,\"name\":null,\"echo\":false,\"lang\":\"Rust\",\"version\":\"1.0.0\",\"protocol\":1,\
         \"tls_required\":false,\"user\":null,\"pass\":null,\"auth_token\":null,\"headers\":false,\
         \"no_responders\":false}\r\n";
@@ -50,11 +57,19 @@ fn escaped(alloc: Global) -> Result<ConnectInfo, NoMemory> {
     Ok(renamed(plain(alloc)?, name))
 }
 
+fn plain_says(alloc: Global, text: &str) -> Result<bool, NoMemory> {
+    says(alloc, &plain(alloc)?, text)
+}
+
+fn escaped_says(alloc: Global, text: &str) -> Result<bool, NoMemory> {
+    says(alloc, &escaped(alloc)?, text)
+}
+
 #[test]
 fn absent_texts_are_null_and_others_are_escaped(rt: HostRuntime) -> Result<(), Fail> {
     let alloc = rt.alloc();
-    assert!(rt; says(alloc, plain(alloc)?, PLAIN)?);
-    assert!(rt; says(alloc, escaped(alloc)?, ESCAPED)?);
+    assert!(rt; plain_says(alloc, PLAIN)?);
+    assert!(rt; escaped_says(alloc, ESCAPED)?);
     Ok(())
 }
 
@@ -62,26 +77,32 @@ fn some(alloc: Global, text: &str) -> Result<Option<Text>, NoMemory> {
     Ok(Some(Text::from_text(alloc, text)?))
 }
 
-fn keep(
+fn with_tokens(
     mut info: ConnectInfo,
     user_jwt: Option<Text>,
-    signature: Option<Text>,
-    pass: Option<Text>,
     auth_token: Option<Text>,
 ) -> ConnectInfo {
     info.user_jwt = user_jwt;
-    info.signature = signature;
-    info.pass = pass;
     info.auth_token = auth_token;
     info
 }
 
-fn with_secrets(alloc: Global, secret: &str) -> Result<ConnectInfo, NoMemory> {
+fn secret_tokens(alloc: Global, secret: &str) -> Result<ConnectInfo, NoMemory> {
     let user_jwt = some(alloc, secret)?;
+    let auth_token = some(alloc, secret)?;
+    Ok(with_tokens(plain(alloc)?, user_jwt, auth_token))
+}
+
+fn with_proofs(mut info: ConnectInfo, signature: Option<Text>, pass: Option<Text>) -> ConnectInfo {
+    info.signature = signature;
+    info.pass = pass;
+    info
+}
+
+fn with_secrets(alloc: Global, secret: &str) -> Result<ConnectInfo, NoMemory> {
     let signature = some(alloc, secret)?;
     let pass = some(alloc, secret)?;
-    let auth_token = some(alloc, secret)?;
-    Ok(keep(plain(alloc)?, user_jwt, signature, pass, auth_token))
+    Ok(with_proofs(secret_tokens(alloc, secret)?, signature, pass))
 }
 
 fn printed(alloc: Global, info: &ConnectInfo) -> Result<String, NoMemory> {
@@ -103,10 +124,14 @@ fn copies(alloc: Global, info: &ConnectInfo) -> Result<bool, NoMemory> {
     Ok(info.copy(alloc)? == *info)
 }
 
+fn plain_copies(alloc: Global) -> Result<bool, NoMemory> {
+    copies(alloc, &plain(alloc)?)
+}
+
 #[test]
 fn the_texts_of_secrets_are_not_printed(rt: HostRuntime) -> Result<(), Fail> {
     let alloc = rt.alloc();
     assert!(rt; prints_alike(alloc, "one", "other")?);
-    assert!(rt; copies(alloc, &plain(alloc)?)?);
+    assert!(rt; plain_copies(alloc)?);
     Ok(())
 }

@@ -8,6 +8,11 @@ fn json_of(alloc: Global, text: &str) -> Result<Value, JsonError> {
     Value::from_str(alloc, text).map_err(|_| JsonError::NoMemory)
 }
 
+fn json_text(alloc: Global, map: &HeaderMap) -> Result<String, NoMemory> {
+    let json = map.to_json(alloc)?;
+    Ok(json.to_string(alloc)?)
+}
+
 // The names in order, each with a bar behind it, and then the map's JSON.
 fn shown(alloc: Global, map: &HeaderMap) -> Result<String, NoMemory> {
     let mut text = String::new(alloc);
@@ -15,12 +20,16 @@ fn shown(alloc: Global, map: &HeaderMap) -> Result<String, NoMemory> {
         text.push_str(name.as_str())?;
         text.push('|')?;
     }
-    text.push_str(map.to_json(alloc)?.to_string(alloc)?.as_str())?;
+    text.push_str(json_text(alloc, map)?.as_str())?;
     Ok(text)
 }
 
+fn map_of(alloc: Global, text: &str) -> Result<HeaderMap, JsonError> {
+    HeaderMap::from_json(alloc, &json_of(alloc, text)?)
+}
+
 fn read_as(alloc: Global, text: &str) -> Result<String, JsonError> {
-    let map = HeaderMap::from_json(alloc, &json_of(alloc, text)?)?;
+    let map = map_of(alloc, text)?;
     Ok(shown(alloc, &map)?)
 }
 

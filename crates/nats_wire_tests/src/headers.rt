@@ -5,11 +5,20 @@ use nats_header::{
 };
 use nats_names::NoMemory;
 use std::alloc::Global;
+use std::process::Abort;
 use std::test::Fail;
 
 fn name_keeps_text(alloc: Global, text: &str) -> Result<bool, HeaderError> {
     let name = HeaderName::parse(alloc, text)?;
     Ok(name.copy(alloc)? == name && name.as_str() == text)
+}
+
+fn are_equal(name: HeaderName, other: HeaderName) -> bool {
+    name == other
+}
+
+fn is_name(name: HeaderName, text: &str) -> bool {
+    name.as_str() == text
 }
 
 #[test]
@@ -21,8 +30,13 @@ fn a_name_has_visible_characters_but_no_colon(rt: HostRuntime) -> Result<(), Fai
     for text in ["Bad Name", "Bad:Name", "Bad\r", "Größe"] {
         assert!(rt; name_keeps_text(alloc, text) == Err(HeaderError::Name));
     }
-    assert!(rt; HeaderName::from_static("Key") != HeaderName::from_static("key"));
-    assert!(rt; NATS_MESSAGE_ID().as_str() == "Nats-Msg-Id");
+    assert!(rt;
+        !are_equal(
+            HeaderName::from_static("Key"),
+            HeaderName::from_static("key")
+        )
+    );
+    assert!(rt; is_name(NATS_MESSAGE_ID(), "Nats-Msg-Id"));
     Ok(())
 }
 
@@ -163,21 +177,23 @@ fn two_values(alloc: Global) -> Result<HeaderMap, HeaderError> {
     Ok(map)
 }
 
-#[test]
-fn an_appended_value_follows_the_others(rt: HostRuntime) -> Result<(), Fail> {
-    let map = two_values(rt.alloc())?;
-    assert!(rt;
-        map.get("Key")
-            .is_some_and(|value| value.as_str() == "value")
-    );
-    assert!(rt;
-        map.get_last("Key")
-            .is_some_and(|value| value.as_str() == "other")
-    );
+fn is_value(value: Option<&HeaderValue>, text: &str) -> bool {
+    value.is_some_and(|value| value.as_str() == text)
+}
+
+fn assert_two_values<R: Abort>(rt: &R, alloc: Global, map: &HeaderMap) -> Result<(), HeaderError> {
+    assert!(rt; is_value(map.get("Key"), "value"));
+    assert!(rt; is_value(map.get_last("Key"), "other"));
     assert!(rt; map.get("key").is_none() && map.get_last("No Name").is_none());
-    assert!(rt; are_joined(rt.alloc(), &map, "Key", "value|other|")?);
+    assert!(rt; are_joined(alloc, map, "Key", "value|other|")?);
     assert!(rt; map.len() == 1 && !map.is_empty());
     Ok(())
+}
+
+#[test]
+fn an_appended_value_follows_the_others(rt: HostRuntime) -> Result<(), HeaderError> {
+    let map = two_values(rt.alloc())?;
+    assert_two_values(&rt, rt.alloc(), &map)
 }
 
 #[test]
@@ -197,20 +213,28 @@ fn an_inserted_value_stands_alone(rt: HostRuntime) -> Result<(), Fail> {
     Ok(())
 }
 
-#[test]
-fn a_refused_header_leaves_the_map_as_it_was(rt: HostRuntime) -> Result<(), Fail> {
-    let mut map = two_values(rt.alloc())?;
+fn assert_refused<R: Abort>(rt: &R, alloc: Global, map: &mut HeaderMap) {
     for (name, value, error) in [
         ("Bad Name", "x", HeaderError::Name),
         ("Bad:Name", "x\r", HeaderError::Name),
         ("Key", "x\n", HeaderError::Value),
     ] {
-        assert!(rt; map.insert(rt.alloc(), name, value) == Err(error));
-        assert!(rt; map.append(rt.alloc(), name, value) == Err(error));
+        assert!(rt; map.insert(alloc, name, value) == Err(error));
+        assert!(rt; map.append(alloc, name, value) == Err(error));
     }
-    assert!(rt; are_joined(rt.alloc(), &map, "Key", "value|other|")?);
-    assert!(rt; are_counted(rt.alloc(), &map, "Key||")?);
+}
+
+fn assert_kept<R: Abort>(rt: &R, alloc: Global, map: &HeaderMap) -> Result<(), HeaderError> {
+    assert!(rt; are_joined(alloc, map, "Key", "value|other|")?);
+    assert!(rt; are_counted(alloc, map, "Key||")?);
     Ok(())
+}
+
+#[test]
+fn a_refused_header_leaves_the_map_as_it_was(rt: HostRuntime) -> Result<(), HeaderError> {
+    let mut map = two_values(rt.alloc())?;
+    assert_refused(&rt, rt.alloc(), &mut map);
+    assert_kept(&rt, rt.alloc(), &map)
 }
 
 fn from_names(alloc: Global, names: [&'static str; 3]) -> Result<HeaderMap, NoMemory> {
@@ -223,12 +247,27 @@ fn from_names(alloc: Global, names: [&'static str; 3]) -> Result<HeaderMap, NoMe
     HeaderMap::from_pairs(alloc, pairs)
 }
 
-#[test]
-fn names_keep_the_order_of_their_insertion(rt: HostRuntime) -> Result<(), Fail> {
-    let map = from_names(rt.alloc(), ["b", "a", "b"])?;
-    assert!(rt; are_counted(rt.alloc(), &map, "b|a|")?);
-    assert!(rt; are_counted(rt.alloc(), &map.copy(rt.alloc())?, "b|a|")?);
-    let turned = from_names(rt.alloc(), ["a", "b", "a"])?;
-    assert!(rt; turned == map && turned != HeaderMap::new(rt.alloc()));
+fn copy_is_counted(alloc: Global, map: &HeaderMap, text: &str) -> Result<bool, NoMemory> {
+    are_counted(alloc, &map.copy(alloc)?, text)
+}
+
+fn is_of_names(alloc: Global, map: &HeaderMap, names: [&'static str; 3]) -> Result<bool, NoMemory> {
+    Ok(from_names(alloc, names)? == *map)
+}
+
+fn has_no_name(alloc: Global, map: &HeaderMap) -> bool {
+    *map == HeaderMap::new(alloc)
+}
+
+fn assert_names<R: Abort>(rt: &R, alloc: Global, map: &HeaderMap) -> Result<(), NoMemory> {
+    assert!(rt; are_counted(alloc, map, "b|a|")?);
+    assert!(rt; copy_is_counted(alloc, map, "b|a|")?);
+    assert!(rt; is_of_names(alloc, map, ["a", "b", "a"])? && !has_no_name(alloc, map));
     Ok(())
+}
+
+#[test]
+fn names_keep_the_order_of_their_insertion(rt: HostRuntime) -> Result<(), NoMemory> {
+    let map = from_names(rt.alloc(), ["b", "a", "b"])?;
+    assert_names(&rt, rt.alloc(), &map)
 }

@@ -1,6 +1,7 @@
 //! What no clause says: lines of servers with what they mean, and each call once with ample memory.
 use nats_info::{InfoError, ServerInfo, read_info};
 use std::alloc::Global;
+use std::process::Abort;
 use std::test::Fail;
 
 const LINE: &str =
@@ -23,15 +24,30 @@ fn copied_as(alloc: Global, info: &ServerInfo) -> Result<String, InfoError> {
     shown(alloc, &copy)
 }
 
+fn default_as(alloc: Global) -> Result<String, InfoError> {
+    copied_as(alloc, &ServerInfo::default(alloc))
+}
+
+fn assert_read_as<R: Abort>(
+    rt: &R,
+    alloc: Global,
+    text: &str,
+    shown: &str,
+) -> Result<(), InfoError> {
+    let read = read_as(alloc, text)?;
+    assert_eq!(rt; read.as_str(), shown);
+    Ok(())
+}
+
 #[test]
 fn the_line_of_a_server_is_read(rt: HostRuntime) -> Result<(), Fail> {
-    assert_eq!(rt; read_as(rt.alloc(), LINE)?.as_str(), SHOWN);
-    let default = copied_as(rt.alloc(), &ServerInfo::default(rt.alloc()))?;
+    assert_read_as(&rt, rt.alloc(), LINE, SHOWN)?;
+    let default = default_as(rt.alloc())?;
     for text in [
         "{}",
         r#"{"ports":{"port":[1.5]},"cluster":null,"domain":null}"#,
     ] {
-        assert_eq!(rt; read_as(rt.alloc(), text)?.as_str(), default.as_str());
+        assert_read_as(&rt, rt.alloc(), text, default.as_str())?;
     }
     Ok(())
 }

@@ -1,3 +1,4 @@
+use crate::wire::fed;
 use nats_wire::{Connection, JsonError, Message, ServerOp};
 use serde_json::Value;
 use std::alloc::Global;
@@ -64,15 +65,20 @@ fn reads_back(alloc: Global, message: &Message) -> Result<bool, JsonError> {
     Ok(Message::from_json(alloc, &message.to_json(alloc)?)? == *message)
 }
 
+fn delivered_reads_back(alloc: Global, connection: &mut Connection) -> Result<bool, JsonError> {
+    match &connection.read_op(alloc) {
+        Ok(Some(ServerOp::Message { message, .. })) => reads_back(alloc, message),
+        Ok(Some(_) | None) | Err(_) => Ok(false),
+    }
+}
+
+fn fed_reads_back(alloc: Global, text: &[u8]) -> Result<bool, JsonError> {
+    let mut connection = fed(alloc, text)?;
+    delivered_reads_back(alloc, &mut connection)
+}
+
 #[test]
 fn a_delivered_message_is_read_back(rt: HostRuntime) -> Result<(), Fail> {
-    let alloc = rt.alloc();
-    let mut connection = Connection::new(alloc);
-    connection.feed(alloc, b"MSG a 1 2\r\nhi\r\n")?;
-    let op = connection.read_op(alloc)?;
-    match &op {
-        Some(ServerOp::Message { message, .. }) => assert!(rt; reads_back(alloc, message)?),
-        Some(_) | None => assert!(rt; false),
-    }
+    assert!(rt; fed_reads_back(rt.alloc(), b"MSG a 1 2\r\nhi\r\n")?);
     Ok(())
 }

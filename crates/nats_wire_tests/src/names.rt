@@ -4,7 +4,7 @@ use nats_names::{
     SubjectError, Text, ToSubject, Token,
 };
 use std::alloc::Global;
-use std::fmt::Display;
+use std::fmt::{Debug, Display};
 use std::test::Fail;
 
 fn is_refused(alloc: Global, text: &str) -> bool {
@@ -35,9 +35,26 @@ fn has_text<S: ToSubject>(alloc: Global, source: &S) -> Result<bool, NoMemory> {
     Ok(source.to_subject(alloc)?.as_str() == "a.b")
 }
 
+fn copies(alloc: Global, subject: &Subject) -> Result<bool, NoMemory> {
+    Ok(subject.copy(alloc)? == *subject)
+}
+
+fn is_before(subject: &Subject, text: &'static str) -> bool {
+    *subject < Subject::from_static(text)
+}
+
+fn has_text_in_order(alloc: Global, subject: &Subject) -> Result<bool, NoMemory> {
+    Ok(copies(alloc, subject)? && is_before(subject, "a.c") && has_text(alloc, subject)?)
+}
+
+fn becomes_text(alloc: Global, subject: Subject) -> Result<bool, NoMemory> {
+    has_text(alloc, &subject.into_string(alloc)?)
+}
+
 fn keeps_text(alloc: Global, subject: Subject) -> Result<bool, NoMemory> {
-    let is_same = subject.copy(alloc)? == subject && subject < Subject::from_static("a.c");
-    Ok(is_same && has_text(alloc, &subject)? && has_text(alloc, &subject.into_string(alloc)?)?)
+    let has_text = has_text_in_order(alloc, &subject);
+    let becomes_text = becomes_text(alloc, subject);
+    Ok(has_text? && becomes_text?)
 }
 
 #[test]
@@ -110,8 +127,24 @@ fn prints<T: Display>(alloc: Global, value: &T, text: &str) -> Result<bool, NoMe
     Ok(value.to_string(alloc)?.as_str() == text)
 }
 
+fn copies_event(alloc: Global, event: &Event) -> Result<bool, NoMemory> {
+    Ok(event.copy(alloc)? == *event)
+}
+
+fn prints_copied_event(alloc: Global, event: &Event, text: &str) -> Result<bool, NoMemory> {
+    Ok(copies_event(alloc, event)? && prints(alloc, event, text)?)
+}
+
 fn prints_event(alloc: Global, event: Event, text: &str) -> Result<bool, NoMemory> {
-    Ok(event.copy(alloc)? == event && prints(alloc, &event, text)?)
+    prints_copied_event(alloc, &event, text)
+}
+
+fn copies_error(alloc: Global, error: &CallbackError) -> Result<bool, NoMemory> {
+    Ok(error.copy(alloc)? == *error)
+}
+
+fn prints_copied_error(alloc: Global, error: &CallbackError, text: &str) -> Result<bool, NoMemory> {
+    Ok(copies_error(alloc, error)? && prints(alloc, error, text)?)
 }
 
 fn prints_error<E: Into<CallbackError>>(
@@ -120,7 +153,7 @@ fn prints_error<E: Into<CallbackError>>(
     text: &str,
 ) -> Result<bool, NoMemory> {
     let error: CallbackError = error.into();
-    Ok(error.copy(alloc)? == error && prints(alloc, &error, text)?)
+    prints_copied_error(alloc, &error, text)
 }
 
 #[test]
@@ -139,6 +172,10 @@ fn events_and_errors_print_their_texts(rt: HostRuntime) -> Result<(), Fail> {
     Ok(())
 }
 
+fn prints_for_debugging<T: Debug>(alloc: Global, value: &T, text: &str) -> Result<bool, NoMemory> {
+    Ok(format!(in alloc; "{value:?}")?.as_str() == text)
+}
+
 #[test]
 fn small_values_print_their_texts(rt: HostRuntime) -> Result<(), Fail> {
     let alloc = rt.alloc();
@@ -148,7 +185,7 @@ fn small_values_print_their_texts(rt: HostRuntime) -> Result<(), Fail> {
     assert!(rt;
         prints(alloc, &NoMemory, "out of memory")? && prints(alloc, &Failed, "failed outside")?
     );
-    assert!(rt; format!(in alloc; "{:?}", StatusCode::TIMEOUT)?.as_str() == "408");
+    assert!(rt; prints_for_debugging(alloc, &StatusCode::TIMEOUT, "408")?);
     assert!(rt;
         prints(
             alloc,
@@ -170,37 +207,53 @@ fn a_list_keeps_the_order_of_its_items(rt: HostRuntime) -> Result<(), Fail> {
     Ok(())
 }
 
+fn prints_alone(alloc: Global, error: &Error<SubjectError>, text: &str) -> Result<bool, NoMemory> {
+    Ok(prints(alloc, error, text)? && error.source().is_none())
+}
+
+fn prints_plain(alloc: Global) -> Result<bool, NoMemory> {
+    let plain: Error<SubjectError> = SubjectError::InvalidFormat.into();
+    prints_alone(alloc, &plain, "invalid subject format")
+}
+
 fn prints_caused(alloc: Global, source: Cause, text: &str) -> Result<bool, NoMemory> {
     let error = Error::with_source(SubjectError::InvalidFormat, source);
     Ok(prints(alloc, &error, text)? && error.kind() == SubjectError::InvalidFormat)
 }
 
+fn prints_unexpected(alloc: Global) -> Result<bool, NoMemory> {
+    let word = Cause::Unexpected(OpWord::Pong);
+    let text = "invalid subject format: unexpected operation: PONG";
+    prints_caused(alloc, word, text)
+}
+
+fn refusal(alloc: Global) -> Result<AuthError, NoMemory> {
+    Ok(AuthError::new(String::from_str(alloc, "no key")?))
+}
+
+fn copies_refusal(alloc: Global, refused: &AuthError) -> Result<bool, NoMemory> {
+    Ok(refused.copy(alloc)? == *refused)
+}
+
+fn prints_refused(alloc: Global) -> Result<bool, NoMemory> {
+    let refused = Cause::Auth(refusal(alloc)?);
+    prints_caused(alloc, refused, "invalid subject format: AuthError(no key)")
+}
+
+fn prints_payload(alloc: Global, limit: u64, size: u64, text: &str) -> Result<bool, NoMemory> {
+    prints(alloc, &Cause::Payload { limit, size }, text)
+}
+
 #[test]
 fn an_error_prints_its_kind_and_its_cause(rt: HostRuntime) -> Result<(), Fail> {
     let alloc = rt.alloc();
-    let plain: Error<SubjectError> = SubjectError::InvalidFormat.into();
-    assert!(rt; prints(alloc, &plain, "invalid subject format")? && plain.source().is_none());
-    let word = Cause::Unexpected(OpWord::Pong);
-    assert!(rt;
-        prints_caused(
-            alloc,
-            word,
-            "invalid subject format: unexpected operation: PONG"
-        )?
-    );
-    let refused = AuthError::new(String::from_str(alloc, "no key")?);
-    assert!(rt; refused.copy(alloc)? == refused);
-    let refused = Cause::Auth(refused);
-    assert!(rt; prints_caused(alloc, refused, "invalid subject format: AuthError(no key)")?);
-    assert!(rt;
-        prints(
-            alloc,
-            &AddrError::Scheme,
-            "invalid scheme for NATS server URL"
-        )?
-    );
-    let (limit, size) = (33, 34);
+    assert!(rt; prints_plain(alloc)?);
+    assert!(rt; prints_unexpected(alloc)?);
+    assert!(rt; copies_refusal(alloc, &refusal(alloc)?)?);
+    assert!(rt; prints_refused(alloc)?);
+    let scheme = "invalid scheme for NATS server URL";
+    assert!(rt; prints(alloc, &AddrError::Scheme, scheme)?);
     let large = "Payload size limit of 33 exceeded by message size of 34";
-    assert!(rt; prints(alloc, &Cause::Payload { limit, size }, large)?);
+    assert!(rt; prints_payload(alloc, 33, 34, large)?);
     Ok(())
 }
