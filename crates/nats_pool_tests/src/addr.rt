@@ -44,15 +44,27 @@ fn tells(alloc: Global, addr: &ServerAddr) -> Result<bool, NoMemory> {
     Ok(is_same && text.as_str() == "ServerAddr { scheme: \"nats\", host: \"h\", port: 4222 }")
 }
 
+fn has_both(addr: &ServerAddr) -> bool {
+    addr.username() == Some("token") && addr.password() == Some("secret")
+}
+
+// Whether an address is of this text, and is again once it was a URL.
+fn is_of(addr: ServerAddr, text: &str) -> Result<bool, AddrError> {
+    let is_so = addr.as_url_str() == text;
+    let again = ServerAddr::from_url(addr.into_inner())?;
+    Ok(is_so && again.into_inner().as_str() == text)
+}
+
 #[test]
 fn a_user_and_a_password_are_kept_and_not_shown(rt: HostRuntime) -> Result<(), Fail> {
     let alloc = rt.alloc();
     let addr = ServerAddr::parse(alloc, "nats://token:secret@h")?;
-    assert!(rt; addr.has_user_pass() && addr.as_url_str() == "nats://token:secret@h");
-    assert!(rt; addr.username() == Some("token") && addr.password() == Some("secret"));
-    assert!(rt; tells(alloc, &addr)?);
-    let again = ServerAddr::from_url(addr.into_inner())?;
-    assert!(rt; again.into_inner().as_str() == "nats://token:secret@h");
+    let is_kept = addr.has_user_pass() && has_both(&addr);
+    let is_hidden = tells(alloc, &addr);
+    let is_same = is_of(addr, "nats://token:secret@h");
+    assert!(rt; is_kept);
+    assert!(rt; is_hidden?);
+    assert!(rt; is_same?);
     Ok(())
 }
 
@@ -79,17 +91,43 @@ fn prints(alloc: Global, error: ResolveError, text: &str) -> Result<bool, NoMemo
     Ok(format!(in alloc; "{error}")?.as_str() == text)
 }
 
+fn home() -> SocketAddr {
+    SocketAddr::new(IpAddr::V4(Ipv4Addr::LOCALHOST), 4222)
+}
+
+// What a resolver gives first for the host and the port of an address.
+fn first_of(
+    alloc: Global,
+    addr: &ServerAddr,
+    resolver: &mut FakeResolver,
+) -> Result<Option<SocketAddr>, ResolveError> {
+    match addr.socket_addrs(alloc, resolver) {
+        Ok(mut addresses) => Ok(addresses.next()),
+        Err(error) => Err(error),
+    }
+}
+
+// Whether a resolver that fails at the second asking gives an address once.
+fn is_resolved_once(alloc: Global, addr: &ServerAddr) -> Result<bool, NoMemory> {
+    let mut resolver = FakeResolver::failing(vec![in alloc; home()]?, vec![in alloc; 2]?);
+    let is_home = first_of(alloc, addr, &mut resolver) == Ok(Some(home()));
+    Ok(is_home && first_of(alloc, addr, &mut resolver).is_err())
+}
+
+fn is_refused(alloc: Global, addr: &ServerAddr) -> bool {
+    let mut refuses = FakeResolver::refusing(alloc);
+    first_of(alloc, addr, &mut refuses) == Err(ResolveError::NoMemory)
+}
+
+fn is_asked_for(alloc: Global, text: &str) -> Result<bool, AddrError> {
+    let addr = ServerAddr::parse(alloc, text)?;
+    Ok(is_resolved_once(alloc, &addr)? && is_refused(alloc, &addr))
+}
+
 #[test]
 fn a_resolver_is_asked_for_the_host_and_the_port(rt: HostRuntime) -> Result<(), Fail> {
     let alloc = rt.alloc();
-    let home = SocketAddr::new(IpAddr::V4(Ipv4Addr::LOCALHOST), 4222);
-    let addr = ServerAddr::parse(alloc, "h")?;
-    let mut resolver = FakeResolver::failing(vec![in alloc; home]?, vec![in alloc; 2]?);
-    assert!(rt; addr.socket_addrs(alloc, &mut resolver)?.next() == Some(home));
-    assert!(rt; addr.socket_addrs(alloc, &mut resolver).is_err());
-    let mut refuses = FakeResolver::refusing(alloc);
-    let refused = addr.socket_addrs(alloc, &mut refuses);
-    assert!(rt; matches!(refused, Err(ResolveError::NoMemory)));
+    assert!(rt; is_asked_for(alloc, "h")?);
     assert!(rt; prints(alloc, ResolveError::Failed, "the resolver failed")?);
     Ok(())
 }

@@ -1,8 +1,9 @@
+use crate::machine::begun;
 use bytes::Bytes;
-use nats_dial::{ConnectError, ConnectOptions, Handshake, NoMemory, ServerList, shake_hands};
+use nats_dial::{ConnectOptions, Handshake, NoMemory, ServerList, shake_hands};
 use nats_names::{AddrError, Text};
 use nats_outside::{Dialer, FakeClock, FakeDialer, FakeLink, FakeRead, FakeWrite};
-use nats_pool::ServerAddr;
+use nats_pool::ServerInfo;
 use std::alloc::Global;
 use std::net::{IpAddr, Ipv4Addr, SocketAddr};
 use std::test::Fail;
@@ -29,58 +30,73 @@ pub(crate) fn link(alloc: Global, text: &str) -> Result<FakeLink, NoMemory> {
     FakeLink::new(alloc, bytes, 7)
 }
 
-// Its halves.
-fn halves(alloc: Global, text: &str) -> Result<(FakeRead, FakeWrite), &'static str> {
-    let link = link(alloc, text).ok().ok_or("memory")?;
-    let links = vec![in alloc; link].ok().ok_or("memory")?;
-    FakeDialer::told(alloc, links)
-        .dial(&home())
-        .ok()
-        .ok_or("no link")
+fn dialer(alloc: Global, text: &str) -> Result<FakeDialer, NoMemory> {
+    let links = vec![in alloc; link(alloc, text)?]?;
+    Ok(FakeDialer::told(alloc, links))
 }
 
-fn begun(alloc: Global) -> Result<Handshake, &'static str> {
-    let addr = ServerAddr::parse(alloc, "a").ok().ok_or("addr")?;
-    Handshake::new(alloc, &addr, &ConnectOptions::new(), 0)
-        .ok()
-        .ok_or("begun")
+// Its halves.
+fn halves(alloc: Global, text: &str) -> Result<(FakeRead, FakeWrite), &'static str> {
+    let mut dialer = dialer(alloc, text).ok().ok_or("memory")?;
+    let halves = dialer.dial(&home()).ok().ok_or("no link");
+    drop(dialer);
+    halves
+}
+
+fn clock(alloc: Global, last: u64) -> Result<FakeClock, NoMemory> {
+    Ok(FakeClock::told(vec![in alloc; 0, last]?))
 }
 
 fn shakes(
     alloc: Global,
     shaking: &mut Handshake,
-    read: &mut FakeRead,
-    write: &mut FakeWrite,
+    halves: &mut (FakeRead, FakeWrite),
     clock: &mut FakeClock,
-) -> Result<(), ConnectError> {
+) -> bool {
+    let (read, write) = halves;
     let options = ConnectOptions::new();
-    shake_hands(alloc, shaking, &options, &mut NoServers, read, write, clock)
+    let shaken = shake_hands(alloc, shaking, &options, &mut NoServers, read, write, clock);
+    drop(options);
+    let is_up = shaken.is_ok();
+    drop(shaken);
+    is_up
 }
 
-// What becomes of the handshake of a link that gives this text, where the clock comes to `last`.
-fn answer(
+// Whether the handshake of a link that gives this text succeeds, where the clock comes to `last`.
+fn is_up(
     alloc: Global,
     shaking: &mut Handshake,
     text: &str,
     last: u64,
-) -> Result<Result<(), ConnectError>, &'static str> {
-    let (mut read, mut write) = halves(alloc, text)?;
-    let mut clock = FakeClock::told(vec![in alloc; 0, last].ok().ok_or("memory")?);
-    Ok(shakes(alloc, shaking, &mut read, &mut write, &mut clock))
+) -> Result<bool, &'static str> {
+    let mut clock = clock(alloc, last).ok().ok_or("memory")?;
+    let mut halves = halves(alloc, text)?;
+    let is_up = shakes(alloc, shaking, &mut halves, &mut clock);
+    drop(halves);
+    Ok(is_up)
 }
 
-fn leaves(shaking: Handshake, rest: &[u8]) -> bool {
-    match shaking.finish() {
+fn is_left(ended: &Option<(ServerInfo, Vec<u8>)>, rest: &[u8]) -> bool {
+    match ended {
         Some((_, left)) => left.as_slice() == rest,
         None => false,
     }
 }
 
+fn leaves(shaking: Handshake, rest: &[u8]) -> bool {
+    let ended = shaking.finish();
+    let is_left = is_left(&ended, rest);
+    drop(ended);
+    is_left
+}
+
 #[test]
 fn a_link_comes_up_in_time(rt: HostRuntime) -> Result<(), Fail> {
     let alloc = rt.alloc();
-    let mut shaking = begun(alloc)?;
-    assert!(rt; answer(alloc, &mut shaking, "INFO {}\r\nPONG\r\nrest", 4_999)?.is_ok());
-    assert!(rt; leaves(shaking, b"rest"));
+    let mut shaking = begun(alloc, "a", 0)?;
+    let is_up = is_up(alloc, &mut shaking, "INFO {}\r\nPONG\r\nrest", 4_999);
+    let has_rest = leaves(shaking, b"rest");
+    assert!(rt; is_up?);
+    assert!(rt; has_rest);
     Ok(())
 }

@@ -1,6 +1,8 @@
-use nats_handshake::{ConnectErrorKind, ConnectOptions, Handshake, NoMemory, Shake, Text};
+use nats_handshake::{
+    ConnectError, ConnectErrorKind, ConnectOptions, Handshake, NoMemory, Shake, Text,
+};
 use nats_names::{AddrError, AuthError};
-use nats_pool::{Auth, AuthBox, ServerAddr, ServerList};
+use nats_pool::{Auth, AuthBox, ServerAddr, ServerInfo, ServerList};
 use std::alloc::Global;
 use std::test::Fail;
 
@@ -32,6 +34,10 @@ fn word(kind: ConnectErrorKind) -> &'static str {
     }
 }
 
+fn error_word(error: ConnectError) -> &'static str {
+    word(error.kind())
+}
+
 // Takes no server in.
 #[derive(Drop)]
 struct NoServers;
@@ -48,21 +54,53 @@ impl ServerList for NoServers {
     }
 }
 
-fn begun(alloc: Global, addr: &str) -> Result<Handshake, &'static str> {
-    let addr = ServerAddr::parse(alloc, addr).ok().ok_or("addr")?;
-    match Handshake::new(alloc, &addr, &ConnectOptions::new(), START) {
-        Ok(shaking) => Ok(shaking),
-        Err(error) => Err(word(error.kind())),
+fn begun_with(
+    alloc: Global,
+    addr: &ServerAddr,
+    options: &ConnectOptions,
+    start: u64,
+) -> Result<Handshake, &'static str> {
+    Handshake::new(alloc, addr, options, start).map_err(error_word)
+}
+
+fn begun_at(alloc: Global, addr: &ServerAddr, start: u64) -> Result<Handshake, &'static str> {
+    let options = ConnectOptions::new();
+    let begun = begun_with(alloc, addr, &options, start);
+    drop(options);
+    begun
+}
+
+pub(crate) fn begun(alloc: Global, addr: &str, start: u64) -> Result<Handshake, &'static str> {
+    match ServerAddr::parse(alloc, addr) {
+        Ok(addr) => begun_at(alloc, &addr, start),
+        Err(_) => Err("addr"),
+    }
+}
+
+fn fed_with(
+    alloc: Global,
+    shaking: &mut Handshake,
+    bytes: &[u8],
+    options: &ConnectOptions,
+) -> Result<Shake, &'static str> {
+    let fed = shaking.feed(alloc, bytes, options, &mut NoServers);
+    fed.map_err(error_word)
+}
+
+fn fed_word(fed: Result<Shake, &'static str>) -> &'static str {
+    match fed {
+        Ok(Shake::More) => "more",
+        Ok(Shake::Done) => "done",
+        Err(word) => word,
     }
 }
 
 // What a handshake answers to one piece.
 fn fed(alloc: Global, shaking: &mut Handshake, bytes: &[u8]) -> &'static str {
-    match shaking.feed(alloc, bytes, &ConnectOptions::new(), &mut NoServers) {
-        Ok(Shake::More) => "more",
-        Ok(Shake::Done) => "done",
-        Err(error) => word(error.kind()),
-    }
+    let options = ConnectOptions::new();
+    let fed = fed_with(alloc, shaking, bytes, &options);
+    drop(options);
+    fed_word(fed)
 }
 
 // Whether it answers so to the last of these pieces.
@@ -75,8 +113,12 @@ fn ends_so(alloc: Global, shaking: &mut Handshake, pieces: &str, wanted: &str) -
 }
 
 fn told(alloc: Global, addr: &str, pieces: &str, wanted: &str) -> bool {
-    match begun(alloc, addr) {
-        Ok(mut shaking) => ends_so(alloc, &mut shaking, pieces, wanted),
+    match begun(alloc, addr, START) {
+        Ok(mut shaking) => {
+            let holds = ends_so(alloc, &mut shaking, pieces, wanted);
+            drop(shaking);
+            holds
+        }
         Err(word) => word == wanted,
     }
 }
@@ -119,12 +161,21 @@ fn oks(alloc: Global, count: usize) -> Result<Vec<u8>, NoMemory> {
     Ok(text)
 }
 
+// What a new handshake answers to this text.
+fn answer(alloc: Global, text: &[u8]) -> &'static str {
+    match begun(alloc, "a", START) {
+        Ok(mut shaking) => {
+            let word = fed(alloc, &mut shaking, text);
+            drop(shaking);
+            word
+        }
+        Err(word) => word,
+    }
+}
+
 fn after_oks(alloc: Global, count: usize) -> Result<&'static str, NoMemory> {
     let text = oks(alloc, count)?;
-    Ok(match begun(alloc, "a") {
-        Ok(mut shaking) => fed(alloc, &mut shaking, text.as_slice()),
-        Err(word) => word,
-    })
+    Ok(answer(alloc, text.as_slice()))
 }
 
 #[test]
@@ -135,18 +186,26 @@ fn a_pong_is_due_within_sixteen_operations(rt: HostRuntime) -> Result<(), Fail> 
 }
 
 fn expires(shaking: &mut Handshake, now: u64) -> &'static str {
-    match shaking.expire(now) {
+    match shaking.expire(now).map_err(error_word) {
         Ok(()) => "in time",
-        Err(error) => word(error.kind()),
+        Err(word) => word,
     }
+}
+
+// Whether it is late after five seconds, and from then on.
+fn is_late(alloc: Global, shaking: &mut Handshake) -> bool {
+    expires(shaking, START + 4_999) == "in time"
+        && expires(shaking, START + 5_000) == "late"
+        && fed(alloc, shaking, USUAL_INFO) == "late"
 }
 
 #[test]
 fn a_handshake_expires(rt: HostRuntime) -> Result<(), Fail> {
-    let mut shaking = begun(rt.alloc(), "a")?;
-    assert!(rt; expires(&mut shaking, START + 4_999) == "in time");
-    assert!(rt; expires(&mut shaking, START + 5_000) == "late");
-    assert!(rt; fed(rt.alloc(), &mut shaking, USUAL_INFO) == "late");
+    let alloc = rt.alloc();
+    let mut shaking = begun(alloc, "a", START)?;
+    let is_late = is_late(alloc, &mut shaking);
+    drop(shaking);
+    assert!(rt; is_late);
     Ok(())
 }
 
@@ -156,19 +215,28 @@ fn usual(alloc: Global, shaking: &mut Handshake, answer: &[u8]) -> bool {
         && fed(alloc, shaking, answer) == "done"
 }
 
-fn ends_with(shaking: Handshake, wanted: &[u8]) -> bool {
-    match shaking.finish() {
+fn is_ended(ended: &Option<(ServerInfo, Vec<u8>)>, wanted: &[u8]) -> bool {
+    match ended {
         Some((info, rest)) => info.max_payload == 1_048_576 && rest.as_slice() == wanted,
         None => false,
     }
 }
 
+fn ends_with(shaking: Handshake, wanted: &[u8]) -> bool {
+    let ended = shaking.finish();
+    let holds = is_ended(&ended, wanted);
+    drop(ended);
+    holds
+}
+
 #[test]
 fn the_usual_handshake(rt: HostRuntime) -> Result<(), Fail> {
     let alloc = rt.alloc();
-    let mut shaking = begun(alloc, "a")?;
-    assert!(rt; usual(alloc, &mut shaking, b"+OK\r\nPONG\r\nPING\r\n"));
-    assert!(rt; ends_with(shaking, b"PING\r\n"));
+    let mut shaking = begun(alloc, "a", START)?;
+    let is_usual = usual(alloc, &mut shaking, b"+OK\r\nPONG\r\nPING\r\n");
+    let has_rest = ends_with(shaking, b"PING\r\n");
+    assert!(rt; is_usual);
+    assert!(rt; has_rest);
     Ok(())
 }
 
@@ -187,7 +255,14 @@ fn signing(nonce: Vec<u8>) -> Result<Auth, AuthError> {
 
 fn greets_with(alloc: Global, shaking: &mut Handshake, options: &ConnectOptions) -> bool {
     let info = b"INFO {\"nonce\":\">>>???~\"}\r\n";
-    shaking.feed(alloc, info, options, &mut NoServers).is_ok() && shaking.out() == SIGNED_OUT
+    fed_with(alloc, shaking, info, options).is_ok() && shaking.out() == SIGNED_OUT
+}
+
+fn greets_by(alloc: Global, options: &ConnectOptions) -> Result<bool, &'static str> {
+    let mut shaking = begun(alloc, "a", START)?;
+    let greets = greets_with(alloc, &mut shaking, options);
+    drop(shaking);
+    Ok(greets)
 }
 
 #[test]
@@ -195,7 +270,8 @@ fn a_callback_signs_the_nonce(rt: HostRuntime) -> Result<(), Fail> {
     let alloc = rt.alloc();
     let callback: AuthBox = Box::new(alloc, signing)?;
     let options = ConnectOptions::with_auth_callback(callback);
-    let mut shaking = begun(alloc, "a")?;
-    assert!(rt; greets_with(alloc, &mut shaking, &options));
+    let greets = greets_by(alloc, &options);
+    drop(options);
+    assert!(rt; greets?);
     Ok(())
 }

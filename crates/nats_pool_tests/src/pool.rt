@@ -1,8 +1,8 @@
 use nats_pool::{
     AddrError, Auth, AuthBox, AuthError, AuthFn, Choice, ChoiceBox, ConnectOptions, DelayBox,
-    Event, EventBox, EventFn, Next, NoMemory, Outcome, Pool, ReconnectToServer, Server, ServerAddr,
-    ServerInfo, SetServerPoolErrorKind, SignerBox, SignerFn, Text, addrs_of_texts,
-    reconnect_delay_default,
+    Event, EventBox, EventFn, Next, NoMemory, Outcome, Pool, PoolOptions, ReconnectToServer,
+    Server, ServerAddr, ServerInfo, SetServerPoolErrorKind, SignerBox, SignerFn, Text,
+    addrs_of_texts, reconnect_delay_default,
 };
 use std::alloc::Global;
 use std::num::{NonZeroU16, NonZeroU64};
@@ -16,7 +16,7 @@ fn the_delay_doubles_up_to_four_seconds(rt: HostRuntime) {
 }
 
 // What is done with a pool, and what has to come of it.
-#[derive(Drop)]
+#[derive(Clone, Copy)]
 enum Step<'a> {
     // An attempt at this address fails.
     Fails(&'a str),
@@ -47,9 +47,15 @@ fn fails_at(alloc: Global, pool: &mut Pool, text: &str) -> bool {
     true
 }
 
+fn begins_after(alloc: Global, pool: &mut Pool, info: &ServerInfo, choice: Choice) -> bool {
+    pool.begin_round(alloc, info) == Ok(choice) && pool.last_choice() == choice
+}
+
 fn begins(alloc: Global, pool: &mut Pool, choice: Choice) -> bool {
     let info = ServerInfo::default(alloc);
-    pool.begin_round(alloc, &info) == Ok(choice) && pool.last_choice() == choice
+    let begins = begins_after(alloc, pool, &info, choice);
+    drop(info);
+    begins
 }
 
 fn is_try(next: &Next, host: &str, delay: u64) -> bool {
@@ -97,14 +103,30 @@ fn discovers(alloc: Global, pool: &mut Pool, text: &str, count: usize) -> bool {
     }
 }
 
+fn tries(pool: &mut Pool, host: &str, delay: u64) -> bool {
+    is_try(&pool.next_attempt(), host, delay)
+}
+
+fn tries_one(pool: &mut Pool) -> bool {
+    matches!(pool.next_attempt(), Next::Try(_))
+}
+
+fn is_over(pool: &mut Pool) -> bool {
+    matches!(pool.next_attempt(), Next::Over)
+}
+
+fn is_limited(pool: &mut Pool) -> bool {
+    matches!(pool.next_attempt(), Next::MaxReconnects)
+}
+
 fn goes(alloc: Global, pool: &mut Pool, step: &Step) -> bool {
     match step {
         Step::Fails(text) => fails_at(alloc, pool, text),
         Step::Begins(choice) => begins(alloc, pool, *choice),
-        Step::Tries(host, delay) => is_try(&pool.next_attempt(), host, *delay),
-        Step::TriesOne => matches!(pool.next_attempt(), Next::Try(_)),
-        Step::Over => matches!(pool.next_attempt(), Next::Over),
-        Step::Limit => matches!(pool.next_attempt(), Next::MaxReconnects),
+        Step::Tries(host, delay) => tries(pool, host, *delay),
+        Step::TriesOne => tries_one(pool),
+        Step::Over => is_over(pool),
+        Step::Limit => is_limited(pool),
         Step::Sets(texts, why) => sets(alloc, pool, texts, *why),
         Step::Counts(first, second) => counts(alloc, pool, *first, *second),
         Step::Discovers(text, count) => discovers(alloc, pool, text, *count),
@@ -112,9 +134,15 @@ fn goes(alloc: Global, pool: &mut Pool, step: &Step) -> bool {
 }
 
 // A pool of a, b and c.
-fn three(alloc: Global, mut options: ConnectOptions) -> Result<Pool, AddrError> {
+fn three_with(alloc: Global, options: PoolOptions) -> Result<Pool, AddrError> {
     let addrs = addrs_of_texts(alloc, &["a", "b", "c"])?;
-    Ok(Pool::new(alloc, addrs, options.take_pool_options(), 7)?)
+    Ok(Pool::new(alloc, addrs, options, 7)?)
+}
+
+fn three(alloc: Global, mut options: ConnectOptions) -> Result<Pool, AddrError> {
+    let pool_options = options.take_pool_options();
+    drop(options);
+    three_with(alloc, pool_options)
 }
 
 // A pool goes through these steps.
@@ -139,7 +167,9 @@ fn a_pool_in_order_goes_through_its_round(rt: HostRuntime) -> Result<(), Fail> {
         Step::Tries("c", 4),
         Step::Over,
     ];
-    assert!(rt; plays(alloc, &mut pool, &steps));
+    let played = plays(alloc, &mut pool, &steps);
+    drop(pool);
+    assert!(rt; played);
     Ok(())
 }
 
@@ -163,7 +193,9 @@ fn a_pool_goes_through_its_rounds(rt: HostRuntime) -> Result<(), Fail> {
         Step::Discovers("d", 2),
         Step::Discovers("e", 3),
     ];
-    assert!(rt; plays(alloc, &mut pool, &steps));
+    let played = plays(alloc, &mut pool, &steps);
+    drop(pool);
+    assert!(rt; played);
     Ok(())
 }
 
@@ -177,17 +209,23 @@ fn a_limited_pool_ends_its_round(rt: HostRuntime) -> Result<(), Fail> {
         Step::TriesOne,
         Step::Limit,
     ];
-    assert!(rt; plays(alloc, &mut pool, &steps));
+    let played = plays(alloc, &mut pool, &steps);
+    drop(pool);
+    assert!(rt; played);
     Ok(())
 }
 
-fn last_one(servers: Vec<Server>, _info: ServerInfo) -> Option<ReconnectToServer> {
-    let mut servers = servers;
+fn last_of(mut servers: Vec<Server>) -> Option<ReconnectToServer> {
     let server = servers.pop()?;
     Some(ReconnectToServer {
         addr: server.addr,
         delay: None,
     })
+}
+
+fn last_one(servers: Vec<Server>, info: ServerInfo) -> Option<ReconnectToServer> {
+    drop(info);
+    last_of(servers)
 }
 
 fn twice(attempts: usize) -> u64 {
@@ -212,7 +250,9 @@ fn tries_the_named_one(alloc: Global) -> Result<bool, NoMemory> {
     let Ok(mut pool) = three(alloc, options) else {
         return Err(NoMemory);
     };
-    Ok(plays(alloc, &mut pool, &steps))
+    let played = plays(alloc, &mut pool, &steps);
+    drop(pool);
+    Ok(played)
 }
 
 fn other_one(alloc: Global) -> Option<ReconnectToServer> {
@@ -223,7 +263,9 @@ fn other_one(alloc: Global) -> Option<ReconnectToServer> {
 }
 
 fn tries_all(alloc: Global) -> Result<bool, NoMemory> {
-    let choice: ChoiceBox = Box::new(alloc, move |_servers: Vec<Server>, _info: ServerInfo| {
+    let choice: ChoiceBox = Box::new(alloc, move |servers: Vec<Server>, info: ServerInfo| {
+        drop(servers);
+        drop(info);
         other_one(alloc)
     })?;
     let options = ConnectOptions::new()
@@ -237,7 +279,9 @@ fn tries_all(alloc: Global) -> Result<bool, NoMemory> {
     let Ok(mut pool) = three(alloc, options) else {
         return Err(NoMemory);
     };
-    Ok(plays(alloc, &mut pool, &steps))
+    let played = plays(alloc, &mut pool, &steps);
+    drop(pool);
+    Ok(played)
 }
 
 fn itself(nonce: Vec<u8>) -> Result<Vec<u8>, AuthError> {
@@ -259,14 +303,21 @@ fn signs(alloc: Global) -> Result<bool, NoMemory> {
     }
 }
 
+fn has_no_token(answer: &Result<Auth, AuthError>) -> bool {
+    match answer {
+        Ok(auth) => auth.token.is_none(),
+        Err(_) => false,
+    }
+}
+
 fn authenticates(alloc: Global) -> Result<bool, NoMemory> {
     let auth: AuthBox = Box::new(alloc, nothing)?;
     let event: EventBox = Box::new(alloc, ignored)?;
     EventFn::new(event).call(Event::Connected);
-    match AuthFn::new(auth).call(Vec::new(alloc)) {
-        Ok(auth) => Ok(auth.token.is_none()),
-        Err(_) => Ok(false),
-    }
+    let answer = AuthFn::new(auth).call(Vec::new(alloc));
+    let is_empty = has_no_token(&answer);
+    drop(answer);
+    Ok(is_empty)
 }
 
 #[test]
@@ -286,7 +337,14 @@ fn shows(alloc: Global, auth: &Auth) -> Result<bool, NoMemory> {
 
 fn hides_its_token(alloc: Global) -> Result<bool, NoMemory> {
     let token = String::from_str(alloc, "secret")?;
-    shows(alloc, &ConnectOptions::with_token(token).auth)
+    let options = ConnectOptions::with_token(token);
+    let is_hidden = shows(alloc, &options.auth);
+    drop(options);
+    is_hidden
+}
+
+fn has_callbacks(options: &ConnectOptions) -> bool {
+    options.signer.is_some() && options.auth_callback.is_some() && options.event_callback.is_some()
 }
 
 fn keeps_callbacks(alloc: Global) -> Result<bool, NoMemory> {
@@ -296,11 +354,9 @@ fn keeps_callbacks(alloc: Global) -> Result<bool, NoMemory> {
     let options = ConnectOptions::with_jwt(String::new(alloc), signer)
         .auth_callback(auth)
         .event_callback(event);
-    Ok(
-        options.signer.is_some()
-            && options.auth_callback.is_some()
-            && options.event_callback.is_some(),
-    )
+    let keeps = has_callbacks(&options);
+    drop(options);
+    Ok(keeps)
 }
 
 fn built(alloc: Global, user: String, pass: String) -> Result<ConnectOptions, NoMemory> {
@@ -350,7 +406,9 @@ fn has_switches(options: &ConnectOptions) -> bool {
 
 fn is_built(alloc: Global) -> Result<bool, NoMemory> {
     let options = built(alloc, String::new(alloc), String::new(alloc))?;
-    Ok(has_texts(&options) && has_numbers(&options) && has_switches(&options))
+    let is_built = has_texts(&options) && has_numbers(&options) && has_switches(&options);
+    drop(options);
+    Ok(is_built)
 }
 
 #[test]

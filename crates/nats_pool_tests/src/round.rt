@@ -1,13 +1,16 @@
 use crate::dial::{home, link};
+use crate::machine::begun;
 use nats_dial::{ConnectError, ConnectOptions, Handshake, Linked, NoMemory, try_connect};
 use nats_outside::{
     FakeClock, FakeDialer, FakeDraw, FakeLink, FakeRead, FakeResolver, FakeWrite, Joined,
 };
-use nats_pool::{Delay, Pool, PoolOptions, Server, ServerAddr, ServerInfo, addrs_of_texts};
+use nats_pool::{Delay, Pool, PoolOptions, Server, ServerInfo, addrs_of_texts};
 use std::alloc::Global;
 use std::test::Fail;
 
 type Memory = Joined<FakeDialer, FakeResolver, FakeClock, FakeDraw>;
+
+type Connected = Result<Linked<FakeRead, FakeWrite>, ConnectError>;
 
 fn pool(alloc: Global, texts: &[&str], limit: Option<usize>) -> Result<Pool, &'static str> {
     let addrs = addrs_of_texts(alloc, texts).ok().ok_or("addrs")?;
@@ -30,25 +33,33 @@ fn links(alloc: Global, texts: &[&str]) -> Result<Vec<FakeLink>, NoMemory> {
     Ok(links)
 }
 
+// The dial of this number, counted from 1, fails.
+fn dialer(alloc: Global, texts: &[&str], dial: u64) -> Result<FakeDialer, NoMemory> {
+    let links = links(alloc, texts)?;
+    let failing = vec![in alloc; dial]?;
+    Ok(FakeDialer::failing(alloc, links, failing))
+}
+
 // A host has two addresses; the dial and the asking of these numbers, counted from 1, fail; the time stands still.
 fn world(alloc: Global, texts: &[&str], dial: u64, asking: u64) -> Result<Memory, NoMemory> {
     let addresses = vec![in alloc; home(), home()]?;
+    let failing = vec![in alloc; asking]?;
+    let times = vec![in alloc; 0]?;
     Ok(Joined {
-        dialer: FakeDialer::failing(alloc, links(alloc, texts)?, vec![in alloc; dial]?),
-        resolver: FakeResolver::failing(addresses, vec![in alloc; asking]?),
-        clock: FakeClock::told(vec![in alloc; 0]?),
+        dialer: dialer(alloc, texts, dial)?,
+        resolver: FakeResolver::failing(addresses, failing),
+        clock: FakeClock::told(times),
         draw: FakeDraw::told(Vec::new(alloc)),
     })
 }
 
-fn connects(
-    alloc: Global,
-    pool: &mut Pool,
-    world: &mut Memory,
-) -> Result<Linked<FakeRead, FakeWrite>, ConnectError> {
+fn connects(alloc: Global, pool: &mut Pool, world: &mut Memory) -> Connected {
     let options = ConnectOptions::new();
     let last = ServerInfo::default(alloc);
-    try_connect(alloc, pool, &options, &last, world)
+    let connected = try_connect(alloc, pool, &options, &last, world);
+    drop(last);
+    drop(options);
+    connected
 }
 
 fn first_has(servers: &[Server], failed: usize, connected: bool, words: &str) -> bool {
@@ -93,33 +104,63 @@ struct Round<'a> {
     kept: &'a str,
 }
 
+fn says(alloc: Global, error: &ConnectError, words: &str) -> Result<bool, NoMemory> {
+    Ok(format!(in alloc; "{error}")?.as_str() == words)
+}
+
+fn is_refused(alloc: Global, connected: &Connected, words: &str) -> Result<bool, NoMemory> {
+    match connected {
+        Ok(_) => Ok(false),
+        Err(error) => says(alloc, error, words),
+    }
+}
+
 fn refuses(
     alloc: Global,
     round: &Round,
     pool: &mut Pool,
     world: &mut Memory,
 ) -> Result<bool, NoMemory> {
-    match connects(alloc, pool, world) {
-        Ok(_) => Ok(false),
-        Err(error) => Ok(format!(in alloc; "{error}")?.as_str() == round.words),
-    }
+    let connected = connects(alloc, pool, world);
+    let is_refused = is_refused(alloc, &connected, round.words);
+    drop(connected);
+    is_refused
 }
 
-fn fails(alloc: Global, round: &Round) -> Result<bool, NoMemory> {
-    let Ok(mut pool) = pool(alloc, round.addrs, round.limit) else {
-        return Ok(false);
-    };
-    let mut world = world(alloc, round.texts, round.dial, round.asking)?;
-    let is_refused = refuses(alloc, round, &mut pool, &mut world)?;
+fn fails_in(
+    alloc: Global,
+    round: &Round,
+    pool: &mut Pool,
+    world: &mut Memory,
+) -> Result<bool, NoMemory> {
+    let is_refused = refuses(alloc, round, pool, world)?;
     let is_counted = knows(
         alloc,
-        &pool,
+        pool,
         round.failed,
         false,
         round.kept,
         round.addrs.len(),
     )?;
     Ok(is_refused && is_counted)
+}
+
+fn fails_with(alloc: Global, round: &Round, pool: &mut Pool) -> Result<bool, NoMemory> {
+    let mut world = world(alloc, round.texts, round.dial, round.asking)?;
+    let fails = fails_in(alloc, round, pool, &mut world);
+    drop(world);
+    fails
+}
+
+fn fails(alloc: Global, round: &Round) -> Result<bool, NoMemory> {
+    match pool(alloc, round.addrs, round.limit) {
+        Ok(mut pool) => {
+            let fails = fails_with(alloc, round, &mut pool);
+            drop(pool);
+            fails
+        }
+        Err(_) => Ok(false),
+    }
 }
 
 // One whose first server keeps what the error says, where it failed.
@@ -175,41 +216,68 @@ fn rounds_that_give_no_link(rt: HostRuntime) -> Result<(), Fail> {
     Ok(())
 }
 
-fn comes_up(alloc: Global, pool: &mut Pool, world: &mut Memory) -> bool {
-    match connects(alloc, pool, world) {
+fn has_rest(connected: &Connected) -> bool {
+    match connected {
         Ok(linked) => linked.rest.as_slice() == b"rest".as_slice(),
         Err(_) => false,
     }
+}
+
+fn comes_up(alloc: Global, pool: &mut Pool, world: &mut Memory) -> bool {
+    let connected = connects(alloc, pool, world);
+    let is_up = has_rest(&connected);
+    drop(connected);
+    is_up
+}
+
+// Whether the second address gives a link, where the first is not dialed.
+fn second_comes_up(alloc: Global, pool: &mut Pool) -> Result<bool, NoMemory> {
+    // The piece of 7 bytes that ends the PONG has the rest too.
+    let texts = ["INFO {\"connect_urls\":[\"b\"]} \r\nPONG\r\nrest"];
+    let mut world = world(alloc, &texts, 1, 0)?;
+    let is_up = comes_up(alloc, pool, &mut world);
+    drop(world);
+    Ok(is_up)
 }
 
 #[test]
 fn the_second_address_gives_a_link(rt: HostRuntime) -> Result<(), Fail> {
     let alloc = rt.alloc();
     let mut pool = pool(alloc, &["a"], None)?;
-    // The piece of 7 bytes that ends the PONG has the rest too.
-    let texts = ["INFO {\"connect_urls\":[\"b\"]} \r\nPONG\r\nrest"];
-    let mut world = world(alloc, &texts, 1, 0)?;
-    assert!(rt; comes_up(alloc, &mut pool, &mut world));
-    assert!(rt; knows(alloc, &pool, 0, true, "", 2)?);
+    let is_up = second_comes_up(alloc, &mut pool);
+    let is_known = knows(alloc, &pool, 0, true, "", 2);
+    drop(pool);
+    assert!(rt; is_up?);
+    assert!(rt; is_known?);
     Ok(())
 }
 
-/// Whether a handshake at this address reads an INFO, whose servers a pool takes in.
-fn reads(alloc: Global, addr: &ServerAddr, pool: &mut Pool, info: &[u8]) -> bool {
+fn takes_in(alloc: Global, shaking: &mut Handshake, pool: &mut Pool, info: &[u8]) -> bool {
     let options = ConnectOptions::new();
-    let Ok(mut shaking) = Handshake::new(alloc, addr, &options, 0) else {
-        return false;
-    };
-    shaking.feed(alloc, info, &options, pool).is_ok()
+    let fed = shaking.feed(alloc, info, &options, pool);
+    drop(options);
+    let is_fed = fed.is_ok();
+    drop(fed);
+    is_fed
+}
+
+/// Whether a handshake at this address reads an INFO, whose servers a pool takes in.
+fn reads(alloc: Global, addr: &str, pool: &mut Pool, info: &[u8]) -> Result<bool, &'static str> {
+    let mut shaking = begun(alloc, addr, 0)?;
+    let is_read = takes_in(alloc, &mut shaking, pool, info);
+    drop(shaking);
+    Ok(is_read)
 }
 
 #[test]
 fn a_pool_takes_in_the_servers_of_an_info(rt: HostRuntime) -> Result<(), Fail> {
     let alloc = rt.alloc();
     let mut pool = pool(alloc, &["a"], None)?;
-    let addr = ServerAddr::parse(alloc, "a").ok().ok_or("addr")?;
     let info = b"INFO {\"connect_urls\":[\"a\",\"b\",\"b\"]}\r\n";
-    assert!(rt; reads(alloc, &addr, &mut pool, info));
-    assert!(rt; knows(alloc, &pool, 0, false, "", 2)?);
+    let is_read = reads(alloc, "a", &mut pool, info);
+    let is_known = knows(alloc, &pool, 0, false, "", 2);
+    drop(pool);
+    assert!(rt; is_read?);
+    assert!(rt; is_known?);
     Ok(())
 }
