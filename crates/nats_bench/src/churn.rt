@@ -1,4 +1,8 @@
 //! Subscriptions that are made and dropped again, one after another, on one session.
+ghost use Rattle.std.specs.Prelude.{◌≡◌, ◌&&◌, not, IfOk, IsTrue, is_some};
+ghost use Rattle.nats_history.specs.Schedule.{due};
+ghost use Rattle.nats_history.specs.declared.turn.Turn.TheVariants as turns;
+ghost use Rattle.nats_session.specs.Handler.{can_play};
 
 use nats_session::{
     Call, CallReply, Config, ConnectionHandler, Due, NoMemory, ServerInfo, Subject, Turn,
@@ -38,13 +42,49 @@ fn server_info(alloc: Global) -> ServerInfo {
     info
 }
 
+/// Whether a turn may come now.
+pub fn may_play(session: &ConnectionHandler, turn: Turn) -> bool
+    ensures { result ≡ can_play session.now.parts turn }
+{
+    session.check(&turn)
+}
+
+/// Whether a link may come up now, whatever its server says of itself.
+fn may_come_up(alloc: Global, session: &ConnectionHandler) -> bool
+    ensures { result
+        ≡ ((not session.now.parts.link.is_up && not session.now.parts.is_closed)
+        && not (is_some (due session.now.parts))) }
+{
+    may_play(session, Turn::Up(server_info(alloc)))
+}
+
 /// A link comes up where none is, of a server that says nothing of itself but the most bytes of a payload.
 pub fn bring_up(alloc: Global, session: &mut ConnectionHandler) -> Result<(), NoMemory> {
-    let info = server_info(alloc);
-    if session.check(&Turn::Up(info.copy(alloc)?)) {
-        session.up(alloc, info)?;
+    if may_come_up(alloc, session) {
+        session.up(alloc, server_info(alloc))
+    } else {
+        Ok(())
     }
-    Ok(())
+}
+
+/// Whether a call may come now.
+fn may_do(alloc: Global, session: &ConnectionHandler, call: &Call) -> Result<bool, NoMemory>
+    ensures { IfOk result (λ may. may ≡ can_play session.now.parts (turns.Do call.now)) }
+{
+    let call = call.copy(alloc)?;
+    Ok(may_play(session, Turn::Do(call)))
+}
+
+/// Makes a call that may come; the number that it gave, if it gave one.
+fn hand_in(
+    alloc: Global,
+    session: &mut ConnectionHandler,
+    call: Call,
+) -> Result<Option<u64>, NoMemory>
+    requires { IsTrue (can_play session.old.parts (turns.Do call)) }
+{
+    let outcome = session.submit(alloc, call);
+    number_told(&outcome)
 }
 
 /// Makes a call where it may come; the number that it gave, if it gave one.
@@ -53,11 +93,16 @@ pub fn submit(
     session: &mut ConnectionHandler,
     call: &Call,
 ) -> Result<Option<u64>, NoMemory> {
-    if !session.check(&Turn::Do(call.copy(alloc)?)) {
-        return Ok(None);
+    if may_do(alloc, session, call)? {
+        hand_in(alloc, session, call.copy(alloc)?)
+    } else {
+        Ok(None)
     }
-    match session.submit(alloc, call.copy(alloc)?) {
-        Ok(reply) => Ok(number_of(&reply)),
+}
+
+fn number_told(outcome: &Result<CallReply, Call>) -> Result<Option<u64>, NoMemory> {
+    match outcome {
+        Ok(reply) => Ok(number_of(reply)),
         Err(_) => Err(NoMemory),
     }
 }
@@ -83,9 +128,14 @@ fn number_of(reply: &CallReply) -> Option<u64> {
 
 /// Plays the step that is due: how many calls it handled.
 pub fn handle(alloc: Global, session: &mut ConnectionHandler) -> Result<u64, NoMemory> {
-    match session.advance(alloc)? {
-        Due::Handled => Ok(1),
-        Due::Nothing | Due::Read | Due::Put(_) | Due::Dropped(..) | Due::Ended => Ok(0),
+    let due = session.advance(alloc)?;
+    Ok(handled(&due))
+}
+
+fn handled(due: &Due) -> u64 {
+    match due {
+        Due::Handled => 1,
+        Due::Nothing | Due::Read | Due::Put(_) | Due::Dropped(..) | Due::Ended => 0,
     }
 }
 
@@ -105,6 +155,16 @@ pub fn make(alloc: Global, session: &mut ConnectionHandler) -> Result<Option<u64
     submit(alloc, session, &call)
 }
 
+/// Drops the subscription of a number.
+fn let_go(
+    alloc: Global,
+    session: &mut ConnectionHandler,
+    number: u64,
+) -> Result<Option<u64>, NoMemory> {
+    let call = Call::DropSub(number);
+    submit(alloc, session, &call)
+}
+
 /// A subscription is made and dropped again, and its texts are taken.
 fn make_and_drop(
     alloc: Global,
@@ -115,7 +175,7 @@ fn make_and_drop(
         return Ok(());
     };
     let made = handle(alloc, session)?;
-    submit(alloc, session, &Call::DropSub(number))?;
+    let_go(alloc, session, number)?;
     let dropped = handle(alloc, session)?;
     write(session);
     left.given = number;
@@ -127,7 +187,7 @@ fn make_and_drop(
 pub fn named(session: &ConnectionHandler, last: u64) -> u64 {
     let mut count = 0u64;
     for s in 1..=last {
-        if session.check(&Turn::Take(s)) {
+        if may_play(session, Turn::Take(s)) {
             count = count.saturating_add(1);
         }
     }

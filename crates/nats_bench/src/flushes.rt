@@ -47,11 +47,16 @@ fn write_slowly(session: &mut ConnectionHandler) {
     }
 }
 
+fn is_flushed(reply: &Option<CallReply>) -> bool {
+    matches!(reply, Some(CallReply::Flushed))
+}
+
 /// How many of the tickets up to `last` settled as flushed.
 fn settled(session: &mut ConnectionHandler, last: u64) -> u64 {
     let mut count = 0u64;
     for ticket in 1..=last {
-        if let Some(CallReply::Flushed) = session.reply_of(ticket) {
+        let reply = session.reply_of(ticket);
+        if is_flushed(&reply) {
             count = count.saturating_add(1);
         }
     }

@@ -233,17 +233,26 @@ fn asked<R: Env + AllocGlobal>(rt: &R) -> Result<Option<Command>> {
     Ok(command_of(words.as_slice()))
 }
 
+fn measured<R: Clock + AllocGlobal>(rt: &R, work: Work, mix: Mix, count: usize) -> Result<Report> {
+    Ok(Report::Measured(measure_wire(rt, work, mix, count)?))
+}
+
+/// What a command finds.
+fn found<R: Clock + AllocGlobal>(rt: &R, command: Command) -> Result<Report> {
+    match command {
+        Command::Count(count) => counted(rt, count),
+        Command::Time(count) => timed(rt, count),
+        Command::Links(count) => linked(rt, count),
+        Command::Flushes(count) => settled(rt, count),
+        Command::Requests(count) => answered(rt, count),
+        Command::Code(work, mix, count) => measured(rt, work, mix, count),
+    }
+}
+
 /// What the words of the command line ask for; `None` where they are no command.
 fn measure<R: Clock + Env + AllocGlobal>(rt: &R) -> Result<Option<Report>> {
     match asked(rt)? {
-        Some(Command::Count(count)) => Ok(Some(counted(rt, count)?)),
-        Some(Command::Time(count)) => Ok(Some(timed(rt, count)?)),
-        Some(Command::Links(count)) => Ok(Some(linked(rt, count)?)),
-        Some(Command::Flushes(count)) => Ok(Some(settled(rt, count)?)),
-        Some(Command::Requests(count)) => Ok(Some(answered(rt, count)?)),
-        Some(Command::Code(work, mix, count)) => {
-            Ok(Some(Report::Measured(measure_wire(rt, work, mix, count)?)))
-        }
+        Some(command) => Ok(Some(found(rt, command)?)),
         None => Ok(None),
     }
 }

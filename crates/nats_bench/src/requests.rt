@@ -1,6 +1,9 @@
 //! Requests over one inbox, many of which wait at a time.
+ghost use Rattle.std.specs.Prelude.{◌≡◌, IfOk};
+ghost use Rattle.nats_history.specs.declared.turn.Turn.TheVariants as turns;
+ghost use Rattle.nats_session.specs.Handler.{can_play};
 
-use crate::churn::{bring_up, handle, submit, write};
+use crate::churn::{bring_up, handle, may_play, submit, write};
 use nats_session::{
     Bytes, Call, CallReply, Config, ConnectionHandler, NoMemory, Subject, Token, Turn,
 };
@@ -32,6 +35,26 @@ fn token_of(alloc: Global, number: usize) -> Result<Option<Token>, NoMemory> {
     Ok(Token::new(text.as_str()))
 }
 
+fn request_under(alloc: Global, token: Token) -> Result<Call, NoMemory> {
+    let payload = Bytes::copy_from_slice(alloc, b"hi")?;
+    Ok(Call::Request {
+        subject: Subject::from_static("bench.service"),
+        payload,
+        headers: None,
+        token,
+    })
+}
+
+/// Asks under a token: the ticket that this gave.
+fn ask_under(
+    alloc: Global,
+    session: &mut ConnectionHandler,
+    token: Token,
+) -> Result<Option<u64>, NoMemory> {
+    let call = request_under(alloc, token)?;
+    submit(alloc, session, &call)
+}
+
 /// Asks under the token of a number: the ticket that this gave.
 fn ask(
     alloc: Global,
@@ -41,29 +64,52 @@ fn ask(
     let Some(token) = token_of(alloc, number)? else {
         return Ok(None);
     };
-    let call = Call::Request {
-        subject: Subject::from_static("bench.service"),
-        payload: Bytes::copy_from_slice(alloc, b"hi")?,
-        headers: None,
-        token,
-    };
-    let ticket = submit(alloc, session, &call)?;
+    let ticket = ask_under(alloc, session, token)?;
     handle(alloc, session)?;
     Ok(ticket)
 }
 
-/// The reply under the token of a number comes, and is read.
-fn reply(alloc: Global, session: &mut ConnectionHandler, number: usize) -> Result<(), NoMemory> {
+fn reply_bytes(alloc: Global, number: usize) -> Result<Bytes, NoMemory> {
     let text = format!(in alloc; "MSG _INBOX.MUX1.T{number} 0 5\r\nhello\r\n")?;
     let bytes = Bytes::copy_from_slice(alloc, text.as_bytes())?;
-    if session.check(&Turn::Piece(bytes.clone()?)) {
-        session.piece(alloc, bytes.as_slice())?;
+    Ok(bytes)
+}
+
+/// Whether the link may give these bytes now.
+fn may_give(session: &ConnectionHandler, bytes: &Bytes) -> Result<bool, NoMemory>
+    ensures { IfOk result (λ may. may ≡ can_play session.now.parts (turns.Piece bytes.now)) }
+{
+    let bytes = bytes.clone()?;
+    Ok(may_play(session, Turn::Piece(bytes)))
+}
+
+/// The link gives these bytes, where it may.
+fn give(alloc: Global, session: &mut ConnectionHandler, bytes: &Bytes) -> Result<(), NoMemory> {
+    if may_give(session, bytes)? {
+        session.piece(alloc, bytes.as_slice())
+    } else {
+        Ok(())
     }
-    session.advance(alloc)?;
+}
+
+/// The reply under the token of a number comes.
+fn give_reply(
+    alloc: Global,
+    session: &mut ConnectionHandler,
+    number: usize,
+) -> Result<(), NoMemory> {
+    let bytes = reply_bytes(alloc, number)?;
+    give(alloc, session, &bytes)
+}
+
+/// The reply under the token of a number comes, and is read.
+fn reply(alloc: Global, session: &mut ConnectionHandler, number: usize) -> Result<(), NoMemory> {
+    give_reply(alloc, session, number)?;
+    handle(alloc, session)?;
     Ok(())
 }
 
-fn is_reply(reply: Option<CallReply>) -> bool {
+fn is_reply(reply: &Option<CallReply>) -> bool {
     matches!(reply, Some(CallReply::Replied(_)))
 }
 
@@ -71,7 +117,8 @@ fn is_reply(reply: Option<CallReply>) -> bool {
 fn replied(session: &mut ConnectionHandler, first: u64, last: u64) -> u64 {
     let mut count = 0u64;
     for ticket in first..last {
-        if is_reply(session.reply_of(ticket.saturating_add(1))) {
+        let reply = session.reply_of(ticket.saturating_add(1));
+        if is_reply(&reply) {
             count = count.saturating_add(1);
         }
     }

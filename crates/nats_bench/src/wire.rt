@@ -210,27 +210,53 @@ fn put(alloc: Global, connection: &mut Connection, op: &ClientOp) -> Result<u64,
     }
 }
 
-fn encode(alloc: Global, ops: &[ClientOp], count: usize) -> Result<u64, NoMemory> {
-    let mut connection = Connection::new(alloc);
+fn encode_on(
+    alloc: Global,
+    connection: &mut Connection,
+    ops: &[ClientOp],
+    count: usize,
+) -> Result<u64, NoMemory> {
     let mut bytes = 0u64;
     for k in 0..count {
         if let Some(op) = ops.get(k % CYCLE) {
-            bytes = bytes.saturating_add(put(alloc, &mut connection, op)?);
+            bytes = bytes.saturating_add(put(alloc, connection, op)?);
         }
     }
-    Ok(bytes.saturating_add(take_all(alloc, &mut connection)?))
+    Ok(bytes.saturating_add(take_all(alloc, connection)?))
+}
+
+fn encode(alloc: Global, ops: &[ClientOp], count: usize) -> Result<u64, NoMemory> {
+    let mut connection = Connection::new(alloc);
+    encode_on(alloc, &mut connection, ops, count)
+}
+
+/// Makes an operation and writes it: how many bytes were taken then.
+fn put_made(alloc: Global, connection: &mut Connection, parts: &Parts) -> Result<u64> {
+    let taken = {
+        let op = parts.made(alloc)?;
+        put(alloc, connection, &op)
+    };
+    Ok(taken?)
+}
+
+fn publish_on(
+    alloc: Global,
+    connection: &mut Connection,
+    parts: &[Parts],
+    count: usize,
+) -> Result<u64> {
+    let mut bytes = 0u64;
+    for k in 0..count {
+        if let Some(parts) = parts.get(k % CYCLE) {
+            bytes = bytes.saturating_add(put_made(alloc, connection, parts)?);
+        }
+    }
+    Ok(bytes.saturating_add(take_all(alloc, connection)?))
 }
 
 fn publish(alloc: Global, parts: &[Parts], count: usize) -> Result<u64> {
     let mut connection = Connection::new(alloc);
-    let mut bytes = 0u64;
-    for k in 0..count {
-        if let Some(parts) = parts.get(k % CYCLE) {
-            let op = parts.made(alloc)?;
-            bytes = bytes.saturating_add(put(alloc, &mut connection, &op)?);
-        }
-    }
-    Ok(bytes.saturating_add(take_all(alloc, &mut connection)?))
+    publish_on(alloc, &mut connection, parts, count)
 }
 
 fn client_ops(alloc: Global, parts: &[Parts]) -> Result<Vec<ClientOp>> {
