@@ -253,6 +253,9 @@ fn note_news(handler: &mut ConnectionHandler, draft: &mut Draft, place: u64) -> 
         (draft.new ≡ write_tickets place handler.old.ready (write_events place handler.old.events draft.old)) }
     ensures handed_out { OnOk result (handler.new ≡ record handler.old { events = []; ready = [] }) }
 {
+    if !handler.has_news() {
+        return Ok(());
+    }
     note_events(handler, draft, place)?;
     note_settled(handler, draft, place);
     Ok(())

@@ -1,5 +1,5 @@
 //! How tickets are kept: this file and those of its fields alone know.
-ghost use Rattle.std.specs.Prelude.{◌≡◌, ◌≤◌, ◌+◌, ◌-◌, ◌||◌, suc, [], ◌∷◌, ◌++◌, length, drop, map, Some, OnOk, OnErr, if◌then◌else◌};
+ghost use Rattle.std.specs.Prelude.{◌≡◌, ◌==◌, ◌≤◌, ◌+◌, ◌-◌, ◌||◌, not, suc, [], ◌∷◌, ◌++◌, length, drop, map, Some, OnOk, OnErr, if◌then◌else◌};
 ghost use Rattle.std.specs.VecDeque.{deque_len, deque_capacity};
 ghost use Rattle.nats_tables.specs.Numbers.{item_of, at_number};
 ghost use Rattle.nats_history.specs.declared.call.CallReply.TheVariants as replies;
@@ -392,6 +392,13 @@ impl Tickets {
         let place = place_in(&self.ready, ticket)?;
         let (_, reply) = self.ready.remove(place)?;
         Some(reply)
+    }
+
+    /// Whether a settled ticket waits to be handed out. It takes no memory.
+    pub fn has_next(&self) -> bool
+        ensures { result ≡ not (length self.now.ready == 0) }
+    {
+        !self.ready.is_empty()
     }
 
     /// Hands out the ticket that settled first, with its reply. It takes no memory.

@@ -1,5 +1,5 @@
 //! What a session tells of itself.
-ghost use Rattle.std.specs.Prelude.{◌≡◌, length, take, drop, min, is_some, not, IfOk};
+ghost use Rattle.std.specs.Prelude.{◌≡◌, ◌==◌, ◌||◌, length, take, drop, min, is_some, not, IfOk};
 ghost use Rattle.std.specs.Option.{option_copied};
 ghost use Rattle.nats_history.specs.Queue.{first};
 ghost use Rattle.nats_tables.specs.Numbers.{item_of};
@@ -248,6 +248,13 @@ impl ConnectionHandler {
         ensures { result.now ≡ self.now.parts.config }
     {
         &self.config
+    }
+
+    /// Whether an event or a settled ticket waits to be handed out.
+    pub(crate) fn has_news(&self) -> bool
+        ensures { result ≡ (not (length self.now.events == 0) || not (length self.now.ready == 0)) }
+    {
+        !self.events.is_empty() || self.tickets.has_next()
     }
 
     fn take_event(&mut self) -> Option<Event>
