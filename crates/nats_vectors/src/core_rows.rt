@@ -2,8 +2,8 @@
 
 use crate::words::{say, say_event, say_number, say_reply, say_take};
 use nats_core::{
-    Bytes, Call, Config, Core, Entry, LinkRead, LinkWrite, NoMemory, ReadOnce, ServerInfo,
-    StepError, StepReply, Turn, WriteOnce,
+    Bytes, Call, CallReply, Config, Core, Entry, LinkRead, LinkWrite, NoMemory, ReadOnce,
+    ServerInfo, StepError, StepReply, Turn, WriteOnce,
 };
 use nats_outside::{Dialer, FakeDialer, FakeLink, FakeRead, FakeWrite};
 use nats_script::{Script, read_script};
@@ -43,12 +43,19 @@ fn say_step(out: &mut Vec<u8>, answer: &Result<StepReply, StepError>) -> Result<
 }
 
 // A turn is played on link 1 where that is up.
-fn step(alloc: Global, core: &mut Core, out: &mut Vec<u8>, turn: Turn) -> Result<(), NoMemory> {
+fn played(alloc: Global, core: &mut Core, turn: Turn) -> Result<StepReply, StepError> {
     if core.handler().is_up() {
-        say_step(out, &core.step_on(alloc, 1, turn))
+        core.step_on(alloc, 1, turn)
     } else {
-        say_step(out, &core.step(alloc, turn))
+        core.step(alloc, turn)
     }
+}
+
+fn step(alloc: Global, core: &mut Core, out: &mut Vec<u8>, turn: Turn) -> Result<(), NoMemory> {
+    let answer = played(alloc, core, turn);
+    let said = say_step(out, &answer);
+    drop(answer);
+    said
 }
 
 fn step_copy(
@@ -66,12 +73,19 @@ fn step_elsewhere(alloc: Global, core: &mut Core, out: &mut Vec<u8>) -> Result<(
     say_step(out, &answer)
 }
 
-fn submit(alloc: Global, core: &mut Core, out: &mut Vec<u8>) -> Result<(), NoMemory> {
-    match core.submit(alloc, Call::Flush) {
-        Ok(reply) => say_reply(out, &reply)?,
+fn say_submitted(out: &mut Vec<u8>, answer: &Result<CallReply, Call>) -> Result<(), NoMemory> {
+    match answer {
+        Ok(reply) => say_reply(out, reply)?,
         Err(_) => return Err(NoMemory),
     }
     say(out, "\n")
+}
+
+fn submit(alloc: Global, core: &mut Core, out: &mut Vec<u8>) -> Result<(), NoMemory> {
+    let answer = core.submit(alloc, Call::Flush);
+    let said = say_submitted(out, &answer);
+    drop(answer);
+    said
 }
 
 fn say_entry(out: &mut Vec<u8>, entry: &Entry) -> Result<(), NoMemory> {
@@ -118,6 +132,10 @@ fn drive(
     say_ticket(core, out)
 }
 
+fn new_core(alloc: Global, config: &Config, is_kept: bool) -> Result<Core, NoMemory> {
+    Core::new(alloc, config.copy(alloc)?, is_kept)
+}
+
 fn drive_new(
     alloc: Global,
     out: &mut Vec<u8>,
@@ -125,8 +143,10 @@ fn drive_new(
     turns: &[Turn],
     is_kept: bool,
 ) -> Result<(), NoMemory> {
-    let mut core = Core::new(alloc, config.copy(alloc)?, is_kept)?;
-    drive(alloc, &mut core, out, turns)
+    let mut core = new_core(alloc, config, is_kept)?;
+    let driven = drive(alloc, &mut core, out, turns);
+    drop(core);
+    driven
 }
 
 fn steps_of(alloc: Global, script: &str, is_kept: bool) -> Result<Vec<u8>, NoMemory> {
@@ -178,12 +198,6 @@ fn bring_up(alloc: Global, core: &mut Core) -> Result<(), NoMemory> {
     let mut out = Vec::new(alloc);
     let up = Turn::Up(ServerInfo::default(alloc));
     step(alloc, core, &mut out, up)
-}
-
-fn on_a_link(alloc: Global) -> Result<Core, NoMemory> {
-    let mut core = Core::new(alloc, settings(alloc)?, true)?;
-    bring_up(alloc, &mut core)?;
-    Ok(core)
 }
 
 // The halves of a link in memory that gives this text and takes 4 bytes at a write.
@@ -244,6 +258,7 @@ fn answers_and_loses(
 }
 
 fn lends_a_link(alloc: Global, core: &mut Core) -> Result<bool, &'static str> {
+    bring_up(alloc, core).map_err(|_| "memory")?;
     let (mut read, mut write) = halves(alloc, "PING\r\n")?;
     answers_and_loses(alloc, core, &mut read, &mut write).map_err(|_| "memory")
 }
@@ -251,7 +266,7 @@ fn lends_a_link(alloc: Global, core: &mut Core) -> Result<bool, &'static str> {
 #[test]
 fn a_link_is_read_and_written(rt: HostRuntime) -> Result<(), Fail> {
     let alloc = rt.alloc();
-    let mut core = on_a_link(alloc)?;
+    let mut core = new_core(alloc, &settings(alloc)?, true)?;
     let is_lent = lends_a_link(alloc, &mut core);
     drop(core);
     assert!(rt; is_lent?);

@@ -8,7 +8,9 @@ use crate::words::{
 };
 use nats_names::{Bytes, NoMemory, State};
 use nats_script::{Script, print_transcript, read_script};
-use nats_session::{Call, Config, ConnectionHandler, ServerInfo, Statistics, Turn, run};
+use nats_session::{
+    Call, Config, ConnectionHandler, RunError, ServerInfo, Statistics, Transcript, Turn, run,
+};
 use std::alloc::Global;
 
 /// The most due steps, and the most events, that are played behind one turn.
@@ -306,7 +308,9 @@ fn play_copy(
     turn: &Turn,
 ) -> Result<(), NoMemory> {
     let turn = turn.copy(alloc)?;
-    play_turn(alloc, handler, out, &turn)
+    let played = play_turn(alloc, handler, out, &turn);
+    drop(turn);
+    played
 }
 
 fn play_all(
@@ -346,11 +350,16 @@ pub fn answers(alloc: Global, script: &str) -> Result<Vec<u8>, NoMemory> {
     Ok(out)
 }
 
-fn transcript_of(alloc: Global, config: &Config, turns: &[Turn]) -> Result<Vec<u8>, NoMemory> {
-    match run(alloc, config.copy(alloc)?, turns) {
-        Ok(transcript) => print_transcript(alloc, &transcript),
+fn print_played(alloc: Global, played: &Result<Transcript, RunError>) -> Result<Vec<u8>, NoMemory> {
+    match played {
+        Ok(transcript) => print_transcript(alloc, transcript),
         Err(refusal) => Ok(refusal.to_string(alloc)?.into_bytes()),
     }
+}
+
+fn transcript_of(alloc: Global, config: &Config, turns: &[Turn]) -> Result<Vec<u8>, NoMemory> {
+    let played = run(alloc, config.copy(alloc)?, turns);
+    print_played(alloc, &played)
 }
 
 /// The printed transcript of a script that `run` plays, or the text of its refusal. Where a line cannot be read,

@@ -26,14 +26,24 @@ struct Row<'a> {
 
 const SMALL: &str = "INFO {\"max_payload\":100}\r\n";
 
+const PUBLISHED: Row = Row {
+    words: &["pub", "nats://h", "a", "hi"],
+    gives: &[SMALL, "PONG\r\n"],
+    status: 0,
+    printed: "published\n",
+    took: "PUB a 2\r\nhi\r\n",
+};
+
+const RECEIVED: Row = Row {
+    words: &["sub", "nats://h", "a", "1"],
+    gives: &[SMALL, "PONG\r\n", "MSG a 1 2\r\nhi\r\n"],
+    status: 0,
+    printed: "message a ~ hi ~ ~ 3 ~\n",
+    took: "SUB a 1\r\n",
+};
+
 const ROWS: [Row; 14] = [
-    Row {
-        words: &["pub", "nats://h", "a", "hi"],
-        gives: &[SMALL, "PONG\r\n"],
-        status: 0,
-        printed: "published\n",
-        took: "PUB a 2\r\nhi\r\n",
-    },
+    PUBLISHED,
     Row {
         words: &["pub", "nats://h", "a", "hi"],
         gives: &["INFO {}\r\n", "PONG\r\n"],
@@ -41,13 +51,7 @@ const ROWS: [Row; 14] = [
         printed: "max payload size exceeded: Payload size limit of 0 exceeded by message size of 2\n",
         took: "",
     },
-    Row {
-        words: &["sub", "nats://h", "a", "1"],
-        gives: &[SMALL, "PONG\r\n", "MSG a 1 2\r\nhi\r\n"],
-        status: 0,
-        printed: "message a ~ hi ~ ~ 3 ~\n",
-        took: "SUB a 1\r\n",
-    },
+    RECEIVED,
     Row {
         words: &["sub", "nats://h", "a", "1"],
         gives: &[SMALL, "PONG\r\n"],
@@ -138,6 +142,25 @@ const ROWS: [Row; 14] = [
     },
 ];
 
+// All that a link gives, and how long each read of it is.
+fn pieces(alloc: Global, gives: &[&str]) -> Result<(Vec<u8>, Vec<usize>), NoMemory> {
+    let mut text = Vec::new(alloc);
+    let mut cuts = Vec::new(alloc);
+    for piece in gives {
+        text.extend_from_slice(piece.as_bytes())?;
+        cuts.push(piece.len())?;
+    }
+    Ok((text, cuts))
+}
+
+// A link that gives this text and fails at this read and this write, counted from 1.
+fn link_of(alloc: Global, text: Vec<u8>, read: u64, write: u64) -> Result<FakeLink, NoMemory> {
+    let bytes = Bytes::from_vec(text)?;
+    let reads = vec![in alloc; read]?;
+    let writes = vec![in alloc; write]?;
+    Ok(FakeLink::failing(alloc, bytes, 65_536, reads, writes)?)
+}
+
 // A world with one link that gives these texts, each by a read of its own, and fails at this read and this
 // write, counted from 1.
 fn in_memory(
@@ -146,20 +169,17 @@ fn in_memory(
     read: u64,
     write: u64,
 ) -> Result<MemoryWorld, NoMemory> {
-    let mut text = Vec::new(alloc);
-    let mut cuts = Vec::new(alloc);
-    for piece in gives {
-        text.extend_from_slice(piece.as_bytes())?;
-        cuts.push(piece.len())?;
-    }
-    let link = FakeLink::failing(
-        alloc,
-        Bytes::from_vec(text)?,
-        65_536,
-        vec![in alloc; read]?,
-        vec![in alloc; write]?,
-    )?;
+    let (text, cuts) = pieces(alloc, gives)?;
+    let link = link_of(alloc, text, read, write)?;
     memory_world(alloc, vec![in alloc; link.with_cuts(cuts)]?)
+}
+
+fn words_of(alloc: Global, row: &Row) -> Result<Vec<String>, NoMemory> {
+    let mut words = Vec::new(alloc);
+    for word in row.words {
+        words.push(String::from_str(alloc, word)?)?;
+    }
+    Ok(words)
 }
 
 // The status and what is printed.
@@ -169,10 +189,7 @@ fn plays<R: Wait>(
     row: &Row,
     world: &mut MemoryWorld,
 ) -> Result<(u8, MemorySink), NoMemory> {
-    let mut words = Vec::new(alloc);
-    for word in row.words {
-        words.push(String::from_str(alloc, word)?)?;
-    }
+    let words = words_of(alloc, row)?;
     let mut source = MemorySource::new(Vec::new(alloc), 1);
     let mut sink = MemorySink::new(alloc, 65_536);
     let status = replay(rt, alloc, words.as_slice(), &mut source, &mut sink, world);
@@ -189,6 +206,17 @@ fn took(alloc: Global, world: &MemoryWorld, text: &str) -> Result<bool, NoMemory
     Ok(taken == want.as_slice())
 }
 
+// Whether the row ends and prints as it says in this world.
+fn prints<R: Wait>(
+    rt: &R,
+    alloc: Global,
+    row: &Row,
+    world: &mut MemoryWorld,
+) -> Result<bool, NoMemory> {
+    let (status, sink) = plays(rt, alloc, row, world)?;
+    Ok(status == row.status && sink.bytes() == row.printed.as_bytes())
+}
+
 // Whether the row plays as it says in this world.
 fn goes<R: Wait>(
     rt: &R,
@@ -196,9 +224,7 @@ fn goes<R: Wait>(
     row: &Row,
     world: &mut MemoryWorld,
 ) -> Result<bool, NoMemory> {
-    let (status, sink) = plays(rt, alloc, row, world)?;
-    let printed = status == row.status && sink.bytes() == row.printed.as_bytes();
-    Ok(printed && took(alloc, world, row.took)?)
+    Ok(prints(rt, alloc, row, world)? && took(alloc, world, row.took)?)
 }
 
 // Whether it does on a link that fails at this read and this write, counted from 1.
@@ -210,7 +236,9 @@ fn goes_on<R: Wait>(
     write: u64,
 ) -> Result<bool, NoMemory> {
     let mut world = in_memory(alloc, row.gives, read, write)?;
-    goes(rt, alloc, row, &mut world)
+    let gone = goes(rt, alloc, row, &mut world);
+    drop(world);
+    gone
 }
 
 #[test]
@@ -230,13 +258,13 @@ fn a_link_that_fails_has_ended(rt: HostRuntime) -> Result<(), Fail> {
         status,
         printed,
         took: "",
-        ..ROWS[0]
+        ..PUBLISHED
     };
     assert!(rt; goes_on(&rt, alloc, &not_published, 0, 2)?);
     let not_received = Row {
         status,
         printed,
-        ..ROWS[2]
+        ..RECEIVED
     };
     assert!(rt; goes_on(&rt, alloc, &not_received, 3, 0)?);
     Ok(())

@@ -45,12 +45,25 @@ fn tell_next(out: &mut String, next: &Next) -> Result<(), NoMemory> {
     Ok(out.push(' ')?)
 }
 
+fn tell_attempt(out: &mut String, pool: &mut Pool) -> Result<(), NoMemory> {
+    let next = pool.next_attempt();
+    let told = tell_next(out, &next);
+    drop(next);
+    told
+}
+
+fn begin(alloc: Global, pool: &mut Pool) -> Result<(), NoMemory> {
+    let info = ServerInfo::default(alloc);
+    pool.begin_round(alloc, &info)?;
+    Ok(())
+}
+
 /// What four attempts of a round are answered, each behind a space.
 fn round(alloc: Global, pool: &mut Pool) -> Result<String, NoMemory> {
-    pool.begin_round(alloc, &ServerInfo::default(alloc))?;
+    begin(alloc, pool)?;
     let mut out = String::new(alloc);
     for _ in 0..4 {
-        tell_next(&mut out, &pool.next_attempt())?;
+        tell_attempt(&mut out, pool)?;
     }
     Ok(out)
 }
@@ -59,15 +72,17 @@ fn round(alloc: Global, pool: &mut Pool) -> Result<String, NoMemory> {
 fn a_round_goes_by_the_failures_of_its_servers(rt: HostRuntime) -> Result<(), Fail> {
     let alloc = rt.alloc();
     let mut in_order = failed_pool(alloc, ConnectOptions::new().retain_servers_order())?;
-    assert_eq!(rt; round(alloc, &mut in_order)?.as_str(), "a b c over ");
+    let told = round(alloc, &mut in_order);
+    drop(in_order);
+    assert_eq!(rt; told?.as_str(), "a b c over ");
     let mut sorted = failed_pool(alloc, ConnectOptions::new())?;
-    assert!(rt; round(alloc, &mut sorted)?.as_str().ends_with(" a over "));
+    let told = round(alloc, &mut sorted);
+    drop(sorted);
+    assert!(rt; told?.as_str().ends_with(" a over "));
     let mut limited = failed_pool(alloc, ConnectOptions::new().max_reconnects(Some(2)))?;
-    assert!(rt;
-        round(alloc, &mut limited)?
-            .as_str()
-            .ends_with(" most most ")
-    );
+    let told = round(alloc, &mut limited);
+    drop(limited);
+    assert!(rt; told?.as_str().ends_with(" most most "));
     Ok(())
 }
 

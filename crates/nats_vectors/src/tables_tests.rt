@@ -121,20 +121,35 @@ fn started() -> Counter
     }
 }
 
+fn count_of(table: &Table<Counter>, n: u64) -> Option<u64> {
+    table.item(n).map(|row| row.count)
+}
+
+fn give_two(table: &mut Table<Counter>) -> Result<(), NoMemory> {
+    table.give(started())?;
+    table.give(started())
+}
+
+/// Whether of two counters the second is gone, and refuses each change.
+fn is_second_gone(table: &mut Table<Counter>) -> Result<bool, NoMemory> {
+    Ok(
+        table.item(2).is_none()
+            && table.item(1).is_some()
+            && table.item(3).is_none()
+            && table.try_alter(2, Set { count: 1 })? == 0
+            && table.alter(2, &Stop),
+    )
+}
+
 /// Two counters are given, one is set and stopped: its number stays given, and its row is gone.
 #[test]
 fn a_row_that_is_over_is_forgotten(rt: HostRuntime) -> Result<(), Fail> {
     let mut table = Table::new(rt.alloc());
-    table.give(started())?;
-    table.give(started())?;
+    give_two(&mut table)?;
     assert_eq!(rt; table.try_alter(2, Set { count: 9 })?, 7);
-    assert_eq!(rt; table.item(2).map(|row| row.count), Some(9));
+    assert_eq!(rt; count_of(&table, 2), Some(9));
     assert!(rt; !table.alter(2, &Stop));
-    assert!(rt; table.item(2).is_none());
-    assert!(rt; table.item(1).is_some());
-    assert!(rt; table.item(3).is_none());
-    assert_eq!(rt; table.try_alter(2, Set { count: 1 })?, 0);
-    assert!(rt; table.alter(2, &Stop));
+    assert!(rt; is_second_gone(&mut table)?);
     assert_eq!(rt; table.len(), 2);
     assert_eq!(rt; table.next_after(0), Some(1));
     assert_eq!(rt; table.next_after(1), None);

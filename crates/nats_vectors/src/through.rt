@@ -4,7 +4,7 @@ use crate::sent::say_read;
 use crate::words::say;
 use nats_client_text::read_client_text;
 use nats_names::NoMemory;
-use nats_replay::{MemorySink, MemorySource, memory_world, replay};
+use nats_replay::{MemorySink, MemorySource, MemoryWorld, memory_world, replay};
 use percent_encoding::percent_decode;
 use std::alloc::Global;
 use std::sync::Wait;
@@ -72,27 +72,54 @@ fn say_printed(alloc: Global, out: &mut Vec<u8>, printed: &str) -> Result<(), No
     Ok(())
 }
 
+/// The words of the command that plays a script.
+fn run_words(alloc: Global) -> Result<Vec<String>, NoMemory> {
+    let mut words = Vec::new(alloc);
+    words.push(String::from_str(alloc, "run")?)?;
+    Ok(words)
+}
+
+/// Plays a script, and answers the status that it ends with.
+fn play<R: Wait>(
+    rt: &R,
+    alloc: Global,
+    script: &str,
+    sink: &mut MemorySink,
+    world: &mut MemoryWorld,
+) -> Result<u8, NoMemory> {
+    let words = run_words(alloc)?;
+    let bytes = Vec::from_slice(alloc, script.as_bytes())?;
+    let mut source = MemorySource::new(bytes, AT_ONCE);
+    Ok(replay(rt, alloc, words.as_slice(), &mut source, sink, world))
+}
+
+/// The same in a world that has no links.
+fn play_alone<R: Wait>(
+    rt: &R,
+    alloc: Global,
+    script: &str,
+    sink: &mut MemorySink,
+) -> Result<u8, NoMemory> {
+    let mut world = memory_world(alloc, Vec::new(alloc))?;
+    let status = play(rt, alloc, script, sink, &mut world);
+    drop(world);
+    status
+}
+
+/// What is read out of the bytes of a run that ended with this status.
+fn told(alloc: Global, status: u8, bytes: &[u8]) -> Result<Vec<u8>, NoMemory> {
+    let mut out = Vec::new(alloc);
+    match str::from_utf8(bytes) {
+        Ok(printed) if status == 0 => say_printed(alloc, &mut out, printed)?,
+        Ok(_) | Err(_) => out.extend_from_slice(bytes)?,
+    }
+    Ok(out)
+}
+
 /// The same as `carried`, played by `replay` from the bytes of a script, and read out of the bytes that it writes
 /// alone: the replies to calls, then the commands of each link. Where it does not end with 0, what it writes.
 pub fn carried_through<R: Wait>(rt: &R, alloc: Global, script: &str) -> Result<Vec<u8>, NoMemory> {
-    let mut words = Vec::new(alloc);
-    words.push(String::from_str(alloc, "run")?)?;
-    let bytes = Vec::from_slice(alloc, script.as_bytes())?;
-    let mut source = MemorySource::new(bytes, AT_ONCE);
     let mut sink = MemorySink::new(alloc, AT_ONCE);
-    let mut world = memory_world(alloc, Vec::new(alloc))?;
-    let status = replay(
-        rt,
-        alloc,
-        words.as_slice(),
-        &mut source,
-        &mut sink,
-        &mut world,
-    );
-    let mut out = Vec::new(alloc);
-    match str::from_utf8(sink.bytes()) {
-        Ok(printed) if status == 0 => say_printed(alloc, &mut out, printed)?,
-        Ok(_) | Err(_) => out.extend_from_slice(sink.bytes())?,
-    }
-    Ok(out)
+    let status = play_alone(rt, alloc, script, &mut sink)?;
+    told(alloc, status, sink.bytes())
 }

@@ -3,16 +3,22 @@ use nats_tickets::Tickets;
 use std::alloc::Global;
 use std::test::Fail;
 
+/// The next ticket that waits to be handed out, with a 1 where it was flushed.
+fn next_told(flushes: &mut Tickets) -> Option<(u64, u64)> {
+    let (ticket, reply) = flushes.next()?;
+    Some((ticket, u64::from(matches!(&reply, CallReply::Flushed))))
+}
+
 /// The tickets of flushes that wait to be handed out, each with a 1 behind it where it was flushed and a 0 where it
 /// failed.
 fn told(alloc: Global, flushes: &mut Tickets) -> Result<Vec<u64>, NoMemory> {
     let mut told = Vec::new(alloc);
     for _ in 0..9u64 {
-        let Some((ticket, reply)) = flushes.next() else {
-            return Ok(told);
+        let Some((ticket, is_flushed)) = next_told(flushes) else {
+            break;
         };
         told.push(ticket)?;
-        told.push(if reply == CallReply::Flushed { 1 } else { 0 })?;
+        told.push(is_flushed)?;
     }
     Ok(told)
 }
@@ -39,10 +45,25 @@ fn settle_by_bytes(alloc: Global, flushes: &mut Tickets) -> Result<bool, NoMemor
     Ok(at_once && none && tells(alloc, flushes, &[2, 1])?)
 }
 
-/// The replies of a ticket, by two calls.
+fn is_failed(reply: &Option<CallReply>) -> bool {
+    matches!(reply, Some(CallReply::FlushFailed))
+}
+
+/// Whether a ticket settled as one that failed.
+fn fails(tickets: &mut Tickets, ticket: u64) -> bool {
+    let reply = tickets.reply_of(ticket);
+    is_failed(&reply)
+}
+
+/// Whether a ticket has no reply to hand out.
+fn is_silent(tickets: &mut Tickets, ticket: u64) -> bool {
+    let reply = tickets.reply_of(ticket);
+    reply.is_none()
+}
+
+/// Whether a ticket failed, and tells so once.
 fn failed_once(flushes: &mut Tickets, ticket: u64) -> bool {
-    let failed = matches!(flushes.reply_of(ticket), Some(CallReply::FlushFailed));
-    failed && flushes.reply_of(ticket).is_none()
+    fails(flushes, ticket) && is_silent(flushes, ticket)
 }
 
 fn fail_at_the_end(alloc: Global, flushes: &mut Tickets) -> Result<bool, NoMemory> {
@@ -80,12 +101,8 @@ fn reply_at(alloc: Global, subject: &str) -> Result<Message, NoMemory> {
     })
 }
 
-#[test]
-fn requests_settle_by_their_subjects(rt: HostRuntime) -> Result<(), Fail> {
-    let alloc = rt.alloc();
-    let mut tickets = Tickets::new(alloc);
-    let first = Subject::from_text(alloc, "i.m.A")?;
-    let second = Subject::from_text(alloc, "i.m.B")?;
+/// Four requests, and a flush before the last of them.
+fn give_five(tickets: &mut Tickets) -> Result<(), NoMemory> {
     for waits in [
         Waits::Request,
         Waits::Request,
@@ -95,23 +112,104 @@ fn requests_settle_by_their_subjects(rt: HostRuntime) -> Result<(), Fail> {
     ] {
         tickets.give(waits)?;
     }
-    assert!(rt; tickets.is_request(3) && !tickets.is_request(4) && !tickets.is_request(6));
-    tickets.handle_request(alloc, &first)?;
-    tickets.handle_request(alloc, &second)?;
-    tickets.arrive(reply_at(alloc, "i.m.AB")?);
-    tickets.handle_request(alloc, &first)?;
-    assert!(rt; matches!(tickets.reply_of(1), Some(CallReply::Dropped)));
-    tickets.arrive(reply_at(alloc, "i.m.A")?);
-    tickets.arrive(reply_at(alloc, "i.m.A")?);
-    assert!(rt; matches!(tickets.reply_of(3), Some(CallReply::Replied(_))));
-    assert!(rt; tickets.reply_of(3).is_none());
+    Ok(())
+}
+
+fn tells_requests(tickets: &Tickets) -> bool {
+    tickets.is_request(3) && !tickets.is_request(4) && !tickets.is_request(6)
+}
+
+/// The next request that waits has its reply come at this subject.
+fn handle(alloc: Global, tickets: &mut Tickets, subject: &str) -> Result<(), NoMemory> {
+    let subject = Subject::from_text(alloc, subject)?;
+    tickets.handle_request(alloc, &subject)
+}
+
+fn arrive(alloc: Global, tickets: &mut Tickets, subject: &str) -> Result<(), NoMemory> {
+    tickets.arrive(reply_at(alloc, subject)?);
+    Ok(())
+}
+
+fn is_dropped(reply: &Option<CallReply>) -> bool {
+    matches!(reply, Some(CallReply::Dropped))
+}
+
+/// A request takes the subject of an earlier one, which is dropped.
+fn drops_the_first(alloc: Global, tickets: &mut Tickets) -> Result<bool, NoMemory> {
+    handle(alloc, tickets, "i.m.A")?;
+    handle(alloc, tickets, "i.m.B")?;
+    arrive(alloc, tickets, "i.m.AB")?;
+    handle(alloc, tickets, "i.m.A")?;
+    let reply = tickets.reply_of(1);
+    Ok(is_dropped(&reply))
+}
+
+fn is_replied(reply: &Option<CallReply>) -> bool {
+    matches!(reply, Some(CallReply::Replied(_)))
+}
+
+fn replies(tickets: &mut Tickets, ticket: u64) -> bool {
+    let reply = tickets.reply_of(ticket);
+    is_replied(&reply)
+}
+
+/// Of two replies the first one settles the request.
+fn replies_once(alloc: Global, tickets: &mut Tickets) -> Result<bool, NoMemory> {
+    arrive(alloc, tickets, "i.m.A")?;
+    arrive(alloc, tickets, "i.m.A")?;
+    Ok(replies(tickets, 3) && is_silent(tickets, 3))
+}
+
+fn is_timed_out(next: &Option<(u64, CallReply)>, ticket: u64) -> bool {
+    matches!(next, Some((next, CallReply::TimedOut)) if *next == ticket)
+}
+
+/// Whether this ticket is handed out next, as one that timed out.
+fn times_out(tickets: &mut Tickets, ticket: u64) -> bool {
+    let next = tickets.next();
+    is_timed_out(&next, ticket)
+}
+
+fn two_time_out(tickets: &mut Tickets) -> bool {
     tickets.time_out(2);
     tickets.time_out(2);
     tickets.time_out(5);
-    assert!(rt; matches!(tickets.next(), Some((2, CallReply::TimedOut))));
-    assert!(rt; matches!(tickets.next(), Some((5, CallReply::TimedOut))));
+    times_out(tickets, 2) && times_out(tickets, 5)
+}
+
+fn is_next_failed(next: &Option<(u64, CallReply)>, ticket: u64) -> bool {
+    matches!(next, Some((next, CallReply::FlushFailed)) if *next == ticket)
+}
+
+fn is_over(tickets: &mut Tickets) -> bool {
+    let next = tickets.next();
+    next.is_none()
+}
+
+/// A flush that waits at the end has failed, and nothing waits behind it.
+fn last_fails(tickets: &mut Tickets) -> bool {
     tickets.drop_waiting();
-    assert!(rt; matches!(tickets.next(), Some((4, CallReply::FlushFailed))));
-    assert!(rt; tickets.next().is_none());
+    let next = tickets.next();
+    is_next_failed(&next, 4) && is_over(tickets)
+}
+
+fn settle_requests(alloc: Global, tickets: &mut Tickets) -> Result<bool, NoMemory> {
+    give_five(tickets)?;
+    Ok(
+        tells_requests(tickets)
+            && drops_the_first(alloc, tickets)?
+            && replies_once(alloc, tickets)?
+            && two_time_out(tickets)
+            && last_fails(tickets),
+    )
+}
+
+#[test]
+fn requests_settle_by_their_subjects(rt: HostRuntime) -> Result<(), Fail> {
+    let alloc = rt.alloc();
+    let mut tickets = Tickets::new(alloc);
+    let settled = settle_requests(alloc, &mut tickets);
+    drop(tickets);
+    assert!(rt; settled?);
     Ok(())
 }

@@ -104,8 +104,8 @@ fn a_message_is_read_once_it_is_whole(rt: HostRuntime) -> Result<(), Fail> {
 }
 
 /// What a client tells that has nothing to tell.
-fn plain_info(alloc: Global) -> Result<ConnectInfo, NoMemory> {
-    Ok(ConnectInfo {
+fn plain_info(lang: Text, version: Text) -> ConnectInfo {
+    ConnectInfo {
         verbose: false,
         pedantic: false,
         user_jwt: None,
@@ -113,8 +113,8 @@ fn plain_info(alloc: Global) -> Result<ConnectInfo, NoMemory> {
         signature: None,
         name: None,
         echo: false,
-        lang: Text::from_text(alloc, "Rust")?,
-        version: Text::from_text(alloc, "1.0.0")?,
+        lang,
+        version,
         protocol: Protocol::Dynamic,
         tls_required: false,
         user: None,
@@ -122,7 +122,13 @@ fn plain_info(alloc: Global) -> Result<ConnectInfo, NoMemory> {
         auth_token: None,
         headers: false,
         no_responders: false,
-    })
+    }
+}
+
+fn plain_connect(alloc: Global) -> Result<ClientOp, NoMemory> {
+    let lang = Text::from_text(alloc, "Rust")?;
+    let version = Text::from_text(alloc, "1.0.0")?;
+    Ok(ClientOp::Connect(plain_info(lang, version)))
 }
 
 /// Its line.
@@ -132,8 +138,10 @@ const CONNECT: &str =
 \"auth_token\":null,\"headers\":false,\"no_responders\":false}\r\n";
 
 fn connect(alloc: Global, connection: &mut Connection) -> Result<(), NoMemory> {
-    let op = ClientOp::Connect(plain_info(alloc)?);
-    connection.enqueue_write_op(alloc, &op)
+    let op = plain_connect(alloc)?;
+    let queued = connection.enqueue_write_op(alloc, &op);
+    drop(op);
+    queued
 }
 
 fn connecting(alloc: Global, connection: &mut Connection) -> Result<Vec<u8>, NoMemory> {
