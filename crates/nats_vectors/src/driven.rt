@@ -9,7 +9,8 @@ use crate::words::{
 use nats_names::{Bytes, NoMemory, State};
 use nats_script::{Script, print_transcript, read_script};
 use nats_session::{
-    Call, Config, ConnectionHandler, RunError, ServerInfo, Statistics, Transcript, Turn, run,
+    Call, CallReply, Config, ConnectionHandler, RunError, ServerInfo, Statistics, Transcript, Turn,
+    run,
 };
 use std::alloc::Global;
 
@@ -88,6 +89,20 @@ fn hang_up(
     say(out, "hung up")
 }
 
+fn say_submitted(
+    alloc: Global,
+    out: &mut Vec<u8>,
+    answer: &Result<CallReply, Call>,
+) -> Result<(), NoMemory> {
+    let Ok(reply) = answer else {
+        return Err(NoMemory);
+    };
+    let reply = reply.copy(alloc)?;
+    let said = say_reply(out, &reply);
+    drop(reply);
+    said
+}
+
 fn submit(
     alloc: Global,
     handler: &mut ConnectionHandler,
@@ -96,10 +111,11 @@ fn submit(
 ) -> Result<(), NoMemory>
     requires { IsTrue (can_play handler.old.parts (turns.Do call.now)) }
 {
-    match handler.submit(alloc, call.copy(alloc)?) {
-        Ok(reply) => say_reply(out, &reply.copy(alloc)?),
-        Err(_) => Err(NoMemory),
-    }
+    let call = call.copy(alloc)?;
+    let answer = handler.submit(alloc, call);
+    let said = say_submitted(alloc, out, &answer);
+    drop(answer);
+    said
 }
 
 fn take(

@@ -19,21 +19,24 @@ fn pool_of(alloc: Global, options: PoolOptions) -> Result<Pool, AddrError> {
     Ok(Pool::new(alloc, addrs, options, 7)?)
 }
 
-fn fail_twice(alloc: Global, pool: &mut Pool) -> Result<(), AddrError> {
-    let first = ServerAddr::parse(alloc, "a")?;
-    for _ in 0..2 {
-        pool.report(&first, Outcome::Failed(Text::from_text(alloc, "no")?));
-    }
+fn fail(alloc: Global, pool: &mut Pool, server: &ServerAddr) -> Result<(), NoMemory> {
+    let why = Text::from_text(alloc, "no")?;
+    pool.report(server, Outcome::Failed(why));
     Ok(())
 }
 
-/// A pool of a, b and c, whose first server failed twice.
-fn failed_pool(alloc: Global, mut options: ConnectOptions) -> Result<Pool, AddrError> {
-    let mut pool = pool_of(alloc, options.take_pool_options())?;
-    match fail_twice(alloc, &mut pool) {
-        Ok(()) => Ok(pool),
-        Err(error) => Err(error),
-    }
+fn fail_twice(alloc: Global, pool: &mut Pool) -> Result<(), AddrError> {
+    let first = ServerAddr::parse(alloc, "a")?;
+    fail(alloc, pool, &first)?;
+    fail(alloc, pool, &first)?;
+    Ok(())
+}
+
+/// A pool of a, b and c.
+fn new_pool(alloc: Global, mut options: ConnectOptions) -> Result<Pool, AddrError> {
+    let pool_options = options.take_pool_options();
+    drop(options);
+    pool_of(alloc, pool_options)
 }
 
 fn tell_next(out: &mut String, next: &Next) -> Result<(), NoMemory> {
@@ -54,7 +57,9 @@ fn tell_attempt(out: &mut String, pool: &mut Pool) -> Result<(), NoMemory> {
 
 fn begin(alloc: Global, pool: &mut Pool) -> Result<(), NoMemory> {
     let info = ServerInfo::default(alloc);
-    pool.begin_round(alloc, &info)?;
+    let begun = pool.begin_round(alloc, &info);
+    drop(info);
+    begun?;
     Ok(())
 }
 
@@ -68,19 +73,25 @@ fn round(alloc: Global, pool: &mut Pool) -> Result<String, NoMemory> {
     Ok(out)
 }
 
+/// The same after the first server failed twice.
+fn failed_round(alloc: Global, pool: &mut Pool) -> Result<String, AddrError> {
+    fail_twice(alloc, pool)?;
+    Ok(round(alloc, pool)?)
+}
+
 #[test]
 fn a_round_goes_by_the_failures_of_its_servers(rt: HostRuntime) -> Result<(), Fail> {
     let alloc = rt.alloc();
-    let mut in_order = failed_pool(alloc, ConnectOptions::new().retain_servers_order())?;
-    let told = round(alloc, &mut in_order);
+    let mut in_order = new_pool(alloc, ConnectOptions::new().retain_servers_order())?;
+    let told = failed_round(alloc, &mut in_order);
     drop(in_order);
     assert_eq!(rt; told?.as_str(), "a b c over ");
-    let mut sorted = failed_pool(alloc, ConnectOptions::new())?;
-    let told = round(alloc, &mut sorted);
+    let mut sorted = new_pool(alloc, ConnectOptions::new())?;
+    let told = failed_round(alloc, &mut sorted);
     drop(sorted);
     assert!(rt; told?.as_str().ends_with(" a over "));
-    let mut limited = failed_pool(alloc, ConnectOptions::new().max_reconnects(Some(2)))?;
-    let told = round(alloc, &mut limited);
+    let mut limited = new_pool(alloc, ConnectOptions::new().max_reconnects(Some(2)))?;
+    let told = failed_round(alloc, &mut limited);
     drop(limited);
     assert!(rt; told?.as_str().ends_with(" most most "));
     Ok(())
@@ -111,12 +122,21 @@ fn told_servers(alloc: Global, pool: &Pool) -> Result<String, NoMemory> {
     Ok(out)
 }
 
-fn set(alloc: Global, texts: &str) -> Result<String, AddrError> {
-    let mut pool = failed_pool(alloc, ConnectOptions::new())?;
-    match pool.set_server_pool(alloc, addrs_of(alloc, texts)?) {
-        Ok(()) => Ok(told_servers(alloc, &pool)?),
+/// The same in a pool whose first server failed twice.
+fn failed_set(alloc: Global, pool: &mut Pool, texts: &str) -> Result<String, AddrError> {
+    fail_twice(alloc, pool)?;
+    let addrs = addrs_of(alloc, texts)?;
+    match pool.set_server_pool(alloc, addrs) {
+        Ok(()) => Ok(told_servers(alloc, pool)?),
         Err(refusal) => refusal.to_string(alloc).map_err(|_| AddrError::NoMemory),
     }
+}
+
+fn set(alloc: Global, texts: &str) -> Result<String, AddrError> {
+    let mut pool = new_pool(alloc, ConnectOptions::new())?;
+    let told = failed_set(alloc, &mut pool, texts);
+    drop(pool);
+    told
 }
 
 #[test]
