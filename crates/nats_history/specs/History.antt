@@ -11,7 +11,7 @@ use Rattle.nats_wire.specs.Operations.{Operation, message, info_op, error_op, pi
 use Rattle.nats_wire.specs.Commands.{command_text}
 use Rattle.nats_history.specs.declared.config.Config.{Config}
 use Rattle.nats_history.specs.declared.call.Call.{Call}
-use Rattle.nats_history.specs.declared.call.Call.TheVariants.{Publish, Subscribe, Unsubscribe, Limit, Drain, DrainAll, Flush, Request, DropSub}
+use Rattle.nats_history.specs.declared.call.Call.TheVariants.{Subscribe, Unsubscribe, Limit, Drain, DrainAll, Flush, Request, DropSub}
 use Rattle.nats_history.specs.declared.call.CallReply.{CallReply}
 use Rattle.nats_history.specs.declared.call.CallReply.TheVariants.{Flushed, Replied, FlushFailed, NoResponders, TimedOut, Dropped}
 use Rattle.nats_history.specs.declared.call.Interest.{Interest}
@@ -24,6 +24,7 @@ use Rattle.nats_history.specs.declared.waits.Waits.TheVariants as waits
 use Rattle.nats_history.specs.declared.transcript.LinkWord.{LinkWord}
 use Rattle.nats_history.specs.declared.transcript.LinkWord.TheVariants as word
 use Rattle.nats_history.specs.Queue.{first}
+use Rattle.nats_history.specs.Sent.{ReplyAt, at_subject, at_inbox, Sending, sent, limits, is_request}
 use Rattle.nats_tables.specs.Numbers.{About, nobody, everyone, only, is_about, named, at_number, item_of, count_from}
 use Rattle.nats_tables.specs.Rows.{tidied}
 
@@ -242,10 +243,9 @@ waits_as call = None
 abbrev pub takes_ticket : Call → Bool
 takes_ticket call = is_some (waits_as call)
 
--- a call that asks for a reply
+-- a call that asks for a reply under the inbox
 abbrev pub requests : Call → Bool
-requests (Request subject payload headers token) = true
-requests call = false
+requests call = is_request (sent call)
 
 -- the subscription that the user of a call lets go, whatever the reply
 abbrev pub lets_go : Call → Option ℕ
@@ -511,9 +511,12 @@ abbrev pub interest_after : Step → Option Interest → Option Interest
 interest_after (accepted call) interest = interest_by (asks call) interest
 interest_after step interest = interest
 
+abbrev pub newer_limit : Option ℕ → Option ℕ → Option ℕ
+newer_limit None limit = limit
+newer_limit (Some n) limit = Some n
+
 abbrev pub limit_by : Call → Option ℕ → Option ℕ
-limit_by (Limit s n) limit = Some n
-limit_by call limit = limit
+limit_by call limit = newer_limit (limits call) limit
 
 -- its limit is that of the last Limit that was handled
 abbrev pub limit_after : Step → Option ℕ → Option ℕ
@@ -620,18 +623,32 @@ abbrev pub inbox_commands : Config → Bool → List ClientOp
 inbox_commands c false = []
 inbox_commands c true = client.Subscribe 0 (inbox c ++ codes "*") None ∷ []
 
+-- the command that goes before a message, where a request was handled before or was not: that which asks for the
+-- replies to requests goes before the first of them
+abbrev pub inbox_before : Config → Bool → ReplyAt → List ClientOp
+inbox_before c asked (at_subject reply) = []
+inbox_before c asked (at_inbox token) = inbox_commands c (not asked)
+
+-- the subject that the reply is asked to, if it is to one
+abbrev pub reply_text : Config → ReplyAt → Option (List ℕ)
+reply_text c (at_subject reply) = reply
+reply_text c (at_inbox token) = Some (inbox_of c token)
+
+-- the commands that send a message
+abbrev pub send_commands : Config → Bool → Option Sending → List ClientOp
+send_commands c asked None = []
+send_commands c asked (Some m) =
+    inbox_before c asked m.reply ++ client.Publish m.subject m.payload (reply_text c m.reply) m.headers ∷ []
+
 -- the commands of a call that is handled, where a request was handled before or was not
 abbrev pub call_commands : Config → Bool → At → List Sub → Call → List ClientOp
-call_commands c asked at subs (Publish m) = client.Publish m.subject m.payload m.reply m.headers ∷ []
 call_commands c asked at subs (Subscribe subject group) = subscribe_command (next_subscribed at) subject group
 call_commands c asked at subs (Unsubscribe s) = unsubscribe_command (is_open_at (item_of s subs)) s None
 call_commands c asked at subs (Limit s n) = unsubscribe_command (is_open_at (item_of s subs)) s (Some n)
 call_commands c asked at subs (DropSub s) = unsubscribe_command (is_open_at (item_of s subs)) s None
 call_commands c asked at subs (Drain s) = unsubscribe_command (is_open_at (item_of s subs)) s None ++ client.Ping ∷ []
 call_commands c asked at subs DrainAll = commands_from unsubscribed 1 subs ++ client.Ping ∷ []
-call_commands c asked at subs (Request subject payload headers token) =
-    inbox_commands c (not asked) ++ client.Publish subject payload (Some (inbox_of c token)) headers ∷ []
-call_commands c asked at subs call = []
+call_commands c asked at subs call = send_commands c asked (sent call)
 
 -- what is left of a limit after so many puts, if there is one
 abbrev pub limit_commands : ℕ → ℕ → Option ℕ → List ClientOp
