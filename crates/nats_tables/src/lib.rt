@@ -1,6 +1,7 @@
 //! Numbered things, kept in memory that is in the order of what is kept.
 #![tactic(auto)]
 
+mod slots;
 mod table;
 
 pub use nats_names::NoMemory;
