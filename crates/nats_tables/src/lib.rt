@@ -1,6 +1,7 @@
 //! Numbered things, kept in memory that is in the order of what is kept.
 #![tactic(auto)]
 
+mod pages;
 mod slots;
 mod table;
 
