@@ -1,4 +1,4 @@
 pub mod Numbers
-pub mod Pages
+pub mod Paging
 pub mod Tables
 pub mod Walks

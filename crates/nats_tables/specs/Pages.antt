@@ -20,10 +20,6 @@ abbrev pub given_in : {A : Type 0} → List (ℕ × List (Option A)) → ℕ
 given_in [] = 0
 given_in (page ∷ pages) = 64 * page.0 + length page.1
 
--- new is old with w for a number
-abbrev pub RowAt : {A : Type 0} → ℕ → Option A → (old new : ℕ → Option A) → Type 0
-RowAt number w old new = (q : ℕ) → new q ≡ cond (is_at (nat_cmp number) q) w (old q)
-
 -- the pages after this one, a new page
 abbrev pub turned : {A : Type 0} → List (Option A) → List (ℕ × List (Option A)) → List (ℕ × List (Option A))
 turned slots [] = (0, slots) ∷ []

@@ -5,8 +5,8 @@ ghost use Rattle.std.specs.Option.{option_copied, option_copied_mut};
 ghost use Rattle.std.specs.Borrow.{sem};
 ghost use Rattle.std.specs.Ordering.{nat_cmp};
 ghost use Rattle.std.specs.BTreeMap.{is_at};
-ghost use Rattle.nats_tables.specs.Rows.{look};
-ghost use Rattle.nats_tables.specs.Pages.{row_of, given_in, RowAt, turned, left, NoneBare};
+ghost use Rattle.nats_tables.specs.Rows.{look, ChangedAt};
+ghost use Rattle.nats_tables.specs.Pages.{row_of, given_in, turned, left, NoneBare};
 
 use crate::slots::Slots;
 use nats_names::NoMemory;
@@ -121,7 +121,7 @@ impl<T: Drop> Pages<T> {
     /// `NoMemory` where memory is wanting; the pages are unchanged then.
     pub fn push(&mut self, row: T) -> Result<(), NoMemory>
         requires { given_in self.old < 2 ^ 64 }
-        ensures ok { OnOk result (RowAt (suc (given_in self.old)) (Some row) (row_of self.old) (row_of self.new)) }
+        ensures ok { OnOk result (ChangedAt (suc (given_in self.old)) (Some row) (row_of self.old) (row_of self.new)) }
         ensures given { OnOk result (given_in self.new ≡ suc (given_in self.old)) }
         ensures err { OnErr result (self.new ≡ self.old) }
     {
@@ -135,7 +135,7 @@ impl<T: Drop> Pages<T> {
 
     /// The row of a number goes, if there is one.
     pub fn forget(&mut self, number: u64)
-        ensures rows { RowAt number None (row_of self.old) (row_of self.new) }
+        ensures rows { ChangedAt number None (row_of self.old) (row_of self.new) }
         ensures given { given_in self.new ≡ given_in self.old }
     {
         let Some(index) = number.checked_sub(1) else {

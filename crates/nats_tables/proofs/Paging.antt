@@ -1,11 +1,15 @@
 -- The row of a number, after its page changed.
-use Rattle.std.proofs.Common.{◌≡◌, ◌≢◌, ◌⊎◌, ℕ, zero, suc, ◌+◌, ◌*◌, ◌/◌, ◌%◌, ◌<◌, ◌≤◌, Bool, true, false, cond, List, [], ◌∷◌, ◌++◌, length, set, get_or, Option, Some, None, IfSome, is_some, count_by, nat_lt, nat_cmp, ◌==◌, refl, sym, ◌∙◌, ap, subst, arith, inl, inr, get_or-set_same, get_or-set_other, length-set}
+use Rattle.std.proofs.Common.{◌≡◌, ◌≢◌, ◌⊎◌, ℕ, zero, suc, ◌+◌, ◌*◌, ◌/◌, ◌%◌, ◌<◌, ◌≤◌, Bool, true, false, cond, List, [], ◌∷◌, ◌++◌, length, set, get_or, Option, Some, None, IfSome, is_some, count_by, nat_lt, nat_cmp, ◌==◌, refl, sym, ◌∙◌, ap, subst, arith, inl, inr, get_or-set_same, get_or-set_other, length-set, MutBor}
 use Rattle.std.proofs.lemmas.Bool.{cases_eq}
 use Rattle.std.proofs.lemmas.List.{get_or_past}
 use Rattle.std.proofs.lemmas.List.Sums.{sum_by-cons}
 use Rattle.std.specs.BTreeMap.{is_at}
-use Rattle.nats_tables.specs.Rows.{look}
-use Rattle.nats_tables.specs.Pages.{slot_in, row_of, given_in, RowAt, is_bare, unless_bare, left, NoneBare, Paged}
+use Rattle.nats_tables.specs.Rows.{look, ChangedAt}
+use Rattle.nats_tables.specs.Pages.{slot_in, row_of}
+use Rattle.std.proofs.lemmas.Option.{none-some, same_Some}
+use Rattle.std.specs.Map.{lookup, set_value}
+use Rattle.std.specs.Option.{option_copied_mut, OnSome}
+use Rattle.nats_tables.specs.Lent.{Rewritten}
 use Rattle.nats_tables.proofs.Tables.{at_same, at_apart}
 
 -- ---- keys
@@ -45,7 +49,9 @@ module _ {A : Type 0} where
     where
       past : (within : Bool) → nat_lt k (length slots) ≡ within → w ≡ None → get_or (set slots k w) k None ≡ w
       past true is none = get_or-set_same slots k w None (grind (is, arith))
-      past false is none = get_or_past (set slots k w) k None (omega (arith, length-set slots k w, (grind (is, arith) : length slots ≤ k))) ∙ sym none
+      past false is none =
+          let over : length slots ≤ k = grind (is, arith) in
+          get_or_past (set slots k w) k None (omega (arith, length-set slots k w, over)) ∙ sym none
 
       here : (k < length slots) ⊎ (w ≡ None) → get_or (set slots k w) k None ≡ w
       here (inl within) = get_or-set_same slots k w None within
@@ -105,7 +111,7 @@ module _ {A : Type 0} where
   pub row_changed : (ps qs : List (ℕ × List (Option A))) (i : ℕ) (page : Option (List (Option A))) (w : Option A)
       → ((p : ℕ) → look p qs ≡ cond (is_at (nat_cmp (i / 64)) p) page (look p ps))
       → ((s : ℕ) → slot_in s page ≡ cond (is_at (nat_cmp (i % 64)) s) w (slot_in s (look (i / 64) ps)))
-      → RowAt (suc i) w (row_of ps) (row_of qs)
+      → ChangedAt (suc i) w (row_of ps) (row_of qs)
   row_changed ps qs i page w pages slots zero = sym (ap (λ b. cond b w None) (at_apart (suc i) 0 (λ e. absurd (omega (arith, e)))))
   row_changed ps qs i page w pages slots (suc j) =
       elim (cases_eq (i / 64) (j / 64)) [
@@ -122,3 +128,42 @@ module _ {A : Type 0} where
   pub same_rows : (ps qs : List (ℕ × List (Option A))) → ((p s : ℕ) → slot_in s (look p qs) ≡ slot_in s (look p ps)) → (q : ℕ) → row_of qs q ≡ row_of ps q
   same_rows ps qs same zero = refl
   same_rows ps qs same (suc j) = same (j / 64) (j % 64)
+
+-- ---- what a `&mut` to a row leaves
+
+-- what was at a key, put there once more
+pub set_same : {A : Type 0} (test : ℕ → Bool) (es : List (ℕ × A)) (x : A) → Some x ≡ lookup test es → set_value test es x ≡ es
+set_same test [] x there = refl
+set_same test (e ∷ es) x there = by (test e.0) there (set_same test es x)
+  where
+    by : (b : Bool) → Some x ≡ cond b (Some e.1) (lookup test es) → (Some x ≡ lookup test es → set_value test es x ≡ es) → cond b ((e.0, x) ∷ es) (e ∷ set_value test es x) ≡ e ∷ es
+    by true there rest = ap (λ v. (e.0, v) ∷ es) (same_Some x e.1 there)
+    by false there rest = ap (λ fs. e ∷ fs) (rest there)
+
+slot_within : {A : Type 0} (slots : List (Option A)) (k : ℕ) (row : A) → Some row ≡ get_or slots k None → k < length slots
+slot_within slots k row there = by (nat_lt k (length slots)) refl
+  where
+    by : (b : Bool) → nat_lt k (length slots) ≡ b → k < length slots
+    by true is = grind (is, arith)
+    by false is = absurd (none-some row (sym (get_or_past slots k None (grind (is, arith))) ∙ sym there))
+
+module _ {A : Type 0} (place number i : ℕ) (newest page : List (Option A)) (older after : List (ℕ × List (Option A))) (numbered : number ≡ suc i) (elsewhere : i / 64 ≡ place → ⊥)
+    (there : Some page ≡ look (i / 64) older) where
+  pub older_row : get_or page (i % 64) None ≡ row_of ((place, newest) ∷ older) number
+  older_row =
+      ap (slot_in (i % 64)) (there ∙ sym (look_later (i / 64) place newest older elsewhere)) ∙ ap (row_of ((place, newest) ∷ older)) (sym numbered)
+
+  pub older_rewritten : (w : A) (o : Option (MutBor A)) → ((p : ℕ) → look p after ≡ cond (is_at (nat_cmp (i / 64)) p) (Some (set page (i % 64) (Some w))) (look p older))
+      → option_copied_mut o ≡ get_or page (i % 64) None → OnSome o (Rewritten number w ((place, newest) ∷ older) ((place, newest) ∷ after))
+  older_rewritten w None changed value = tt
+  older_rewritten w (Some r) changed value = (subst (λ n. ChangedAt n (Some w) (row_of ((place, newest) ∷ older)) (row_of ((place, newest) ∷ after))) (sym numbered) rows, refl)
+    where
+      slots : (s : ℕ) → get_or (set page (i % 64) (Some w)) s None ≡ cond (is_at (nat_cmp (i % 64)) s) (Some w) (slot_in s (look (i / 64) ((place, newest) ∷ older)))
+      slots s =
+          slot_set page (i % 64) (Some w) (inl (slot_within page (i % 64) r.now value)) s
+          ∙ ap (λ o. cond (is_at (nat_cmp (i % 64)) s) (Some w) (slot_in s o)) (there ∙ sym (look_later (i / 64) place newest older elsewhere))
+
+      rows : ChangedAt (suc i) (Some w) (row_of ((place, newest) ∷ older)) (row_of ((place, newest) ∷ after))
+      rows =
+          row_changed ((place, newest) ∷ older) ((place, newest) ∷ after) i (Some (set page (i % 64) (Some w))) (Some w)
+          (later_changed place (i / 64) newest (Some (set page (i % 64) (Some w))) older after elsewhere changed) slots
