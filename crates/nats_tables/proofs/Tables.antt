@@ -1,5 +1,5 @@
 -- The rows that a table shows, after what is kept of one number changed.
-use Rattle.std.proofs.Common.{◌≡◌, map, ℕ, zero, suc, ◌<◌, ◌≤◌, Bool, true, false, cond, ◌&&◌, List, [], ◌∷◌, ◌++◌, length, Option, Some, None, IfSome, Less, Equal, Greater, nat_cmp, nat_lt, ◌==◌, unwrap_or, refl, sym, ◌∙◌, ap, subst, arith, ◌⊎◌, inl, inr}
+use Rattle.std.proofs.Common.{◌≡◌, map, ℕ, zero, suc, ◌<◌, ◌≤◌, Bool, true, false, cond, ◌&&◌, List, [], ◌∷◌, ◌++◌, length, OnSome, Option, Some, None, IfSome, Less, Equal, Greater, nat_cmp, nat_lt, ◌==◌, unwrap_or, refl, sym, ◌∙◌, ap, subst, arith, ◌⊎◌, inl, inr}
 use Rattle.std.specs.BTreeMap.{is_at}
 use Rattle.std.specs.Ordering.{is_eq}
 use Rattle.std.proofs.lemmas.Bool.{ne_eqb, eq-eqb}
@@ -126,3 +126,6 @@ module _ {A : Type 0} (overs : A → Bool) (gone : A) (given : ℕ) (es : ℕ �
   row_kept keeps k row is =
       let stays : Stays overs given k row = subst (λ o. IfSome o (Stays overs given k)) is (keeps k) in
       ap (λ o. unwrap_or o gone) (item_there (row_in gone es) given k stays.0 stays.1) ∙ ap (λ o. unwrap_or o gone) is
+
+pub on_some : {X : Type 0} (o : Option X) (x : X) (P : Type 0) → o ≡ Some x → OnSome o P → P
+on_some o x P is holds = subst (λ q. OnSome q P) is holds
