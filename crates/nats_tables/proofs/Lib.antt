@@ -1,3 +1,4 @@
+pub mod Changes
 pub mod Numbers
 pub mod Paging
 pub mod Tables

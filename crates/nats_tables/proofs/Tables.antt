@@ -1,5 +1,5 @@
 -- The rows that a table shows, after what is kept of one number changed.
-use Rattle.std.proofs.Common.{◌≡◌, map, ℕ, zero, suc, ◌<◌, ◌≤◌, Bool, true, false, cond, ◌&&◌, List, [], ◌∷◌, ◌++◌, length, OnSome, Option, Some, None, IfSome, Less, Equal, Greater, nat_cmp, nat_lt, ◌==◌, unwrap_or, refl, sym, ◌∙◌, ap, subst, arith, ◌⊎◌, inl, inr}
+use Rattle.std.proofs.Common.{◌≡◌, map, ℕ, zero, suc, ◌<◌, ◌≤◌, Bool, true, false, cond, ◌&&◌, List, [], ◌∷◌, ◌++◌, length, Option, Some, None, IfSome, Less, Equal, Greater, nat_cmp, nat_lt, ◌==◌, unwrap_or, refl, sym, ◌∙◌, ap, subst, arith, ◌⊎◌, inl, inr}
 use Rattle.std.specs.BTreeMap.{is_at}
 use Rattle.std.specs.Ordering.{is_eq}
 use Rattle.std.proofs.lemmas.Bool.{ne_eqb, eq-eqb}
@@ -74,7 +74,7 @@ rows_missing overs gone given k es f all none still = by (number_cases given k)
     by (inr (inl z)) = sym (at_number_past k f (rows_in gone given es) (inl z))
     by (inr (inr past)) = sym (at_number_past k f (rows_in gone given es) (inr (subst (λ n. n < k) (sym (length-rows gone given es)) past)))
 
-changed_or_forgotten : {A : Type 0} (over here : Bool) (new : A) (mid old : Option A) → mid ≡ cond here (Some new) old
+pub changed_or_forgotten : {A : Type 0} (over here : Bool) (new : A) (mid old : Option A) → mid ≡ cond here (Some new) old
     → cond (over && here) None mid ≡ cond here (cond over None (Some new)) old
 changed_or_forgotten true true new mid old is = refl
 changed_or_forgotten true false new mid old is = is
@@ -126,6 +126,3 @@ module _ {A : Type 0} (overs : A → Bool) (gone : A) (given : ℕ) (es : ℕ �
   row_kept keeps k row is =
       let stays : Stays overs given k row = subst (λ o. IfSome o (Stays overs given k)) is (keeps k) in
       ap (λ o. unwrap_or o gone) (item_there (row_in gone es) given k stays.0 stays.1) ∙ ap (λ o. unwrap_or o gone) is
-
-pub on_some : {X : Type 0} (o : Option X) (x : X) (P : Type 0) → o ≡ Some x → OnSome o P → P
-on_some o x P is holds = subst (λ q. OnSome q P) is holds
