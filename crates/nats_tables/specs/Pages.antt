@@ -1,8 +1,6 @@
 -- Rows by their numbers, from 1, in pages of 64 successive numbers: the newest page comes first.
-use Rattle.std.specs.Prelude.{◌≡◌, ◌≤◌, ◌<◌, ◌+◌, ◌*◌, ◌/◌, ◌%◌, ◌==◌, ℕ, zero, suc, cond, Bool, List, [], ◌∷◌, length, count_by, is_some, slice_index_or, slice_set, Option, Some, None, if◌then◌else◌, OnSome}
-use Rattle.std.specs.Ordering.{nat_cmp}
+use Rattle.std.specs.Prelude.{◌≡◌, ◌≤◌, ◌<◌, ◌+◌, ◌*◌, ◌/◌, ◌%◌, ◌==◌, ℕ, zero, suc, Bool, List, [], ◌∷◌, length, count_by, is_some, slice_index_or, slice_set, Option, Some, None, if◌then◌else◌}
 use Rattle.std.specs.Option.{IfSome}
-use Rattle.std.specs.BTreeMap.{is_at}
 use Rattle.nats_tables.specs.Rows.{look}
 
 -- the row in a slot of a page, where there is such a page

@@ -1,5 +1,6 @@
 //! A page of a table: slots in a row, each with a row or none.
 #![tactic(auto)]
+
 ghost use Rattle.std.specs.Prelude.{◌≡◌, ◌++◌, [], ◌∷◌, ◌==◌, ◌^◌, ◌<◌, length, is_some, count_by, slice_index_or, slice_set, Some, None, OnOk, OnErr};
 ghost use Rattle.std.specs.Option.{option_copied, option_copied_mut};
 ghost use Rattle.std.specs.Borrow.{sem};

@@ -113,6 +113,7 @@ impl<T: Row> Model for Table<T> {
         × (given_in t.kept ≡ t.given) };
 }
 
+#[inline(always)]
 fn forget_if<T: Drop>(kept: &mut Pages<T>, number: u64, goes: bool)
     ensures rows { ChangedIf goes number None (row_of kept.old) (row_of kept.new) }
     ensures given { given_in kept.new ≡ given_in kept.old }
@@ -122,6 +123,7 @@ fn forget_if<T: Drop>(kept: &mut Pages<T>, number: u64, goes: bool)
     }
 }
 
+#[inline(always)]
 fn rest_if(awake: &mut BTreeMap<u64, ()>, number: u64, rests: bool)
     ensures { UpdatedIf rests number None awake.old.entries awake.new.entries }
 {

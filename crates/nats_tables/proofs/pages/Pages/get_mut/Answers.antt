@@ -1,5 +1,5 @@
 -- The row of a slot of an older page is the row of its number.
-use Rattle.std.proofs.Common.{rules, ◌≡◌, ◌/◌, ◌%◌, Some, suc, set, refl, sym, ◌∙◌, ap, arith, ◌∷◌}
+use Rattle.std.proofs.Common.{rules, ◌≡◌, ◌/◌, ◌%◌, Some, suc, set, refl, ◌∙◌, ap, arith, ◌∷◌}
 use Rattle.nats_tables.proofs.Paging.{set_same, older_row, older_rewritten}
 use Rattle.nats_tables.proofs.pages.Pages.get_mut.Goals as goal
 

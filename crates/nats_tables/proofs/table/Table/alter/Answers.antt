@@ -45,8 +45,7 @@ invariant_of-self-2 g c =
     let mid = c.get_mut.follows.lender new in
     let fs = c.forget_if.new.kept in
     let ends = c.is_over-over.ensures in
-    let still : rests row ≡ true → rests new ≡ true = λ is. ap rests c.change-answer.ensures.row ∙ g.met.C.Change.leaves_resting c.args.change.now row is in
-    (
+    let still : rests row ≡ true → rests new ≡ true = λ is. ap rests c.change-answer.ensures.row ∙ g.met.C.Change.leaves_resting c.args.change.now row is in (
       keeps_changed over rests g.T.Row.forgotten inside.given c.args.number (row_of inside.kept) (row_of mid) (row_of fs) row new c.is_over-over.result there rewritten.0 c.forget_if.ensures.rows ends (g.T.Row.forgotten_is_over new) c.self.invariant.0,
       index_changed over rests g.T.Row.forgotten inside.given c.args.number (row_of inside.kept) (row_of mid) (row_of fs) row new c.is_over-over.result there rewritten.0 c.forget_if.ensures.rows ends inside.awake.entries c.rest_if.new.awake.entries c.is_resting-rests.result c.rest_if.ensures c.is_resting-rests.ensures (g.met.T.Row.over_rests new) still c.self.invariant.1,
       c.forget_if.ensures.given ∙ (rewritten.1 ∙ c.self.invariant.2),

@@ -45,8 +45,7 @@ invariant_of-self-2 g c =
     let mid = c.get_mut.follows.lender new in
     let fs = c.forget_if.new.kept in
     let ends = c.is_over-over.ensures in
-    let still : rests row ≡ true → rests new ≡ true = λ is. ap rests c.in_ok-answer.ensures.ok ∙ g.met.C.TryChange.leaves_resting c.args.change row is in
-    (
+    let still : rests row ≡ true → rests new ≡ true = λ is. ap rests c.in_ok-answer.ensures.ok ∙ g.met.C.TryChange.leaves_resting c.args.change row is in (
       keeps_changed over rests g.T.Row.forgotten inside.given c.args.number (row_of inside.kept) (row_of mid) (row_of fs) row new c.is_over-over.result there rewritten.0 c.forget_if.ensures.rows ends (g.T.Row.forgotten_is_over new) c.self.invariant.0,
       index_changed over rests g.T.Row.forgotten inside.given c.args.number (row_of inside.kept) (row_of mid) (row_of fs) row new c.is_over-over.result there rewritten.0 c.forget_if.ensures.rows ends inside.awake.entries c.rest_if.new.awake.entries c.is_resting-rests.result c.rest_if.ensures c.is_resting-rests.ensures (g.met.T.Row.over_rests new) still c.self.invariant.1,
       c.forget_if.ensures.given ∙ (rewritten.1 ∙ c.self.invariant.2),
@@ -60,8 +59,7 @@ invariant_of-self-in_err-answer g c =
     let there : row_of inside.kept c.args.number ≡ Some row = sym c.get_mut.ensures.value ∙ ap option_copied_mut c.in-Some.is in
     let rewritten = on_some _ _ _ c.in-Some.is (c.get_mut.follows.holds new) in
     let fs = c.get_mut.follows.lender new in
-    let same = put_again c.args.number row new (row_of inside.kept) (row_of fs) there c.in_err-answer.ensures.err rewritten.0 in
-    (
+    let same = put_again c.args.number row new (row_of inside.kept) (row_of fs) there c.in_err-answer.ensures.err rewritten.0 in (
       keeps_same g.T.Row.over g.T.Row.rests g.T.Row.forgotten inside.given (row_of inside.kept) (row_of fs) same c.self.invariant.0,
       index_same g.T.Row.over g.T.Row.rests g.T.Row.forgotten inside.given (row_of inside.kept) (row_of fs) same inside.awake.entries c.self.invariant.1,
       rewritten.1 ∙ c.self.invariant.2,
