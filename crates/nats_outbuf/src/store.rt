@@ -80,7 +80,7 @@ impl Store {
             Store::Growing(bytes) => Ok(bytes.extend_from_slice(more)?),
             Store::Shared(bytes) => {
                 if bytes.is_empty() {
-                    *bytes = Bytes::copy_from_slice(alloc, more)?;
+                    *self = copied(alloc, more)?;
                     return Ok(());
                 }
                 self.feed_behind(alloc, more)
@@ -113,6 +113,16 @@ impl Store {
                 },
             },
         }
+    }
+}
+
+// A copy, which can be shared where memory for the count of its owners is found.
+fn copied(alloc: Global, bytes: &[u8]) -> Result<Store, NoMemory>
+    ensures { IfOk result (λ store. store_bytes store ≡ bytes.now) }
+{
+    match Bytes::from_vec(Vec::from_slice(alloc, bytes)?) {
+        Ok(bytes) => Ok(Store::Shared(bytes)),
+        Err(refused) => Ok(Store::Growing(BytesMut::from_vec(refused.value))),
     }
 }
 
