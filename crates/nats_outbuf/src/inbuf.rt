@@ -41,9 +41,7 @@ impl InBuf {
         ensures ok { OnOk result (self.new ≡ self.old ++ bytes.now) }
         ensures err { OnErr result (self.new ≡ self.old) }
     {
-        let (store, fed) = mem::replace(&mut self.store, Store::new(alloc)).fed(alloc, bytes);
-        self.store = store;
-        fed
+        self.store.feed(alloc, bytes)
     }
 
     /// How many bytes there are.
@@ -111,7 +109,9 @@ impl InBuf {
     pub fn share(&mut self)
         ensures { self.new ≡ self.old }
     {
-        self.store = mem::replace(&mut self.store, Store::Shared(Bytes::new())).shared();
+        if self.shared().is_none() {
+            self.store = mem::replace(&mut self.store, Store::Shared(Bytes::new())).shared();
+        }
     }
 
     /// All of them, where parts of them share their memory. Own call.

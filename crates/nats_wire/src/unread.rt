@@ -169,7 +169,7 @@ impl Unread {
     // next piece, which is copied then, is at most twice what the last piece had. A short text that begins with no
     // message isn't worth it.
     fn is_worth_sharing(&self) -> bool {
-        if !self.found.ended {
+        if !self.found.ended || self.buf.shared().is_some() {
             return false;
         }
         let bytes = self.buf.as_slice();
@@ -216,6 +216,9 @@ impl Unread {
         ensures same { self.new.bytes ≡ self.old.bytes }
         ensures paid { Paid steps.old self.old.untested steps.new self.new.untested }
     {
+        if self.buf.is_empty() {
+            return;
+        }
         self.search(steps);
         if self.buf.len() > self.fed {
             self.look_into();
