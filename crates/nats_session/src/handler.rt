@@ -7,6 +7,7 @@ mod calls;
 mod drains;
 mod due;
 mod ends;
+mod played;
 mod requests;
 
 pub use due::Look;
@@ -14,6 +15,7 @@ use nats_history::{Call, Config, Event, NoMemory, ServerInfo, Statistics};
 use nats_subs::{Pings, Queue, Subscriptions};
 use nats_tickets::Tickets;
 use nats_wire::Connection;
+pub use played::Played;
 use std::alloc::Global;
 use std::marker::Model;
 

@@ -16,7 +16,7 @@ use nats_history::{
     Bytes, Call, CallReply, Config, Due, Event, LinkWord, NoMemory, Ping, ServerInfo, TakeReply,
     Waits,
 };
-use nats_subs::{Alteration, Subscriptions};
+use nats_subs::{Alteration, Subscriptions, Taken};
 use nats_wire::{ClientOp, Connection, PIECES_MOST};
 use std::alloc::Global;
 
@@ -332,7 +332,8 @@ impl ConnectionHandler {
         self.accept(alloc, call)
     }
 
-    fn take_oldest(&mut self, sid: u64) -> TakeReply
+    /// What `take` does, with the message in its box still.
+    pub(crate) fn take_oldest(&mut self, sid: u64) -> Taken
         ensures reply { result ≡ take_reply self.old.parts sid }
         ensures rest { self.new ≡ seen_after self.old (took sid) }
     {
@@ -348,7 +349,7 @@ impl ConnectionHandler {
         ensures rest { self.new ≡ seen_after self.old (took s) }
         ensures stands { LeadTo self.old (own_steps self.old.parts (turns.Take s)) self.new }
     {
-        self.take_oldest(s)
+        self.take_oldest(s).reply()
     }
 
     fn time_out(&mut self, ticket: u64)
@@ -374,7 +375,8 @@ impl ConnectionHandler {
         ensures wants { OnErr result (IsTrue (is_some (due self.old.parts))) }
     {
         let look = self.look(alloc)?;
-        self.advance_by(alloc, look)
+        let played = self.advance_by(alloc, look)?;
+        Ok(played.due())
     }
 
     /// Plays the one step that is due, with what follows it at once, and names it; `Nothing` exactly where none is
