@@ -181,7 +181,7 @@ pub none_taken : (n : ℕ) (sheet : Sheet) (bytes : List ℕ) → length bytes �
 none_taken n sheet [] none =
     sym (ap (λ xs. record sheet { taken = sheet.taken ++ xs }) (of_none (min n 0)) ∙ ap (λ xs. record sheet { taken = xs }) (append-nil sheet.taken))
   where
-    of_none : (k : ℕ) → take k [] ≡ []
+    of_none : (k : ℕ) → ◌≡◌ {A = List ℕ} (take k []) []
     of_none zero = refl
     of_none (suc k) = refl
 none_taken n sheet (b ∷ bytes) none = absurd (omega (arith, none))
