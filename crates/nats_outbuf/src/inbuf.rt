@@ -44,6 +44,15 @@ impl InBuf {
         self.store.feed(alloc, bytes)
     }
 
+    /// Appends bytes that came in a buffer which may be shared, whole or not at all. They are not copied where no byte
+    /// waits here. Own call.
+    pub fn feed_shared(&mut self, alloc: Global, bytes: &Bytes) -> Result<(), NoMemory>
+        ensures ok { OnOk result (self.new ≡ self.old ++ bytes.now) }
+        ensures err { OnErr result (self.new ≡ self.old) }
+    {
+        self.store.feed_shared(alloc, bytes)
+    }
+
     /// How many bytes there are.
     pub fn len(&self) -> usize
         ensures value { result ≡ length self.now }

@@ -88,6 +88,18 @@ impl Store {
         }
     }
 
+    /// Appends bytes that others may share, whole or not at all. They are shared and not copied where nothing is left.
+    pub fn feed_shared(&mut self, alloc: Global, more: &Bytes) -> Result<(), NoMemory>
+        ensures ok { OnOk result (store_bytes self.new ≡ store_bytes self.old ++ more.now) }
+        ensures err { OnErr result (store_bytes self.new ≡ store_bytes self.old) }
+    {
+        if self.as_slice().is_empty() {
+            *self = Store::Shared(more.clone()?);
+            return Ok(());
+        }
+        self.feed(alloc, more.as_slice())
+    }
+
     // The same where something is left of bytes that messages share.
     fn feed_behind(&mut self, alloc: Global, more: &[u8]) -> Result<(), NoMemory>
         ensures ok { OnOk result (store_bytes self.new ≡ store_bytes self.old ++ more.now) }

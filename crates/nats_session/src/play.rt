@@ -14,7 +14,7 @@ use crate::handler::{ConnectionHandler, Look, Played};
 use nats_draft::Draft;
 use nats_history::refusals::takes_ticket;
 use nats_history::{
-    Call, Config, LinkWord, NoMemory, RunError, ServerInfo, TakeReply, Transcript, Turn,
+    Bytes, Call, Config, LinkWord, NoMemory, RunError, ServerInfo, TakeReply, Transcript, Turn,
 };
 use nats_subs::{BoxedReply, Delivery, Taken};
 use nats_wire::PeekedOp;
@@ -43,7 +43,7 @@ fn play_piece(
     handler: &mut ConnectionHandler,
     draft: &mut Draft,
     place: u64,
-    bytes: &[u8],
+    bytes: &Bytes,
 ) -> Result<(), NoMemory>
     requires may { IsTrue (can_play handler.old.parts (turns.Piece bytes.now)) }
     requires none { handler.old.events ≡ [] }
@@ -51,7 +51,7 @@ fn play_piece(
     ensures parts { OnOk result (handler.new ≡ quiet (own_parts (turns.Piece bytes.now) handler.old.parts)) }
     ensures sheet { OnOk result (draft.new ≡ own_sheet place (turns.Piece bytes.now) handler.old.parts draft.old) }
 {
-    handler.piece(alloc, bytes)?;
+    handler.shared_piece(alloc, bytes)?;
     note_news(handler, draft, place)
 }
 
@@ -249,7 +249,7 @@ fn play_own(
 {
     match turn {
         Turn::Up(info) => play_up(alloc, handler, draft, place, info),
-        Turn::Piece(bytes) => play_piece(alloc, handler, draft, place, bytes.as_slice()),
+        Turn::Piece(bytes) => play_piece(alloc, handler, draft, place, bytes),
         Turn::Write(n) => play_write(alloc, handler, draft, place, *n),
         Turn::Tick => play_tick(alloc, handler, draft, place),
         Turn::Lost => play_lost(alloc, handler, draft, place),

@@ -13,7 +13,7 @@ use crate::decode::{self, Sight};
 use crate::front::{Front, front_kept};
 use crate::op::{ServerOp, WireError};
 use crate::search::{Found, NOT_LOOKED, search};
-use nats_names::NoMemory;
+use nats_names::{Bytes, NoMemory};
 use nats_outbuf::{InBuf, Steps};
 use std::alloc::Global;
 use std::marker::{Brand, Model};
@@ -95,6 +95,19 @@ impl Unread {
         ensures err { OnErr result (self.new ≡ self.old) }
     {
         self.buf.feed(alloc, bytes)?;
+        self.fed = bytes.len();
+        Ok(())
+    }
+
+    /// The same of bytes in a buffer that may be shared.
+    pub fn feed_shared(&mut self, alloc: Global, bytes: &Bytes) -> Result<(), NoMemory>
+        ensures ok { OnOk result (self.new ≡ record {
+          bytes = self.old.bytes ++ bytes.now;
+          untested = self.old.untested + length bytes.now;
+        }) }
+        ensures err { OnErr result (self.new ≡ self.old) }
+    {
+        self.buf.feed_shared(alloc, bytes)?;
         self.fed = bytes.len();
         Ok(())
     }

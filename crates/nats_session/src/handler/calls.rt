@@ -110,6 +110,16 @@ impl ConnectionHandler {
         Ok(())
     }
 
+    fn feed_shared(&mut self, alloc: Global, bytes: &Bytes) -> Result<(), NoMemory>
+        requires { IsTrue self.old.parts.link.is_up }
+        ensures ok { OnOk result (self.new ≡ seen_after self.old (fed bytes.now)) }
+        ensures err { OnErr result (self.new ≡ self.old) }
+    {
+        self.connection.feed_shared(alloc, bytes)?;
+        self.connection.look();
+        Ok(())
+    }
+
     /// The link gave these bytes. Its condition is `check` of that turn; `advance` then reads what they complete.
     ///
     /// # Errors
@@ -122,6 +132,22 @@ impl ConnectionHandler {
         ensures err { OnErr result (self.new ≡ self.old) }
     {
         self.feed(alloc, bytes)
+    }
+
+    /// The link gave these bytes, in a buffer that may be shared: `piece` for whoever has one, since messages then
+    /// share it and nothing is copied where no byte waits to be read. Its condition is `check` of that turn. Own
+    /// call.
+    ///
+    /// # Errors
+    ///
+    /// `NoMemory` leaves the session unchanged, and the same call may be made again.
+    pub fn shared_piece(&mut self, alloc: Global, bytes: &Bytes) -> Result<(), NoMemory>
+        requires { IsTrue (can_play self.old.parts (turns.Piece bytes.now)) }
+        ensures ok { OnOk result (self.new ≡ seen_after self.old (fed bytes.now)) }
+        ensures stands { OnOk result (LeadTo self.old (own_steps self.old.parts (turns.Piece bytes.now)) self.new) }
+        ensures err { OnErr result (self.new ≡ self.old) }
+    {
+        self.feed_shared(alloc, bytes)
     }
 
     fn let_go(&mut self, n: u64)
