@@ -3,7 +3,7 @@ use crate::connect::{PLAIN, plain};
 use nats_header::HeaderError;
 use nats_names::NoMemory;
 use nats_wire::{
-    Bytes, Bytes, ClientOp, ConnectInfo, Connection, HeaderMap, Message, OutboundMessage, Peeked,
+    Bytes, ClientOp, ConnectInfo, Connection, HeaderMap, Message, OutboundMessage, Peeked,
     ServerOp, ShouldFlush, Subject, WireError,
 };
 use std::alloc::Global;
