@@ -1,5 +1,5 @@
 -- Where nothing waits nothing is taken.
-use Rattle.std.proofs.Common.{sym, ap, ◌∙◌, ◌++◌, min, length, take}
+use Rattle.std.proofs.Common.{sym, ◌∙◌}
 use Rattle.nats_session.proofs.Chains.{none_taken}
 use Rattle.nats_session.proofs.play.note_took.Goals as goal
 

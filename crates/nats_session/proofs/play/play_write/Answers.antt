@@ -1,5 +1,4 @@
 -- The link took bytes, which were written, and the flushes that awaited no more of them settled.
-use Rattle.std.proofs.Common.{◌∙◌}
 use Rattle.std.proofs.lemmas.Result.{on_ok_weaker}
 use Rattle.nats_session.proofs.Chains.{write_noted}
 use Rattle.nats_session.proofs.play.play_write.Goals as goal

@@ -1,5 +1,5 @@
 -- One request more waits for its reply, and another may be dropped.
-use Rattle.std.proofs.Common.{◌≡◌, ◌+◌, ◌∷◌, [], ◌++◌, Some, length, drop, ◌∙◌, ap, sym, subst, arith}
+use Rattle.std.proofs.Common.{◌+◌, ◌∷◌, [], length, ◌∙◌, ap, sym, subst, arith}
 use Rattle.std.proofs.lemmas.List.{length-append}
 use Rattle.nats_history.specs.Queue.{first}
 use Rattle.nats_history.specs.declared.waits.Waits.TheVariants as waits
