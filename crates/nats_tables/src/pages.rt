@@ -16,8 +16,11 @@ use std::collections::BTreeMap;
 use std::marker::Model;
 use std::mem;
 
-/// Rows by their numbers, from 1, 64 successive ones to a page. The newest page is at hand, and the older ones are
-/// found by their places. An older page without a row is given back.
+/// How many successive numbers have their rows in one page.
+const PAGE_ROWS: u64 = 64;
+
+/// Rows by their numbers, from 1, `PAGE_ROWS` successive ones to a page. The newest page is at hand, and the older
+/// ones are found by their places. An older page without a row is given back.
 #[derive(Drop)]
 pub struct Pages<T> {
     place: u64,
@@ -74,11 +77,11 @@ impl<T> Pages<T> {
         ensures { option_copied result ≡ row_of self.now number }
     {
         let index = number.checked_sub(1)?;
-        let slot = (index % 64) as usize;
-        if index / 64 == self.place {
+        let slot = (index % PAGE_ROWS) as usize;
+        if index / PAGE_ROWS == self.place {
             return self.newest.get(slot);
         }
-        self.older.get(&(index / 64))?.get(slot)
+        self.older.get(&(index / PAGE_ROWS))?.get(slot)
     }
 
     /// The row of a number, to change.
@@ -87,11 +90,11 @@ impl<T> Pages<T> {
         ensures value { option_copied_mut result ≡ row_of self.old number }
     {
         let index = number.checked_sub(1)?;
-        let slot = (index % 64) as usize;
-        if index / 64 == self.place {
+        let slot = (index % PAGE_ROWS) as usize;
+        if index / PAGE_ROWS == self.place {
             return self.newest.get_mut(slot);
         }
-        self.older.get_mut(&(index / 64))?.get_mut(slot)
+        self.older.get_mut(&(index / PAGE_ROWS))?.get_mut(slot)
     }
 }
 
@@ -99,7 +102,7 @@ impl<T: Drop> Pages<T> {
     /// Begins a new page with these slots.
     fn turn(&mut self, page: Slots<T>) -> Result<(), NoMemory>
         requires fits { given_in self.old < 2 ^ 64 }
-        requires few { length page ≤ 64 }
+        requires few { length page ≤ PAGE_ROWS }
         ensures rows { OnOk result ((q : _) → row_of self.new q ≡ row_of (turned page self.old) q) }
         ensures given { OnOk result (given_in self.new ≡ given_in (turned page self.old)) }
         ensures err { OnErr result (self.new ≡ self.old) }
@@ -126,7 +129,7 @@ impl<T: Drop> Pages<T> {
         ensures given { OnOk result (given_in self.new ≡ suc (given_in self.old)) }
         ensures err { OnErr result (self.new ≡ self.old) }
     {
-        if self.newest.len() < 64 {
+        if self.newest.len() < PAGE_ROWS as usize {
             return self.newest.push(row);
         }
         let mut page = Slots::new(self.alloc);
@@ -142,11 +145,11 @@ impl<T: Drop> Pages<T> {
         let Some(index) = number.checked_sub(1) else {
             return;
         };
-        let slot = (index % 64) as usize;
-        if index / 64 == self.place {
+        let slot = (index % PAGE_ROWS) as usize;
+        if index / PAGE_ROWS == self.place {
             self.newest.clear(slot);
         } else {
-            forget_older(&mut self.older, index / 64, slot);
+            forget_older(&mut self.older, index / PAGE_ROWS, slot);
         }
     }
 }

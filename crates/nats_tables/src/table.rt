@@ -88,10 +88,10 @@ pub trait TryChange<T: Row> {
 }
 
 /// Rows by their numbers, from 1. Contracts see all rows that got a number, in the order of their numbers; in
-/// memory are those that are not over, in pages of 64 successive numbers, and once more the numbers of those that do
-/// not rest. A page without a row is given back, but for the newest: so a page with one row that stays takes the
-/// memory of 64 rows at most. A call costs at most the logarithm of what is in memory, and one of the newest page
-/// less. Our own; the crate has a `HashMap`.
+/// memory are those that are not over, in pages of `PAGE_ROWS` successive numbers, and once more the numbers of
+/// those that do not rest. A page without a row is given back, but for the newest: so a page with one row that stays
+/// takes the memory of a whole page at most. A call costs at most the logarithm of what is in memory, and one of the
+/// newest page less. Our own; the crate has a `HashMap`.
 #[derive(Drop)]
 pub struct Table<T: Row> {
     given: u64,
