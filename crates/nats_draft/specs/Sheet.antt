@@ -10,7 +10,7 @@ use Rattle.nats_history.specs.declared.transcript.LinkRow.{LinkRow}
 use Rattle.nats_history.specs.declared.transcript.SubRow.{SubRow}
 use Rattle.nats_history.specs.declared.transcript.Transcript.{Transcript}
 use Rattle.nats_tables.specs.Numbers.{at_number}
-use Rattle.nats_history.specs.History.{settle_once}
+use Rattle.nats_history.specs.Tickets.{settle_once}
 
 -- what is written so far
 pub record Sheet : Type 0 where

@@ -1,7 +1,7 @@
 //! A transcript as it is written.
 ghost use Rattle.std.specs.Prelude.{◌≡◌, ◌+◌, [], ◌∷◌, ◌++◌, OnOk, IfOk, length, List, ℕ, if◌then◌else◌};
 ghost use Rattle.nats_tables.specs.Numbers.{at_number};
-ghost use Rattle.nats_history.specs.History.{settle_once};
+ghost use Rattle.nats_history.specs.Tickets.{settle_once};
 ghost use Rattle.nats_history.specs.declared.call.TakeReply.TheVariants as takes;
 ghost use Rattle.nats_draft.specs.Sheet.{Sheet, empty_sheet, new_row, added, added_ticket, write_settled, write_put, write_drop, write_take, row_with, shown_of};
 

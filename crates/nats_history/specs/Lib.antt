@@ -7,4 +7,5 @@ pub mod Queue
 pub mod Refusals
 pub mod Schedule
 pub mod Sent
+pub mod Tickets
 pub mod Transcripts

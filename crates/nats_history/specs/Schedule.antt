@@ -21,7 +21,8 @@ use Rattle.nats_history.specs.declared.transcript.LinkWord.TheVariants as word
 use Rattle.nats_history.specs.Queue.{first}
 use Rattle.nats_history.specs.Sent.{ReplyAt, at_subject, at_inbox, Sending, sent}
 use Rattle.nats_tables.specs.Numbers.{item_of}
-use Rattle.nats_history.specs.History.{Step, opened, fed, read, ticked, taken, accepted, handled, took, gone, passed, link_end, closed, History, ticks, asks, subscribes, takes_ticket, names, lets_go, Sub, is_ended, is_unsettled}
+use Rattle.nats_history.specs.History.{Step, opened, fed, read, ticked, taken, accepted, handled, took, gone, passed, link_end, closed, History, ticks, asks, subscribes, takes_ticket, names, lets_go, Sub, is_ended}
+use Rattle.nats_history.specs.Tickets.{is_unsettled}
 use Rattle.nats_history.specs.Parts.{Parts, parts_of}
 
 -- ---- replies

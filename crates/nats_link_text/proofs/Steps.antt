@@ -19,7 +19,8 @@ use Rattle.nats_history.specs.declared.turn.Turn.{Turn}
 use Rattle.nats_history.specs.declared.turn.Turn.TheVariants.{Up, Piece, Write, Tick, Lost, GiveUp, Hangup, Do, Take, Deadline}
 use Rattle.nats_history.specs.declared.transcript.LinkWord.{LinkWord}
 use Rattle.nats_history.specs.declared.transcript.LinkWord.TheVariants as word
-use Rattle.nats_history.specs.History.{Step, opened, fed, read, ticked, taken, accepted, handled, passed, link_end, closed, History, is_up, unread, max_payload, waiting_calls, asks, subscribes, takes_ticket, lets_go, given, ticks, is_unsettled, waiting_bytes}
+use Rattle.nats_history.specs.History.{Step, opened, fed, read, ticked, taken, accepted, handled, passed, link_end, closed, History, is_up, unread, max_payload, waiting_calls, asks, subscribes, takes_ticket, lets_go, given, ticks, waiting_bytes}
+use Rattle.nats_history.specs.Tickets.{is_unsettled}
 use Rattle.nats_history.specs.Parts.{Parts, parts_of}
 use Rattle.nats_history.specs.Sent.{ReplyAt, at_subject, at_inbox, Sending, sent}
 use Rattle.nats_history.specs.Schedule.{may_publish_to, passes, may_reply_at, may_send, asks_validly, has_subjects, group_passes, has_group, size_with, size_of, has_no_number, takes_no_call, refusal, take_reply, closes, closing, ending, end_after, followers, chain, accepted_step, took_step, gone_step, tick_limit, own_steps, due_call, due_by, due, most_due, put_steps, settled_within, after_turn, steps_from, steps}

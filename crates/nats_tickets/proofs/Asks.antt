@@ -16,7 +16,7 @@ use Rattle.std.proofs.lemmas.Map.Text.{is_eq-slice_cmp}
 use Rattle.std.proofs.lemmas.Slice.Eq.{bytes_eq-Decides}
 use Rattle.nats_tables.specs.Rows.{look, UpdatedAt}
 use Rattle.nats_tables.proofs.Tables.{at_same, at_apart}
-use Rattle.nats_history.specs.History.{request_at, requests_elsewhere, waits_for_reply, requests_but, ticket_in}
+use Rattle.nats_history.specs.Tickets.{request_at, requests_elsewhere, waits_for_reply, requests_but, ticket_in}
 use Rattle.nats_tickets.specs.Asking.{is_it, find, found_but, AllBelow, AllUnder, Indexed, but_if, gone_at, found_but_if}
 use Rattle.nats_tickets.specs.Kept.{one_if, bit}
 

@@ -7,7 +7,7 @@ use Rattle.nats_tables.proofs.Numbers.{at_index_past}
 use Rattle.nats_history.specs.declared.waits.Waits.{Waits}
 use Rattle.nats_history.specs.declared.waits.Waits.TheVariants as waits
 use Rattle.nats_history.specs.Queue.{first}
-use Rattle.nats_history.specs.History.{waits_late, is_waiting_request}
+use Rattle.nats_history.specs.Tickets.{waits_late, is_waiting_request}
 use Rattle.nats_tickets.specs.Kept.{bit, pending_of, pending}
 
 pub first_there : (qs : List Waits) (next : Waits) → first qs ≡ Some next → (length qs ≡ suc (length (drop 1 qs))) × (pending qs ≡ pending_of next + pending (drop 1 qs))

@@ -3,7 +3,7 @@ use Rattle.std.proofs.Common.{◌+◌, ◌∷◌, [], length, ◌∙◌, ap, sym
 use Rattle.std.proofs.lemmas.List.{length-append}
 use Rattle.nats_history.specs.Queue.{first}
 use Rattle.nats_history.specs.declared.waits.Waits.TheVariants as waits
-use Rattle.nats_history.specs.History.{requests_elsewhere}
+use Rattle.nats_history.specs.Tickets.{requests_elsewhere}
 use Rattle.nats_tickets.specs.Asking.{AllBelow}
 use Rattle.nats_tickets.specs.Kept.{Kept, one_if, pending}
 use Rattle.nats_tickets.proofs.Asks.{under_of, below_more, below_elsewhere, fewer_elsewhere}
