@@ -7,7 +7,8 @@ use Rattle.nats_history.specs.declared.transcript.LinkWord.{LinkWord}
 use Rattle.nats_history.specs.declared.transcript.LinkWord.TheVariants as word
 use Rattle.nats_history.specs.declared.call.CallReply.{CallReply}
 use Rattle.nats_history.specs.declared.turn.Turn.TheVariants.{Write}
-use Rattle.nats_history.specs.History.{Step, accepted, taken, ticked, passed, link_end, closed, at_place, grown_tickets, settle_once, settle_rows}
+use Rattle.nats_history.specs.History.{Step, accepted, taken, ticked, passed, link_end, closed, at_place}
+use Rattle.nats_history.specs.Tickets.{grown_tickets, settle_once, settle_rows}
 use Rattle.nats_tables.specs.Numbers.{at_number}
 use Rattle.nats_history.specs.Parts.{Parts}
 use Rattle.nats_history.specs.Schedule.{due, chain, closes, closing, ending}

@@ -26,7 +26,8 @@ use Rattle.nats_subs.specs.declared.subs.subscription.Delivery.{Delivery}
 use Rattle.nats_subs.specs.declared.subs.subscription.Delivery.TheVariants.{Put, Dropped, Unwanted, Ignored}
 use Rattle.nats_history.specs.Queue.{first}
 use Rattle.nats_tables.specs.Numbers.{at_number, item_of, change}
-use Rattle.nats_history.specs.History.{Step, cut, read, handled, link_end, History, drained_by, second, kept, events, waiting_bytes, settles, no_tickets, tickets}
+use Rattle.nats_history.specs.History.{default_max_payload, Step, cut, read, handled, link_end, History, drained_by, second, kept, events, waiting_bytes}
+use Rattle.nats_history.specs.Tickets.{settles, no_tickets, tickets}
 use Rattle.nats_history.specs.Counts.{no_statistics, message_counted}
 use Rattle.nats_history.specs.Parts.{Parts, parts_of}
 use Rattle.nats_history.specs.Schedule.{is_valid_turn, refusal, call_reply, accepted_step, call_steps, due, chain, ends_link, put_steps}
@@ -86,7 +87,15 @@ idle c = record {
   config = c;
   is_closed = false;
   drain = record { is_accepted = false; is_handled = false };
-  link = record { number = 0; is_up = false; max_payload = 1048576; info = None; reads = 0; pings = []; wire = fresh };
+  link = record {
+    number = 0;
+    is_up = false;
+    max_payload = default_max_payload;
+    info = None;
+    reads = 0;
+    pings = [];
+    wire = fresh;
+  };
   calls = [];
   subs = record { given = 0; subscribed = 0; rows = [] };
   requested = false;

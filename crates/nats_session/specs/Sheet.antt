@@ -13,7 +13,8 @@ use Rattle.nats_history.specs.declared.turn.Due.{Due}
 use Rattle.nats_history.specs.declared.turn.Due.TheVariants as due_names
 use Rattle.nats_subs.specs.declared.subs.subscription.Delivery.{Delivery}
 use Rattle.nats_subs.specs.declared.subs.subscription.Delivery.TheVariants.{Put, Dropped, Unwanted, Ignored}
-use Rattle.nats_history.specs.History.{Step, opened, read, taken, accepted, link_end, History, is_up, subscribes, link_text, taken_count, at_place, given, events, grown_tickets, settle_rows, ticket_rows}
+use Rattle.nats_history.specs.History.{Step, opened, read, taken, accepted, link_end, History, is_up, subscribes, link_text, taken_count, at_place, given, events}
+use Rattle.nats_history.specs.Tickets.{grown_tickets, settle_rows, ticket_rows}
 use Rattle.nats_tables.specs.Numbers.{at_number, item_of}
 use Rattle.nats_history.specs.Parts.{Parts, parts_of}
 use Rattle.nats_subs.specs.Delivery.{delivery_at}
