@@ -16,7 +16,7 @@ use nats_wire::{Bytes, HeaderMap, NoMemory, Subject, Token, copy_subject};
 use std::alloc::Global;
 
 /// Where the reply to a message that a call sends is asked to go.
-#[derive(Clone, Copy)]
+#[derive(Clone, Copy, Debug, PartialEq, Eq)]
 pub enum ReplyTo<'a> {
     /// To the subject that the call gives, if it gives one.
     Given(&'a Option<Subject>),
@@ -25,7 +25,7 @@ pub enum ReplyTo<'a> {
 }
 
 /// The message that the handling of a call sends.
-#[derive(Clone, Copy)]
+#[derive(Clone, Copy, Debug, PartialEq, Eq)]
 pub struct Outgoing<'a> {
     /// What it is about.
     pub subject: &'a Subject,
@@ -38,7 +38,7 @@ pub struct Outgoing<'a> {
 }
 
 /// What a call that subscribes asks for.
-#[derive(Clone, Copy)]
+#[derive(Clone, Copy, Debug, PartialEq, Eq)]
 pub struct Wanted<'a> {
     /// Which messages.
     pub subject: &'a Subject,
