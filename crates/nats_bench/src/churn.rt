@@ -102,12 +102,12 @@ pub fn submit(
 
 fn number_told(outcome: &Result<CallReply, Call>) -> Result<Option<u64>, NoMemory> {
     match outcome {
-        Ok(reply) => Ok(number_of(reply)),
+        Ok(reply) => Ok(given_number(reply)),
         Err(_) => Err(NoMemory),
     }
 }
 
-fn number_of(reply: &CallReply) -> Option<u64> {
+fn given_number(reply: &CallReply) -> Option<u64> {
     match reply {
         CallReply::Numbered(number) => Some(*number),
         CallReply::Accepted

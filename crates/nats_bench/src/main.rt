@@ -65,7 +65,7 @@ enum Command {
     Code(Work, Mix, usize),
 }
 
-fn number_of(word: &str) -> Option<usize>
+fn count_of(word: &str) -> Option<usize>
     ensures { IfSome result (λ n. n ≤ 10000000) }
 {
     let number = word.parse::<usize>().ok()?;
@@ -79,7 +79,7 @@ fn work_named(word: &str) -> Option<Work> {
 fn coding_of(word: &str, mix: &str, number: &str) -> Option<Command> {
     let work = work_named(word)?;
     let mix = Mix::named(mix)?;
-    let count = number_of(number)?;
+    let count = count_of(number)?;
     Some(Command::Code(work, mix, count))
 }
 
@@ -92,7 +92,7 @@ fn command_of(words: &[String]) -> Option<Command> {
 }
 
 fn playing_of(word: &str, number: &str) -> Option<Command> {
-    let count = number_of(number)?;
+    let count = count_of(number)?;
     match word {
         "count" => Some(Command::Count(count)),
         "time" => Some(Command::Time(count)),

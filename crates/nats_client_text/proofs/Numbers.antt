@@ -6,7 +6,7 @@ use Rattle.std.specs.Str.{all_ascii_digits}
 use Rattle.std.specs.Str.Parse.{ParsesUnsigned, digits_value, without_leading_plus, IsNumeral}
 use Rattle.std.proofs.lemmas.Str.Parse.{IsNumeralModel, numerals_by_value, tells_all_ascii_digits, without_leading_plus_none}
 use Rattle.std.proofs.lemmas.Bool.{lt-ltb, ltb-true}
-use Rattle.nats_client_text.specs.Pieces.{begins_number, number_of}
+use Rattle.nats_client_text.specs.Pieces.{begins_number, plain_number}
 
 own : IsNumeralModel (λ ds. all_ascii_digits ds ≡ true) (digits_value 10)
 own = numerals_by_value _ tells_all_ascii_digits
@@ -57,7 +57,7 @@ read_by digits (Err e) begins iff = refused digits (is_number digits) refl iff
 
 -- `parse` reads the grammar's number, and fails where it has none
 pub number_read : {E : Type 0} (text : List ℕ) (r : Result ℕ E) → begins_number text ≡ true → ParsesUnsigned 64 10 text r
-    → result_ok r ≡ number_of text
+    → result_ok r ≡ plain_number text
 number_read text r begins iff =
     let same : without_leading_plus text ≡ text = without_leading_plus_none text (no_plus text begins) in
     read_by text r begins (rw same at iff)
@@ -67,6 +67,6 @@ none_step true digits small n is = cc
 none_step false digits small n is = refl
 
 -- another text is none
-pub no_number : (text : List ℕ) → begins_number text ≡ false → None ≡ number_of text
+pub no_number : (text : List ℕ) → begins_number text ≡ false → None ≡ plain_number text
 no_number text is =
     none_step (begins_number text) (all_ascii_digits text) (nat_lt (digits_value 10 text) (2 ^ 64)) (digits_value 10 text) is

@@ -13,7 +13,7 @@ use Rattle.std.proofs.lemmas.Str.Ascii.{IsAscii-nil}
 use Rattle.std.proofs.lemmas.Bool.{lt-ltb}
 use Rattle.nats_names.specs.Names.{is_separator, is_publishable}
 use Rattle.nats_wire.specs.Operations.{Cut, onto_line, cut_line}
-use Rattle.nats_client_text.specs.Pieces.{pieces_of, begins_number, number_of, word_of}
+use Rattle.nats_client_text.specs.Pieces.{pieces_of, begins_number, plain_number, word_of}
 use Rattle.nats_client_text.specs.Grammar.{line_of_word, line_of}
 use Rattle.nats_client_text.specs.Law.{IsName}
 use Rattle.nats_client_text.proofs.Lines.{line_of_utf8}
@@ -187,8 +187,8 @@ number_step true false c n m p q r same = cc
 number_step true true false n m p q r same = cc
 
 -- and read as the number
-pub number_of_decimal : (n : ℕ) → n < 2 ^ 64 → number_of (decimal n) ≡ Some n
-number_of_decimal n small =
+pub plain_number_decimal : (n : ℕ) → n < 2 ^ 64 → plain_number (decimal n) ≡ Some n
+plain_number_decimal n small =
     let value : digits_value 10 (decimal n) ≡ n = digits_value-decimal own n small in
     number_step (begins_number (decimal n)) (all_ascii_digits (decimal n)) (nat_lt (digits_value 10 (decimal n)) (2 ^ 64)) (digits_value 10 (decimal n)) n
     (begins_decimal n small) (digits_decimal own n small) (lt-ltb _ _ (rw value small)) value

@@ -11,7 +11,7 @@ use Rattle.nats_client_text.proofs.Fields.{block_back}
 use Rattle.nats_wire.specs.Commands.{crlf, command_text, command_texts, publication_text}
 use Rattle.nats_wire.specs.declared.op.ClientOp.{ClientOp}
 use Rattle.nats_wire.specs.declared.op.ClientOp.TheVariants.{Subscribe, Unsubscribe, Publish, Ping, Pong, Connect}
-use Rattle.nats_client_text.specs.Pieces.{number_of, word_of}
+use Rattle.nats_client_text.specs.Pieces.{plain_number, word_of}
 use Rattle.nats_client_text.specs.Grammar.{OpText, got_or_bad, with_block, Publishes, alone, counted, plain, published, short, torn, body, body_of, whole, line_of_word, sight_of_line, sight_of_body, sight, front, onto_read, read_of}
 use Rattle.nats_client_text.specs.Blocks.{block_of}
 use Rattle.nats_client_text.specs.Law.{IsName, IsNameOrNone, IsSendable, AreSendable, as_read}
@@ -19,7 +19,7 @@ use Rattle.nats_client_text.specs.declared.read.ClientFront.TheVariants.{Got}
 use Rattle.nats_client_text.specs.declared.read.ClientEnd.TheVariants as end
 use Rattle.nats_client_text.proofs.Fronts.{sight_by_cut, front_by_sight}
 use Rattle.nats_client_text.proofs.Reading.{read_got}
-use Rattle.nats_client_text.proofs.Spaced.{spaced, AreNames, line_spaced, cut_clean, spaced_clean, small_utf8, number_name, number_of_decimal}
+use Rattle.nats_client_text.proofs.Spaced.{spaced, AreNames, line_spaced, cut_clean, spaced_clean, small_utf8, number_name, plain_number_decimal}
 
 line_seen : (first : List ℕ) (pieces : List (List ℕ)) (rest : List ℕ) → IsName first → AreNames pieces
     → sight (spaced first pieces ++ 13 ∷ 10 ∷ rest) ≡ sight_of_line (length (spaced first pieces) + 2) rest (line_of_word (word_of first) pieces)
@@ -128,19 +128,19 @@ subscribe_front : (sid : ℕ) (subject : List ℕ) (group : Option (List ℕ)) (
     → front (command_text (Subscribe sid subject group) ++ rest) ≡ Got (Subscribe sid subject group) (length (command_text (Subscribe sid subject group)))
 subscribe_front sid subject None rest small name other =
     written_alone (command_text (Subscribe sid subject None)) (codes "SUB") (subject ∷ decimal sid ∷ []) rest (Subscribe sid subject None)
-    (sub_text subject (decimal sid)) sub_name (name, (number_name sid small, tt)) (rw (number_of_decimal sid small) refl)
+    (sub_text subject (decimal sid)) sub_name (name, (number_name sid small, tt)) (rw (plain_number_decimal sid small) refl)
 subscribe_front sid subject (Some group) rest small name other =
     written_alone (command_text (Subscribe sid subject (Some group))) (codes "SUB") (subject ∷ group ∷ decimal sid ∷ []) rest (Subscribe sid subject (Some group))
-    (sub_group_text subject group (decimal sid)) sub_name (name, (other, (number_name sid small, tt))) (rw (number_of_decimal sid small) refl)
+    (sub_group_text subject group (decimal sid)) sub_name (name, (other, (number_name sid small, tt))) (rw (plain_number_decimal sid small) refl)
 
 publish_front : (subject : List ℕ) (respond : Option (List ℕ)) (payload rest : List ℕ) → IsName subject → IsNameOrNone respond → length payload < 2 ^ 64
     → front (publication_text subject respond None payload ++ rest) ≡ Got (Publish subject payload respond None) (length (publication_text subject respond None payload))
 publish_front subject None payload rest name other small =
     written_body (publication_text subject None None payload) (codes "PUB") (subject ∷ decimal (length payload) ∷ []) subject None payload rest
-    (pub_text subject (decimal (length payload)) payload) pub_name (name, (number_name (length payload) small, tt)) (rw (number_of_decimal (length payload) small) refl)
+    (pub_text subject (decimal (length payload)) payload) pub_name (name, (number_name (length payload) small, tt)) (rw (plain_number_decimal (length payload) small) refl)
 publish_front subject (Some reply) payload rest name other small =
     written_body (publication_text subject (Some reply) None payload) (codes "PUB") (subject ∷ reply ∷ decimal (length payload) ∷ []) subject (Some reply) payload rest
-    (pub_reply_text subject reply (decimal (length payload)) payload) pub_name (name, (other, (number_name (length payload) small, tt))) (rw (number_of_decimal (length payload) small) refl)
+    (pub_reply_text subject reply (decimal (length payload)) payload) pub_name (name, (other, (number_name (length payload) small, tt))) (rw (plain_number_decimal (length payload) small) refl)
 
 -- a line, a block, a payload and CR LF
 headed_front : (first : List ℕ) (pieces : List (List ℕ)) (subject : List ℕ) (respond : Option (List ℕ)) (block payload rest : List ℕ) (headers : Headers)
@@ -185,11 +185,11 @@ hpub_reply_parts v s a r h t e b p = simp append_assoc
 
 -- the total is no less than the block's length
 block_says : (subject : List ℕ) (respond : Option (List ℕ)) (block_len count : ℕ) → block_len + count < 2 ^ 64
-    → with_block subject respond (number_of (decimal block_len)) (number_of (decimal (block_len + count)))
+    → with_block subject respond (plain_number (decimal block_len)) (plain_number (decimal (block_len + count)))
     ≡ Some (counted (record { subject = subject; respond = respond; block_len = Some block_len; count = block_len + count }))
 block_says subject respond block_len count small =
     let enough : nat_lt (block_len + count) block_len ≡ false = le-ltb (block_len + count) block_len (omega arith) in
-    rw (number_of_decimal block_len (omega (arith, small)), number_of_decimal (block_len + count) small, enough) refl
+    rw (plain_number_decimal block_len (omega (arith, small)), plain_number_decimal (block_len + count) small, enough) refl
 
 publish_headed : (subject : List ℕ) (respond : Option (List ℕ)) (block payload rest : List ℕ) (headers : Headers) → IsName subject → IsNameOrNone respond
     → block_of block ≡ Some headers → length block + length payload < 2 ^ 64
@@ -211,11 +211,11 @@ op_front : (op : ClientOp) (rest : List ℕ) → IsSendable op → front (comman
 op_front (Subscribe sid subject group) rest is = subscribe_front sid subject group rest is.0 is.1 is.2
 op_front (Unsubscribe sid None) rest is =
     written_alone (command_text (Unsubscribe sid None)) (codes "UNSUB") (decimal sid ∷ []) rest (Unsubscribe sid None)
-    (unsub_text (decimal sid)) unsub_name (number_name sid is.0, tt) (rw (number_of_decimal sid is.0) refl)
+    (unsub_text (decimal sid)) unsub_name (number_name sid is.0, tt) (rw (plain_number_decimal sid is.0) refl)
 op_front (Unsubscribe sid (Some max)) rest is =
     written_alone (command_text (Unsubscribe sid (Some max))) (codes "UNSUB") (decimal sid ∷ decimal max ∷ []) rest (Unsubscribe sid (Some max))
     (unsub_max_text (decimal sid) (decimal max)) unsub_name (number_name sid is.0, (number_name max is.1, tt))
-    (rw (number_of_decimal sid is.0, number_of_decimal max is.1) refl)
+    (rw (plain_number_decimal sid is.0, plain_number_decimal max is.1) refl)
 op_front (Publish subject payload respond None) rest is = publish_front subject respond payload rest is.0 is.1 is.3
 op_front (Publish subject payload respond (Some [])) rest is = publish_front subject respond payload rest is.0 is.1 is.3
 op_front (Publish subject payload respond (Some (field ∷ fields))) rest is =

@@ -8,7 +8,7 @@ use Rattle.nats_wire.specs.Operations.{Cut, cut_line}
 use Rattle.nats_wire.specs.Commands.{crlf}
 use Rattle.nats_wire.specs.declared.op.ClientOp.{ClientOp}
 use Rattle.nats_wire.specs.declared.op.ClientOp.TheVariants.{Subscribe, Unsubscribe, Publish, Ping, Pong}
-use Rattle.nats_client_text.specs.Pieces.{pieces_of, number_of, word_of}
+use Rattle.nats_client_text.specs.Pieces.{pieces_of, plain_number, word_of}
 use Rattle.nats_client_text.specs.Blocks.{block_of}
 use Rattle.nats_client_text.specs.declared.pieces.Word.{Word}
 use Rattle.nats_client_text.specs.declared.pieces.Word.TheVariants as word
@@ -51,8 +51,8 @@ limited None max = None
 
 -- a number, or a number and how many messages are still to come
 abbrev pub unsubscription : List (List ℕ) → Option Line
-unsubscription (sid ∷ []) = option_map (λ sid. alone (plain (Unsubscribe sid None))) (number_of sid)
-unsubscription (sid ∷ max ∷ []) = limited (number_of sid) (number_of max)
+unsubscription (sid ∷ []) = option_map (λ sid. alone (plain (Unsubscribe sid None))) (plain_number sid)
+unsubscription (sid ∷ max ∷ []) = limited (plain_number sid) (plain_number max)
 unsubscription pieces = None
 
 abbrev pub subscribed : List ℕ → Option (List ℕ) → Option ℕ → Option Line
@@ -60,8 +60,8 @@ subscribed subject queue_group sid = option_map (λ sid. alone (plain (Subscribe
 
 -- a subject, perhaps a queue group, and a number
 abbrev pub subscription : List (List ℕ) → Option Line
-subscription (subject ∷ sid ∷ []) = subscribed subject None (number_of sid)
-subscription (subject ∷ queue_group ∷ sid ∷ []) = subscribed subject (Some queue_group) (number_of sid)
+subscription (subject ∷ sid ∷ []) = subscribed subject None (plain_number sid)
+subscription (subject ∷ queue_group ∷ sid ∷ []) = subscribed subject (Some queue_group) (plain_number sid)
 subscription pieces = None
 
 abbrev pub with_payload : List ℕ → Option (List ℕ) → Option ℕ → Option Line
@@ -70,8 +70,8 @@ with_payload subject respond count =
 
 -- a subject, perhaps a reply, and the length of the payload
 abbrev pub publication : List (List ℕ) → Option Line
-publication (subject ∷ count ∷ []) = with_payload subject None (number_of count)
-publication (subject ∷ respond ∷ count ∷ []) = with_payload subject (Some respond) (number_of count)
+publication (subject ∷ count ∷ []) = with_payload subject None (plain_number count)
+publication (subject ∷ respond ∷ count ∷ []) = with_payload subject (Some respond) (plain_number count)
 publication pieces = None
 
 -- a total below the length of the block is none
@@ -84,9 +84,9 @@ with_block subject respond None total = None
 
 -- a subject, perhaps a reply, the length of the block, and that of block and payload together
 abbrev pub header_publication : List (List ℕ) → Option Line
-header_publication (subject ∷ block_len ∷ total ∷ []) = with_block subject None (number_of block_len) (number_of total)
+header_publication (subject ∷ block_len ∷ total ∷ []) = with_block subject None (plain_number block_len) (plain_number total)
 header_publication (subject ∷ respond ∷ block_len ∷ total ∷ []) =
-    with_block subject (Some respond) (number_of block_len) (number_of total)
+    with_block subject (Some respond) (plain_number block_len) (plain_number total)
 header_publication pieces = None
 
 abbrev pub line_of_word : Word → List (List ℕ) → Option Line

@@ -16,8 +16,8 @@ begins_number [] = false
 begins_number (digit ∷ digits) = nat_le 49 digit && nat_le digit 57 || digit == 48 && length digits == 0
 
 -- a number: decimal digits without leading zeros, below 2^64
-abbrev pub number_of : List ℕ → Option ℕ
-number_of text =
+abbrev pub plain_number : List ℕ → Option ℕ
+plain_number text =
     if begins_number text && all_ascii_digits text && nat_lt (digits_value 10 text) (2 ^ 64)
     then Some (digits_value 10 text) else None
 

@@ -2,7 +2,7 @@
 ghost use Rattle.std.specs.Prelude.{◌≡◌, IfSome, None, Some, option_map, if◌then◌else◌};
 ghost use Rattle.std.specs.List.{list_all};
 ghost use Rattle.nats_names.specs.Names.{is_publishable};
-ghost use Rattle.nats_client_text.specs.Pieces.{pieces_of, number_of};
+ghost use Rattle.nats_client_text.specs.Pieces.{pieces_of, plain_number};
 ghost use Rattle.nats_client_text.specs.Grammar.{bare, unsubscription, subscribed, subscription, with_payload, publication, with_block, header_publication, line_of_word, line_of_pieces, line_of};
 ghost use Rattle.nats_client_text.specs.Code.{now_of, pieces_left, op_text_view, line_view, BlockWithin};
 
@@ -76,7 +76,7 @@ fn unsubscription(left: Option<&str>) -> Option<Line<'_>>
 }
 
 fn subscribed<'a>(subject: &'a str, queue_group: Option<&'a str>, sid: &str) -> Option<Line<'a>>
-    ensures { option_map line_view result ≡ subscribed subject.now (now_of queue_group.entry) (number_of sid.now) }
+    ensures { option_map line_view result ≡ subscribed subject.now (now_of queue_group.entry) (plain_number sid.now) }
 {
     Some(Line::Alone(OpText::Subscribe {
         sid: number(sid)?,
@@ -100,7 +100,7 @@ fn subscription(left: Option<&str>) -> Option<Line<'_>>
 }
 
 fn with_payload<'a>(subject: &'a str, respond: Option<&'a str>, count: &str) -> Option<Line<'a>>
-    ensures line { option_map line_view result ≡ with_payload subject.now (now_of respond.entry) (number_of count.now) }
+    ensures line { option_map line_view result ≡ with_payload subject.now (now_of respond.entry) (plain_number count.now) }
     ensures within { IfSome result BlockWithin }
 {
     Some(Line::Counted(Publishes {
@@ -133,7 +133,7 @@ fn with_block<'a>(
     total: &str,
 ) -> Option<Line<'a>>
     ensures line { option_map line_view result
-        ≡ with_block subject.now (now_of respond.entry) (number_of block_len.now) (number_of total.now) }
+        ≡ with_block subject.now (now_of respond.entry) (plain_number block_len.now) (plain_number total.now) }
     ensures within { IfSome result BlockWithin }
 {
     let block_len = number(block_len)? as usize;

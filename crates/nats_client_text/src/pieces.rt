@@ -2,7 +2,7 @@
 ghost use Rattle.std.specs.Prelude.{◌≡◌, not, Some};
 ghost use Rattle.std.specs.List.{list_all};
 ghost use Rattle.nats_names.specs.Names.{is_separator, is_publishable};
-ghost use Rattle.nats_client_text.specs.Pieces.{pieces_of, begins_number, number_of, word_of};
+ghost use Rattle.nats_client_text.specs.Pieces.{pieces_of, begins_number, plain_number, word_of};
 ghost use Rattle.nats_client_text.specs.Code.{pieces_left, pieces_from};
 
 /// A line cut behind its first piece.
@@ -116,7 +116,7 @@ fn begins_number(digits: &[u8]) -> bool
 
 /// The number that a piece is.
 pub fn number(text: &str) -> Option<u64>
-    ensures { result ≡ number_of text.now }
+    ensures { result ≡ plain_number text.now }
 {
     if !begins_number(text.as_bytes()) {
         return None;

@@ -68,7 +68,7 @@ pub(crate) fn play_turn(
             Ok(StepReply::Done)
         }
         Turn::Piece(bytes) => {
-            handler.piece(alloc, bytes.as_slice())?;
+            handler.shared_piece(alloc, &bytes)?;
             Ok(StepReply::Done)
         }
         Turn::Write(n) => {

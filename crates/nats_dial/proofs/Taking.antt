@@ -19,7 +19,7 @@ use Rattle.nats_handshake.specs.Shaking.{Talk, Goes, Greeted, Repelled, Declines
 use Rattle.nats_handshake.specs.Heard.{IsOpen}
 use Rattle.nats_dial.specs.Lines.{IsAt}
 use Rattle.nats_dial.specs.Taking.{TookIn, HasTook}
-use Rattle.nats_dial.proofs.Turning.{heeds_at, fed_heeds, fed_refuses}
+use Rattle.nats_dial.proofs.Exchanging.{heeds_at, fed_heeds, fed_refuses}
 
 module _ {P : Type 0} (Takes : P → P → List (List ℕ) → Result (Unit {0}) AddrError → Type 0) where
   -- whatever a handshake took in, it took in once at most

@@ -101,13 +101,13 @@ module _ {P : Type 0} (Takes : P → P → List (List ℕ) → Result (Unit {0})
         ⊎ (((at : Stage) × IsOpen at × (e ≡ io (end_cause at)) × (1 ≤ r.ends)) ⊎ Refused e r)))
 
     -- what one read and its answer come to
-    abbrev pub Turned : Result Shake Failure → Talk → ReadTold → WriteTold → ClockTold → Type 0
-    Turned (Ok s) new r w c =
+    abbrev pub Exchanged : Result Shake Failure → Talk → ReadTold → WriteTold → ClockTold → Type 0
+    Exchanged (Ok s) new r w c =
         IsAt s new.stage × ((text : List ℕ) × (wrote : List ℕ)
         × Line Offers name no_echo by_scheme start timeout text wrote new r w)
-    Turned (Err e) new r w c = Broke e r w c
+    Exchanged (Err e) new r w c = Broke e r w c
 
     -- what a handshake comes to at its end
     abbrev pub Shaken : Result (Unit {0}) Failure → Talk → ReadTold → WriteTold → ClockTold → Type 0
-    Shaken (Ok done) new r w c = Turned (Ok shake.Done) new r w c
+    Shaken (Ok done) new r w c = Exchanged (Ok shake.Done) new r w c
     Shaken (Err e) new r w c = Broke e r w c

@@ -22,10 +22,10 @@ module _ {P : Type 0} (Takes : P → P → List (List ℕ) → Result (Unit {0})
   HasTook (stage.Refused kind) p q = TookIn p q
 
   -- the same after one read, and at a handshake's end
-  abbrev pub TookTurn : P → Result Shake Failure → Stage → P → Type 0
-  TookTurn p (Ok s) at q = IsAt s at × HasTook at p q
-  TookTurn p (Err e) at q = TookIn p q
+  abbrev pub TookExchange : P → Result Shake Failure → Stage → P → Type 0
+  TookExchange p (Ok s) at q = IsAt s at × HasTook at p q
+  TookExchange p (Err e) at q = TookIn p q
 
   abbrev pub TookShaken : P → Result (Unit {0}) Failure → Stage → P → Type 0
-  TookShaken p (Ok done) at q = TookTurn p (Ok shake.Done) at q
+  TookShaken p (Ok done) at q = TookExchange p (Ok shake.Done) at q
   TookShaken p (Err e) at q = TookIn p q

@@ -4,17 +4,17 @@
 
 mod address;
 mod connect;
+mod exchange;
 mod greet;
 mod link;
 mod linked;
 mod server;
 mod shake;
-mod turn;
 
 pub use connect::try_connect;
+pub use exchange::READ_SIZE;
 pub use linked::Linked;
 pub use nats_handshake::{ConnectError, ConnectErrorKind, ConnectOptions, Handshake, NoMemory};
 pub use nats_outside::{Clock, LinkRead, LinkWrite, Reach};
 pub use nats_pool::{Rounds, ServerList};
 pub use shake::shake_hands;
-pub use turn::READ_SIZE;

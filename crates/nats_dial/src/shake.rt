@@ -6,8 +6,8 @@ ghost use Rattle.nats_handshake.specs.Heard.{IsOpen};
 ghost use Rattle.nats_dial.specs.Lines.{Looked, Line, Shaken};
 ghost use Rattle.nats_dial.specs.Taking.{HasTook, TookShaken};
 
+use crate::exchange::exchange;
 use crate::link::wanting;
-use crate::turn::turn;
 use nats_handshake::{ConnectError, ConnectOptions, Handshake, Shake};
 use nats_outside::{Clock, LinkRead, LinkWrite};
 use nats_pool::ServerList;
@@ -47,8 +47,8 @@ pub fn shake_hands<R: LinkRead, T: LinkWrite, C: Clock, P: ServerList>(
     ensures took { (p : P) → IsOpen shaking.old.stage → HasTook P.Takes shaking.old.stage p pool.old
         → TookShaken P.Takes p result shaking.new.stage pool.new }
 {
-    'turns: for _ in 0..u64::MAX {
-        match turn(alloc, shaking, options, pool, read, write, clock) {
+    'exchanges: for _ in 0..u64::MAX {
+        match exchange(alloc, shaking, options, pool, read, write, clock) {
             Ok(Shake::More) => {}
             Ok(Shake::Done) => return Ok(()),
             Err(error) => return Err(error),

@@ -9,12 +9,8 @@ use Rattle.nats_history.specs.declared.transcript.LinkWord.{LinkWord}
 use Rattle.nats_history.specs.declared.transcript.LinkRow.{LinkRow}
 use Rattle.nats_history.specs.declared.transcript.SubRow.{SubRow}
 use Rattle.nats_history.specs.declared.transcript.Transcript.{Transcript}
-use Rattle.nats_history.specs.declared.turn.Due.{Due}
-use Rattle.nats_history.specs.declared.turn.Due.TheVariants as due_names
 use Rattle.nats_tables.specs.Numbers.{at_number}
-use Rattle.nats_history.specs.History.{settle_once}
-use Rattle.nats_draft.specs.declared.draft.Note.{Note}
-use Rattle.nats_draft.specs.declared.draft.Note.TheVariants as notes
+use Rattle.nats_history.specs.Tickets.{settle_once}
 
 -- what is written so far
 pub record Sheet : Type 0 where
@@ -60,16 +56,6 @@ write_drop place m row = record row { drops = row.drops ++ (place, m) ∷ [] }
 
 abbrev pub write_take : ℕ → TakeReply → SubRow → SubRow
 write_take place reply row = record row { takes = row.takes ++ (place, reply) ∷ [] }
-
--- what a note writes into a row
-abbrev pub write_note : ℕ → Note → SubRow → SubRow
-write_note place (notes.Drop m) row = write_drop place m row
-write_note place (notes.Take reply) row = write_take place reply row
-
--- what is written of a step by its name, once it was played
-abbrev pub write_due : ℕ → Due → Sheet → Sheet
-write_due place (due_names.Dropped sid m) sheet = record sheet { subs = at_number sid (write_drop place m) sheet.subs }
-write_due place name sheet = sheet
 
 -- ---- the end
 

@@ -1,12 +1,13 @@
 //! A transcript as it is written.
 ghost use Rattle.std.specs.Prelude.{◌≡◌, ◌+◌, [], ◌∷◌, ◌++◌, OnOk, IfOk, length, List, ℕ, if◌then◌else◌};
 ghost use Rattle.nats_tables.specs.Numbers.{at_number};
-ghost use Rattle.nats_history.specs.History.{settle_once};
-ghost use Rattle.nats_draft.specs.Sheet.{Sheet, empty_sheet, new_row, added, added_ticket, write_settled, write_put, write_note, write_due, row_with, shown_of};
+ghost use Rattle.nats_history.specs.Tickets.{settle_once};
+ghost use Rattle.nats_history.specs.declared.call.TakeReply.TheVariants as takes;
+ghost use Rattle.nats_draft.specs.Sheet.{Sheet, empty_sheet, new_row, added, added_ticket, write_settled, write_put, write_drop, write_take, row_with, shown_of};
 
 use crate::places::place_of;
 use nats_history::{
-    CallReply, Due, Event, LinkRow, LinkWord, Message, NoMemory, Seq, SubRow, TakeReply, Transcript,
+    CallReply, Event, LinkRow, LinkWord, Message, NoMemory, Seq, SubRow, TakeReply, Transcript,
 };
 use std::alloc::Global;
 use std::marker::Model;
@@ -105,22 +106,46 @@ impl Draft {
         put_in(&mut self.subs, alloc, place, sid, message)
     }
 
-    /// Something happened to subscription `sid`.
-    pub fn note(&mut self, alloc: Global, place: u64, sid: u64, note: Note) -> Result<(), NoMemory>
+    /// A message met the full queue of subscription `sid`.
+    pub fn note_drop(
+        &mut self,
+        alloc: Global,
+        place: u64,
+        sid: u64,
+        message: Box<Message>,
+    ) -> Result<(), NoMemory>
         ensures { OnOk result
-            (self.new ≡ record self.old { subs = at_number sid (write_note place note) self.old.subs }) }
+            (self.new ≡ record self.old { subs = at_number sid (write_drop place message.value) self.old.subs }) }
     {
-        note_in(&mut self.subs, alloc, place, sid, note)
+        drop_in(&mut self.subs, alloc, place, sid, message)
     }
 
-    /// A due step was played, and was named so.
-    pub fn note_due(&mut self, alloc: Global, place: u64, due: Due) -> Result<(), NoMemory>
-        ensures { OnOk result (self.new ≡ write_due place due self.old) }
+    /// A take of subscription `sid` was answered with a message.
+    pub fn note_message_taken(
+        &mut self,
+        alloc: Global,
+        place: u64,
+        sid: u64,
+        message: Box<Message>,
+    ) -> Result<(), NoMemory>
+        ensures { OnOk result (self.new
+            ≡ record self.old { subs = at_number sid (write_take place (takes.Message message.value)) self.old.subs }) }
     {
-        match due {
-            Due::Dropped(sid, message) => self.note(alloc, place, sid, Note::Drop(message)),
-            Due::Put(_) | Due::Nothing | Due::Read | Due::Handled | Due::Ended => Ok(()),
-        }
+        message_in(&mut self.subs, alloc, place, sid, message)
+    }
+
+    /// A take of subscription `sid` was answered so. Where it was with a message, `note_message_taken` costs less.
+    pub fn note_take(
+        &mut self,
+        alloc: Global,
+        place: u64,
+        sid: u64,
+        reply: TakeReply,
+    ) -> Result<(), NoMemory>
+        ensures { OnOk result
+            (self.new ≡ record self.old { subs = at_number sid (write_take place reply) self.old.subs }) }
+    {
+        take_in(&mut self.subs, alloc, place, sid, reply)
     }
 
     fn add_numbered(&mut self, alloc: Global, reply: &CallReply) -> Result<(), NoMemory>
@@ -232,22 +257,32 @@ impl Draft {
     }
 }
 
-/// What can happen to a subscription.
-#[derive(Drop)]
-pub enum Note {
-    /// A message met its full queue.
-    Drop(Message),
-    /// A take was answered.
-    Take(TakeReply),
+fn drop_on(
+    row: &mut SubRow,
+    alloc: Global,
+    place: u64,
+    message: Box<Message>,
+) -> Result<(), NoMemory>
+    ensures { OnOk result (row.new ≡ write_drop place message.value row.old) }
+{
+    row.drops.push(alloc, (place, Box::into_inner(message)))
 }
 
-fn note_on(row: &mut SubRow, alloc: Global, place: u64, note: Note) -> Result<(), NoMemory>
-    ensures { OnOk result (row.new ≡ write_note place note row.old) }
+fn message_on(
+    row: &mut SubRow,
+    alloc: Global,
+    place: u64,
+    message: Box<Message>,
+) -> Result<(), NoMemory>
+    ensures { OnOk result (row.new ≡ write_take place (takes.Message message.value) row.old) }
 {
-    match note {
-        Note::Drop(message) => row.drops.push(alloc, (place, message)),
-        Note::Take(reply) => row.takes.push(alloc, (place, reply)),
-    }
+    row.takes.push(alloc, (place, TakeReply::Message(Box::into_inner(message))))
+}
+
+fn take_on(row: &mut SubRow, alloc: Global, place: u64, reply: TakeReply) -> Result<(), NoMemory>
+    ensures { OnOk result (row.new ≡ write_take place reply row.old) }
+{
+    row.takes.push(alloc, (place, reply))
 }
 
 fn put_on(row: &mut SubRow, alloc: Global, place: u64, message: &Message) -> Result<(), NoMemory>
@@ -271,17 +306,47 @@ fn put_in(
     }
 }
 
-fn note_in(
+fn drop_in(
     rows: &mut [SubRow],
     alloc: Global,
     place: u64,
     sid: u64,
-    note: Note,
+    message: Box<Message>,
 ) -> Result<(), NoMemory>
-    ensures { OnOk result (rows.new ≡ at_number sid (write_note place note) rows.old) }
+    ensures { OnOk result (rows.new ≡ at_number sid (write_drop place message.value) rows.old) }
 {
     match place_of(sid, rows.len()) {
-        Some(index) => note_on(&mut rows[index], alloc, place, note),
+        Some(index) => drop_on(&mut rows[index], alloc, place, message),
+        None => Ok(()),
+    }
+}
+
+fn message_in(
+    rows: &mut [SubRow],
+    alloc: Global,
+    place: u64,
+    sid: u64,
+    message: Box<Message>,
+) -> Result<(), NoMemory>
+    ensures { OnOk result (rows.new ≡ at_number sid (write_take place (takes.Message message.value)) rows.old) }
+{
+    match place_of(sid, rows.len()) {
+        Some(index) => message_on(&mut rows[index], alloc, place, message),
+        None => Ok(()),
+    }
+}
+
+fn take_in(
+    rows: &mut [SubRow],
+    alloc: Global,
+    place: u64,
+    sid: u64,
+    reply: TakeReply,
+) -> Result<(), NoMemory>
+    ensures { OnOk result (rows.new ≡ at_number sid (write_take place reply) rows.old) }
+{
+    match place_of(sid, rows.len()) {
+        Some(index) => take_on(&mut rows[index], alloc, place, reply),
         None => Ok(()),
     }
 }

@@ -5,4 +5,4 @@
 mod draft;
 mod places;
 
-pub use draft::{Draft, Note};
+pub use draft::Draft;

@@ -1,7 +1,8 @@
 //! A line as an operation.
 use crate::connect::connect_of;
 use crate::spell::{
-    bytes_of, no_memory, number_of, optional_subject_of, out_of_form, payload_of, subject_of,
+    no_memory, optional_subject_of, out_of_form, payload_of, spelled_bytes, spelled_number,
+    subject_of,
 };
 use nats_wire::{ClientOp, HeaderMap};
 use std::alloc::Global;
@@ -14,8 +15,8 @@ fn append_header(
     name: &str,
     value: &str,
 ) -> io::Result<()> {
-    let name = bytes_of(alloc, name)?;
-    let value = bytes_of(alloc, value)?;
+    let name = spelled_bytes(alloc, name)?;
+    let value = spelled_bytes(alloc, value)?;
     let name = str::from_utf8(name.as_slice()).map_err(|_| out_of_form())?;
     let value = str::from_utf8(value.as_slice()).map_err(|_| out_of_form())?;
     headers
@@ -48,7 +49,7 @@ fn publish(alloc: Global, words: [&str; 3], headers: Option<HeaderMap>) -> io::R
 fn subscribe(alloc: Global, words: [&str; 3]) -> io::Result<ClientOp> {
     let [sid, subject, group] = words;
     Ok(ClientOp::Subscribe {
-        sid: number_of(sid)?,
+        sid: spelled_number(sid)?,
         subject: subject_of(alloc, subject)?,
         queue_group: optional_subject_of(alloc, group)?,
     })
@@ -56,10 +57,10 @@ fn subscribe(alloc: Global, words: [&str; 3]) -> io::Result<ClientOp> {
 
 fn unsubscribe(sid: &str, max: &str) -> io::Result<ClientOp> {
     Ok(ClientOp::Unsubscribe {
-        sid: number_of(sid)?,
+        sid: spelled_number(sid)?,
         max: match max {
             "~" => None,
-            max => Some(number_of(max)?),
+            max => Some(spelled_number(max)?),
         },
     })
 }

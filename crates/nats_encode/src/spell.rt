@@ -16,7 +16,7 @@ pub fn no_memory() -> io::Error {
 }
 
 /// The bytes of a word.
-pub fn bytes_of(alloc: Global, word: &str) -> io::Result<Vec<u8>> {
+pub fn spelled_bytes(alloc: Global, word: &str) -> io::Result<Vec<u8>> {
     let mut bytes = Vec::new(alloc);
     if word != "%" {
         percent_decode(word.as_bytes()).append_to(&mut bytes)?;
@@ -26,13 +26,13 @@ pub fn bytes_of(alloc: Global, word: &str) -> io::Result<Vec<u8>> {
 
 /// The bytes of a word, to be shared.
 pub fn payload_of(alloc: Global, word: &str) -> io::Result<Bytes> {
-    let bytes = bytes_of(alloc, word)?;
+    let bytes = spelled_bytes(alloc, word)?;
     Ok(Bytes::from_vec(bytes)?)
 }
 
 /// The text of a word.
 pub fn text_of(alloc: Global, word: &str) -> io::Result<Text> {
-    let bytes = bytes_of(alloc, word)?;
+    let bytes = spelled_bytes(alloc, word)?;
     let text = str::from_utf8(bytes.as_slice()).map_err(|_| out_of_form())?;
     Text::from_text(alloc, text).map_err(|_| no_memory())
 }
@@ -47,7 +47,7 @@ pub fn optional_text_of(alloc: Global, word: &str) -> io::Result<Option<Text>> {
 
 /// The subject of a word.
 pub fn subject_of(alloc: Global, word: &str) -> io::Result<Subject> {
-    let bytes = bytes_of(alloc, word)?;
+    let bytes = spelled_bytes(alloc, word)?;
     let text = str::from_utf8(bytes.as_slice()).map_err(|_| out_of_form())?;
     Subject::from_text(alloc, text).map_err(|_| no_memory())
 }
@@ -61,7 +61,7 @@ pub fn optional_subject_of(alloc: Global, word: &str) -> io::Result<Option<Subje
 }
 
 /// The number of a word.
-pub fn number_of(word: &str) -> io::Result<u64> {
+pub fn spelled_number(word: &str) -> io::Result<u64> {
     word.parse().map_err(|_| out_of_form())
 }
 

@@ -11,7 +11,8 @@ use Rattle.nats_history.specs.declared.call.Call.TheVariants.{Flush, Request}
 use Rattle.nats_history.specs.declared.waits.Waits.{Waits}
 use Rattle.nats_history.specs.declared.waits.Waits.TheVariants as waits
 use Rattle.nats_history.specs.Queue.{first}
-use Rattle.nats_history.specs.History.{Step, opened, taken, handled, link_end, closed, History, is_up, requested, at_of, rows_of, commands, link_text, taken_count, waiting_bytes, Awaits, Tickets, reaches, flushed_by, nearer, left_by, awaiting, flush_handled, request_handled, ticket_handled, ticket_of, tickets}
+use Rattle.nats_history.specs.History.{Step, opened, taken, handled, link_end, closed, History, is_up, requested, at_of, rows_of, commands, link_text, taken_count, waiting_bytes}
+use Rattle.nats_history.specs.Tickets.{Awaits, Tickets, reaches, flushed_by, nearer, left_by, awaiting, flush_handled, request_handled, ticket_handled, ticket_of, tickets}
 use Rattle.nats_history.specs.After.{write_all, written}
 use Rattle.nats_history.specs.Laws.{FlushesReached}
 use Rattle.nats_history.proofs.Refines.{bytes_next}

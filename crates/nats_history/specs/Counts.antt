@@ -1,12 +1,12 @@
 -- What is counted of a session: messages and their bytes, in and out, and links.
-use Rattle.std.specs.Prelude.{ℕ, suc, ◌+◌, Bool, true, false, List, [], ◌∷◌, length, Option, Some, if◌then◌else◌}
+use Rattle.std.specs.Prelude.{ℕ, suc, ◌+◌, Bool, List, [], ◌∷◌, length, Option, Some, None, is_some, if◌then◌else◌}
 use Rattle.nats_wire.specs.Operations.{message, length_or_0}
 use Rattle.nats_wire.specs.Commands.{sent_block}
 use Rattle.nats_history.specs.declared.config.Config.{Config}
 use Rattle.nats_history.specs.declared.call.Call.{Call}
-use Rattle.nats_history.specs.declared.call.Call.TheVariants.{Publish, Request}
 use Rattle.nats_history.specs.declared.statistics.Statistics.{Statistics}
-use Rattle.nats_history.specs.History.{Step, read, handled, History, cut, links, links_after, inbox_of}
+use Rattle.nats_history.specs.Sent.{Sending, sent}
+use Rattle.nats_history.specs.History.{Step, read, handled, History, cut, links, links_after, reply_text}
 
 -- ---- in
 
@@ -32,9 +32,7 @@ in_bytes ((place, step) ∷ h) = in_bytes_after step (in_bytes h)
 
 -- a call whose handling sends a message
 abbrev pub sends : Call → Bool
-sends (Publish m) = true
-sends (Request subject payload headers token) = true
-sends call = false
+sends call = is_some (sent call)
 
 abbrev pub out_messages_after : Step → ℕ → ℕ
 out_messages_after (handled call) n = if sends call then cut (suc n) else n
@@ -50,11 +48,12 @@ out_messages ((place, step) ∷ h) = out_messages_after step (out_messages h)
 abbrev pub sent_len : List ℕ → Option (List ℕ) → Option (List ℕ) → List ℕ → ℕ
 sent_len subject reply block payload = length subject + (length_or_0 reply + (length_or_0 block + length payload))
 
+abbrev pub bytes_with : Config → Option Sending → ℕ → ℕ
+bytes_with c None n = n
+bytes_with c (Some m) n = cut (n + sent_len m.subject (reply_text c m.reply) (sent_block m.headers) m.payload)
+
 abbrev pub out_bytes_by : Config → Call → ℕ → ℕ
-out_bytes_by c (Publish m) n = cut (n + sent_len m.subject m.reply (sent_block m.headers) m.payload)
-out_bytes_by c (Request subject payload headers token) n =
-    cut (n + sent_len subject (Some (inbox_of c token)) (sent_block headers) payload)
-out_bytes_by c call n = n
+out_bytes_by c call n = bytes_with c (sent call) n
 
 abbrev pub out_bytes_after : Config → Step → ℕ → ℕ
 out_bytes_after c (handled call) n = out_bytes_by c call n

@@ -9,7 +9,8 @@ use Rattle.nats_history.specs.declared.turn.Turn.TheVariants.{Piece}
 use Rattle.nats_history.specs.declared.call.Call.TheVariants.{Limit, Drain}
 use Rattle.nats_history.specs.declared.ping.Ping.TheVariants as pinged
 use Rattle.nats_history.specs.Queue.{first}
-use Rattle.nats_history.specs.History.{Step, came, opened, fed, read, handled, link_end, closed, History, concerns, at_of, pings, sub_of, is_open, has_room, call_ends, ends, told, reaches, flushed_by, ticket_of, tickets}
+use Rattle.nats_history.specs.History.{Step, came, opened, fed, read, handled, link_end, closed, History, concerns, at_of, pings, sub_of, is_open, has_room, call_ends, ends, told}
+use Rattle.nats_history.specs.Tickets.{reaches, flushed_by, ticket_of, tickets}
 use Rattle.nats_history.specs.Parts.{Parts, parts_of}
 use Rattle.nats_history.specs.Schedule.{due, put_steps, settled, after_turn, steps, out_of_turn}
 use Rattle.nats_history.specs.After.{after, after_all, due_steps}

@@ -6,4 +6,6 @@ pub mod Parts
 pub mod Queue
 pub mod Refusals
 pub mod Schedule
+pub mod Sent
+pub mod Tickets
 pub mod Transcripts

@@ -7,7 +7,8 @@ use Rattle.nats_history.specs.declared.call.Call.{Call}
 use Rattle.nats_history.specs.declared.ping.Ping.{Ping}
 use Rattle.nats_history.specs.declared.statistics.Statistics.{Statistics}
 use Rattle.nats_history.specs.Counts.{statistics}
-use Rattle.nats_history.specs.History.{History, links, is_up, is_closed, WholeDrain, max_payload, last_info, all_reads, whole_drain, pings, requested, unread, waiting_bytes, waiting_calls, At, at_of, Sub, rows_of, Tickets, tickets}
+use Rattle.nats_history.specs.History.{History, links, is_up, is_closed, WholeDrain, max_payload, last_info, all_reads, whole_drain, pings, requested, unread, waiting_bytes, waiting_calls, At, at_of, Sub, rows_of}
+use Rattle.nats_history.specs.Tickets.{Tickets, tickets}
 
 -- the newest link
 pub record Link : Type 0 where

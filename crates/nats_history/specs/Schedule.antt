@@ -6,9 +6,10 @@ use Rattle.nats_wire.specs.Operations.{Operation, pong_op, Front, unfinished, go
 use Rattle.nats_wire.specs.Commands.{sent_block}
 use Rattle.nats_history.specs.declared.config.Config.{Config}
 use Rattle.nats_history.specs.declared.call.Call.{Call}
-use Rattle.nats_history.specs.declared.call.Call.TheVariants.{Publish, Subscribe, Request, Reconnect}
+use Rattle.nats_history.specs.declared.call.Call.TheVariants.{Reconnect}
 use Rattle.nats_history.specs.declared.call.CallReply.{CallReply}
 use Rattle.nats_history.specs.declared.call.CallReply.TheVariants.{Accepted, Numbered, InvalidSubject, InvalidQueueName, MaxPayloadExceeded, Closed, NoNumber, Full}
+use Rattle.nats_history.specs.declared.call.Interest.{Interest}
 use Rattle.nats_history.specs.declared.call.TakeReply.{TakeReply}
 use Rattle.nats_history.specs.declared.call.TakeReply.TheVariants as takes
 use Rattle.nats_history.specs.declared.ping.Ping.{Ping}
@@ -18,8 +19,10 @@ use Rattle.nats_history.specs.declared.turn.Turn.TheVariants.{Up, Piece, Write, 
 use Rattle.nats_history.specs.declared.transcript.LinkWord.{LinkWord}
 use Rattle.nats_history.specs.declared.transcript.LinkWord.TheVariants as word
 use Rattle.nats_history.specs.Queue.{first}
+use Rattle.nats_history.specs.Sent.{ReplyAt, at_subject, at_inbox, Sending, sent}
 use Rattle.nats_tables.specs.Numbers.{item_of}
-use Rattle.nats_history.specs.History.{Step, opened, fed, read, ticked, taken, accepted, handled, took, gone, passed, link_end, closed, History, ticks, subscribes, takes_ticket, names, lets_go, Sub, is_ended, is_unsettled}
+use Rattle.nats_history.specs.History.{Step, opened, fed, read, ticked, taken, accepted, handled, took, gone, passed, link_end, closed, History, ticks, asks, subscribes, takes_ticket, names, lets_go, Sub, is_ended}
+use Rattle.nats_history.specs.Tickets.{is_unsettled}
 use Rattle.nats_history.specs.Parts.{Parts, parts_of}
 
 -- ---- replies
@@ -37,24 +40,40 @@ abbrev pub passes : (List ℕ → Bool) → Option (List ℕ) → Bool
 passes test None = true
 passes test (Some text) = test text
 
--- the subjects of a call may stand there; those of replies to requests begin with a prefix that is publishable,
+-- a reply may be asked to go there; those to the inbox go to subjects that begin with a prefix which is publishable,
 -- whatever the settings skip
+abbrev pub may_reply_at : Config → ReplyAt → Bool
+may_reply_at c (at_subject reply) = passes (may_publish_to c) reply
+may_reply_at c (at_inbox token) = is_publishable c.inbox_prefix
+
+abbrev pub may_send : Config → Option Sending → Bool
+may_send c None = true
+may_send c (Some m) = may_publish_to c m.subject && may_reply_at c m.reply
+
+-- a test, and what is asked for is valid, if something is
+abbrev pub asks_validly : Bool → Option Interest → Bool
+asks_validly rest None = rest
+asks_validly rest (Some asked) = rest && is_valid asked.subject
+
+-- the subjects of a call may stand there: those of a message that it sends, and that which it subscribes to
 abbrev pub has_subjects : Config → Call → Bool
-has_subjects c (Publish m) = may_publish_to c m.subject && passes (may_publish_to c) m.reply
-has_subjects c (Request subject payload headers token) = may_publish_to c subject && is_publishable c.inbox_prefix
-has_subjects c (Subscribe subject group) = is_valid subject
-has_subjects c call = true
+has_subjects c call = asks_validly (may_send c (sent call)) (asks call)
+
+abbrev pub group_passes : Option Interest → Bool
+group_passes None = true
+group_passes (Some asked) = passes is_publishable asked.queue_group
 
 -- its queue group may stand there
 abbrev pub has_group : Call → Bool
-has_group (Subscribe subject group) = passes is_publishable group
-has_group call = true
+has_group call = group_passes (asks call)
+
+abbrev pub size_with : Option Sending → ℕ
+size_with None = 0
+size_with (Some m) = length_or_0 (sent_block m.headers) + length m.payload
 
 -- its size in bytes: the payload, and the header block where one is sent
 abbrev pub size_of : Call → ℕ
-size_of (Publish m) = length_or_0 (sent_block m.headers) + length m.payload
-size_of (Request subject payload headers token) = length_or_0 (sent_block headers) + length payload
-size_of call = 0
+size_of call = size_with (sent call)
 
 -- it would be given a number or a ticket and none is left
 abbrev pub has_no_number : Parts → Call → Bool

@@ -12,7 +12,8 @@ use Rattle.nats_history.specs.declared.transcript.SubRow.{SubRow}
 use Rattle.nats_history.specs.declared.transcript.Transcript.{Transcript}
 use Rattle.nats_history.specs.declared.transcript.RunError.{RunError}
 use Rattle.nats_history.specs.declared.transcript.RunError.TheVariants as refused
-use Rattle.nats_history.specs.History.{link_end, History, is_up, Told, told, numbers, link_text, taken_count, ticket_rows, events}
+use Rattle.nats_history.specs.History.{link_end, History, is_up, Told, told, numbers, link_text, taken_count, events}
+use Rattle.nats_history.specs.Tickets.{ticket_rows}
 use Rattle.nats_history.specs.Parts.{parts_of}
 use Rattle.nats_history.specs.Schedule.{call_reply, take_reply, after_turn, steps, out_of_turn}
 

@@ -1,23 +1,97 @@
 //! What a call asks for, and which calls may not be accepted.
-ghost use Rattle.std.specs.Prelude.{◌≡◌, ◌<◌, ◌^◌, ◌+◌, ◌||◌, IfOk, length};
+ghost use Rattle.std.specs.Prelude.{◌≡◌, ◌<◌, ◌^◌, ◌+◌, ◌||◌, IfOk, Some};
+ghost use Rattle.std.specs.Option.{option_map};
+ghost use Rattle.nats_names.specs.Names.{is_publishable};
 ghost use Rattle.nats_wire.specs.Commands.{sent_block};
 ghost use Rattle.nats_wire.specs.Operations.{length_or_0};
-ghost use Rattle.nats_history.specs.History.{asks, subscribes, shuts, drains_all, waits_as, takes_ticket, requests, lets_go};
-ghost use Rattle.nats_history.specs.Schedule.{ends_link, may_publish_to, passes, has_subjects, has_group, size_of};
+ghost use Rattle.nats_history.specs.Sent.{sent, limits, is_at_inbox, sent_view, reply_view, asked_view};
+ghost use Rattle.nats_history.specs.History.{asks, names, subscribes, shuts, drains_all, waits_as, takes_ticket, requests, lets_go};
+ghost use Rattle.nats_history.specs.Schedule.{ends_link, may_publish_to, passes, may_reply_at, may_send, has_subjects, has_group, size_with, size_of};
 
 use crate::call::{Call, Interest};
 use crate::config::Config;
 use crate::transcript::LinkWord;
 use crate::waits::Waits;
-use nats_wire::{Bytes, HeaderMap, NoMemory, Subject, copy_subject};
+use nats_wire::{Bytes, HeaderMap, NoMemory, Subject, Token, copy_subject};
 use std::alloc::Global;
 
-/// Whether a call is given a subscription number.
-pub fn subscribes(call: &Call) -> bool
-    ensures { result ≡ subscribes call.now }
+/// Where the reply to a message that a call sends is asked to go.
+#[derive(Clone, Copy, Debug, PartialEq, Eq)]
+pub enum ReplyTo<'a> {
+    /// To the subject that the call gives, if it gives one.
+    Given(&'a Option<Subject>),
+    /// To the inbox, under a token.
+    Inbox(&'a Token),
+}
+
+/// The message that the handling of a call sends.
+#[derive(Clone, Copy, Debug, PartialEq, Eq)]
+pub struct Outgoing<'a> {
+    /// What it is about.
+    pub subject: &'a Subject,
+    /// Where a reply is asked to go.
+    pub reply: ReplyTo<'a>,
+    /// The body.
+    pub payload: &'a Bytes,
+    /// The headers; none and an empty map are sent alike.
+    pub headers: &'a Option<HeaderMap>,
+}
+
+/// What a call that subscribes asks for.
+#[derive(Clone, Copy, Debug, PartialEq, Eq)]
+pub struct Wanted<'a> {
+    /// Which messages.
+    pub subject: &'a Subject,
+    /// The group whose members share them, where one is given.
+    pub queue_group: &'a Option<Subject>,
+}
+
+/// The message that the handling of a call sends, if it sends one: all that is tested, counted and written of it
+/// follows from this.
+pub fn sent(call: &Call) -> Option<Outgoing<'_>>
+    ensures { option_map sent_view result ≡ sent call.now }
 {
     match call {
-        Call::Subscribe { .. } => true,
+        Call::Publish(message) => Some(Outgoing {
+            subject: &message.subject,
+            reply: ReplyTo::Given(&message.reply),
+            payload: &message.payload,
+            headers: &message.headers,
+        }),
+        Call::Request {
+            subject,
+            payload,
+            headers,
+            token,
+        } => Some(Outgoing {
+            subject,
+            reply: ReplyTo::Inbox(token),
+            payload,
+            headers,
+        }),
+        Call::Subscribe { .. }
+        | Call::Unsubscribe(_)
+        | Call::Limit(..)
+        | Call::Drain(_)
+        | Call::DrainAll
+        | Call::Flush
+        | Call::DropSub(_)
+        | Call::Reconnect => None,
+    }
+}
+
+/// What a call asks for, if it subscribes.
+pub fn asked(call: &Call) -> Option<Wanted<'_>>
+    ensures { option_map asked_view result ≡ asks call.now }
+{
+    match call {
+        Call::Subscribe {
+            subject,
+            queue_group,
+        } => Some(Wanted {
+            subject,
+            queue_group,
+        }),
         Call::Publish(_)
         | Call::Unsubscribe(_)
         | Call::Limit(..)
@@ -26,31 +100,60 @@ pub fn subscribes(call: &Call) -> bool
         | Call::Flush
         | Call::Request { .. }
         | Call::DropSub(_)
-        | Call::Reconnect => false,
+        | Call::Reconnect => None,
     }
+}
+
+/// The subscription that a call names, if it names one.
+pub fn names(call: &Call) -> Option<u64>
+    ensures { result ≡ names call.now }
+{
+    match call {
+        Call::Unsubscribe(s) | Call::Limit(s, _) | Call::Drain(s) | Call::DropSub(s) => Some(*s),
+        Call::Publish(_)
+        | Call::Subscribe { .. }
+        | Call::DrainAll
+        | Call::Flush
+        | Call::Request { .. }
+        | Call::Reconnect => None,
+    }
+}
+
+/// The number of puts at which a call has the subscription that it names end, if it does.
+pub fn limits(call: &Call) -> Option<u64>
+    ensures { result ≡ limits call.now }
+{
+    match call {
+        Call::Limit(_, n) => Some(*n),
+        Call::Publish(_)
+        | Call::Subscribe { .. }
+        | Call::Unsubscribe(_)
+        | Call::Drain(_)
+        | Call::DrainAll
+        | Call::Flush
+        | Call::Request { .. }
+        | Call::DropSub(_)
+        | Call::Reconnect => None,
+    }
+}
+
+/// Whether a call is given a subscription number.
+pub fn subscribes(call: &Call) -> bool
+    ensures { result ≡ subscribes call.now }
+{
+    asked(call).is_some()
 }
 
 /// A copy of what a call asks for, if it subscribes.
 pub fn interest_of(alloc: Global, call: &Call) -> Result<Option<Interest>, NoMemory>
     ensures { IfOk result (λ asked. asked ≡ asks call.now) }
 {
-    match call {
-        Call::Subscribe {
-            subject,
-            queue_group,
-        } => Ok(Some(Interest {
-            subject: subject.copy(alloc)?,
-            queue_group: copy_subject(alloc, queue_group)?,
+    match asked(call) {
+        Some(asked) => Ok(Some(Interest {
+            subject: asked.subject.copy(alloc)?,
+            queue_group: copy_subject(alloc, asked.queue_group)?,
         })),
-        Call::Publish(_)
-        | Call::Unsubscribe(_)
-        | Call::Limit(..)
-        | Call::Drain(_)
-        | Call::DrainAll
-        | Call::Flush
-        | Call::Request { .. }
-        | Call::DropSub(_)
-        | Call::Reconnect => Ok(None),
+        None => Ok(None),
     }
 }
 
@@ -115,21 +218,19 @@ pub fn takes_ticket(call: &Call) -> bool
     waits_as(call).is_some()
 }
 
-/// Whether a call asks for a reply.
+fn is_at_inbox(reply: &ReplyTo<'_>) -> bool
+    ensures { result ≡ is_at_inbox (reply_view reply.now) }
+{
+    matches!(reply, ReplyTo::Inbox(_))
+}
+
+/// Whether a call asks for a reply under the inbox.
 pub fn requests(call: &Call) -> bool
     ensures { result ≡ requests call.now }
 {
-    match call {
-        Call::Request { .. } => true,
-        Call::Publish(_)
-        | Call::Subscribe { .. }
-        | Call::Unsubscribe(_)
-        | Call::Limit(..)
-        | Call::Drain(_)
-        | Call::DrainAll
-        | Call::Flush
-        | Call::DropSub(_)
-        | Call::Reconnect => false,
+    match sent(call) {
+        Some(message) => is_at_inbox(&message.reply),
+        None => false,
     }
 }
 
@@ -189,11 +290,23 @@ fn may_publish_to(config: &Config, subject: &Subject) -> bool
     !subject.as_str().is_empty() && (config.skip_subject_validation || subject.is_publishable())
 }
 
-fn may_reply_to(config: &Config, reply: &Option<Subject>) -> bool
-    ensures { result ≡ passes (may_publish_to config.now) reply.now }
+fn may_reply_at(config: &Config, reply: &ReplyTo<'_>) -> bool
+    ensures { result ≡ may_reply_at config.now (reply_view reply.now) }
 {
     match reply {
-        Some(reply) => may_publish_to(config, reply),
+        ReplyTo::Given(Some(reply)) => may_publish_to(config, reply),
+        ReplyTo::Given(None) => true,
+        ReplyTo::Inbox(_) => config.inbox_prefix.is_publishable(),
+    }
+}
+
+fn may_send(config: &Config, call: &Call) -> bool
+    ensures { result ≡ may_send config.now (sent call.now) }
+{
+    match sent(call) {
+        Some(message) => {
+            may_publish_to(config, message.subject) && may_reply_at(config, &message.reply)
+        }
         None => true,
     }
 }
@@ -202,21 +315,18 @@ fn may_reply_to(config: &Config, reply: &Option<Subject>) -> bool
 pub fn has_subjects(config: &Config, call: &Call) -> bool
     ensures { result ≡ has_subjects config.now call.now }
 {
-    match call {
-        Call::Publish(message) => {
-            may_publish_to(config, &message.subject) && may_reply_to(config, &message.reply)
-        }
-        Call::Request { subject, .. } => {
-            may_publish_to(config, subject) && config.inbox_prefix.is_publishable()
-        }
-        Call::Subscribe { subject, .. } => subject.is_valid(),
-        Call::Unsubscribe(_)
-        | Call::Limit(..)
-        | Call::Drain(_)
-        | Call::DrainAll
-        | Call::Flush
-        | Call::DropSub(_)
-        | Call::Reconnect => true,
+    match asked(call) {
+        Some(asked) => may_send(config, call) && asked.subject.is_valid(),
+        None => may_send(config, call),
+    }
+}
+
+fn passes(group: &Option<Subject>) -> bool
+    ensures { result ≡ passes is_publishable group.now }
+{
+    match group {
+        Some(group) => group.is_publishable(),
+        None => true,
     }
 }
 
@@ -224,24 +334,9 @@ pub fn has_subjects(config: &Config, call: &Call) -> bool
 pub fn has_group(call: &Call) -> bool
     ensures { result ≡ has_group call.now }
 {
-    match call {
-        Call::Subscribe {
-            queue_group: Some(group),
-            ..
-        } => group.is_publishable(),
-        Call::Subscribe {
-            queue_group: None,
-            ..
-        }
-        | Call::Publish(_)
-        | Call::Unsubscribe(_)
-        | Call::Limit(..)
-        | Call::Drain(_)
-        | Call::DrainAll
-        | Call::Flush
-        | Call::Request { .. }
-        | Call::DropSub(_)
-        | Call::Reconnect => true,
+    match asked(call) {
+        Some(asked) => passes(asked.queue_group),
+        None => true,
     }
 }
 
@@ -256,32 +351,20 @@ fn block_len(headers: &Option<HeaderMap>) -> usize
     }
 }
 
-/// The length in bytes of a payload and the header block that is sent with it.
-fn body_len(headers: &Option<HeaderMap>, payload: &Bytes) -> u64
-    ensures { result ≡ length_or_0 (sent_block headers.now) + length payload.now }
+/// The size in bytes of a message that is sent: its payload, and the header block where one is sent.
+pub(crate) fn size_with(message: &Outgoing<'_>) -> u64
+    ensures { result ≡ size_with (Some (sent_view message.now)) }
 {
-    let block = block_len(headers);
-    (block + payload.as_slice().len()) as u64
+    let block = block_len(message.headers);
+    (block + message.payload.as_slice().len()) as u64
 }
 
 /// Its size in bytes: the payload, and the header block where one is sent.
 pub fn size_of(call: &Call) -> u64
     ensures { result ≡ size_of call.now }
 {
-    match call {
-        Call::Publish(message) => body_len(&message.headers, &message.payload),
-        Call::Request {
-            payload,
-            headers,
-            ..
-        } => body_len(headers, payload),
-        Call::Subscribe { .. }
-        | Call::Unsubscribe(_)
-        | Call::Limit(..)
-        | Call::Drain(_)
-        | Call::DrainAll
-        | Call::Flush
-        | Call::DropSub(_)
-        | Call::Reconnect => 0,
+    match sent(call) {
+        Some(message) => size_with(&message),
+        None => 0,
     }
 }

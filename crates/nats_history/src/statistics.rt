@@ -1,12 +1,13 @@
 //! What is counted of a session.
-ghost use Rattle.std.specs.Prelude.{◌≡◌, ◌+◌, length};
+ghost use Rattle.std.specs.Prelude.{◌≡◌, ◌+◌, Some, length};
 ghost use Rattle.nats_wire.specs.Operations.{length_or_0};
-ghost use Rattle.nats_history.specs.History.{cut, inbox_of, handled};
-ghost use Rattle.nats_history.specs.Counts.{sends, out_messages_after, out_bytes_by, statistics_after, message_counted, link_counted};
+ghost use Rattle.nats_history.specs.Sent.{sent_view, reply_view};
+ghost use Rattle.nats_history.specs.History.{cut, inbox_of, reply_text, handled};
+ghost use Rattle.nats_history.specs.Counts.{out_messages_after, bytes_with, out_bytes_by, statistics_after, message_counted, link_counted};
 
 use crate::call::Call;
 use crate::config::Config;
-use crate::refusals::size_of;
+use crate::refusals::{Outgoing, ReplyTo, sent, size_with};
 use nats_wire::{Subject, Token};
 
 /// What was counted of a session over all its links. Each count stops at 2^64 - 1. The crate's `Statistics`, which
@@ -51,46 +52,32 @@ fn with_inbox(count: u64, config: &Config, token: &Token) -> u64
     raised(with_token, 2)
 }
 
+/// A count and so many more as the subject that a reply is asked to has bytes.
+fn with_reply(count: u64, config: &Config, reply: &ReplyTo<'_>) -> u64
+    ensures { result ≡ cut (count + length_or_0 (reply_text config.now (reply_view reply.now))) }
+{
+    match reply {
+        ReplyTo::Given(reply) => raised(count, reply_len(reply) as u64),
+        ReplyTo::Inbox(token) => with_inbox(count, config, token),
+    }
+}
+
+/// The bytes that were sent, with those of a message.
+fn with_sent(count: u64, config: &Config, message: &Outgoing<'_>) -> u64
+    ensures { result ≡ bytes_with config.now (Some (sent_view message.now)) count }
+{
+    let with_subject = raised(count, message.subject.as_str().len() as u64);
+    let with_reply = with_reply(with_subject, config, &message.reply);
+    raised(with_reply, size_with(message))
+}
+
 /// The bytes that were sent, with those of a call that is handled.
 fn sent_with(count: u64, config: &Config, call: &Call) -> u64
     ensures { result ≡ out_bytes_by config.now call.now count }
 {
-    match call {
-        Call::Publish(message) => {
-            let with_subject = raised(count, message.subject.as_str().len() as u64);
-            let with_reply = raised(with_subject, reply_len(&message.reply) as u64);
-            raised(with_reply, size_of(call))
-        }
-        Call::Request { subject, token, .. } => {
-            let with_subject = raised(count, subject.as_str().len() as u64);
-            let with_reply = with_inbox(with_subject, config, token);
-            raised(with_reply, size_of(call))
-        }
-        Call::Subscribe { .. }
-        | Call::Unsubscribe(_)
-        | Call::Limit(..)
-        | Call::Drain(_)
-        | Call::DrainAll
-        | Call::Flush
-        | Call::DropSub(_)
-        | Call::Reconnect => count,
-    }
-}
-
-/// Whether the handling of a call sends a message.
-fn sends(call: &Call) -> bool
-    ensures { result ≡ sends call.now }
-{
-    match call {
-        Call::Publish(_) | Call::Request { .. } => true,
-        Call::Subscribe { .. }
-        | Call::Unsubscribe(_)
-        | Call::Limit(..)
-        | Call::Drain(_)
-        | Call::DrainAll
-        | Call::Flush
-        | Call::DropSub(_)
-        | Call::Reconnect => false,
+    match sent(call) {
+        Some(message) => with_sent(count, config, &message),
+        None => count,
     }
 }
 
@@ -98,10 +85,9 @@ fn sends(call: &Call) -> bool
 fn sent_count_with(count: u64, call: &Call) -> u64
     ensures { result ≡ out_messages_after (handled call.now) count }
 {
-    if sends(call) {
-        count.saturating_add(1)
-    } else {
-        count
+    match sent(call) {
+        Some(_) => count.saturating_add(1),
+        None => count,
     }
 }
 

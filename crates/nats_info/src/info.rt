@@ -4,9 +4,11 @@ ghost use Rattle.nats_info.specs.Info.{default_info};
 
 use nats_names::{NoMemory, Seq, Text};
 use std::alloc::Global;
+use std::fmt;
 
-/// The server's INFO. The crate's `ServerInfo`, its fields by the names of the protocol.
-#[derive(Debug, Drop, PartialEq, Eq)]
+/// The server's INFO. The crate's `ServerInfo`, its fields by the names of the protocol. The small ones stand together
+/// at the end, so that an INFO takes little room in a list of turns.
+#[derive(Drop, PartialEq, Eq)]
 pub struct ServerInfo {
     /// The server's id, by which it knows itself.
     pub server_id: Text,
@@ -14,20 +16,8 @@ pub struct ServerInfo {
     pub server_name: Text,
     /// The address that the server listens at.
     pub host: Text,
-    /// The port that the server listens at.
-    pub port: u16,
     /// The server's version, as `2.10.18`.
     pub version: Text,
-    /// Whether the server wants to be told who the client is.
-    pub auth_required: bool,
-    /// Whether the server wants TLS.
-    pub tls_required: bool,
-    /// The greatest size of a message in bytes that the server takes.
-    pub max_payload: u64,
-    /// The version of the protocol: from 1 on the server may send a further INFO at any time.
-    pub proto: i8,
-    /// The number that the server gave the client.
-    pub client_id: u64,
     /// The version of Go that the server was built with.
     pub go: Text,
     /// What a client that proves who it is has to sign.
@@ -36,14 +26,26 @@ pub struct ServerInfo {
     pub connect_urls: Seq<Text>,
     /// The client's own address, as the server sees it.
     pub client_ip: Text,
-    /// Whether the server takes messages with headers.
-    pub headers: bool,
-    /// Whether the server is about to stop, and asks its clients to go elsewhere.
-    pub lame_duck_mode: bool,
     /// The name of the server's cluster, where it has one.
     pub cluster: Option<Text>,
     /// The name of the server's JetStream domain, where it has one.
     pub domain: Option<Text>,
+    /// The greatest size of a message in bytes that the server takes.
+    pub max_payload: u64,
+    /// The number that the server gave the client.
+    pub client_id: u64,
+    /// The port that the server listens at.
+    pub port: u16,
+    /// The version of the protocol: from 1 on the server may send a further INFO at any time.
+    pub proto: i8,
+    /// Whether the server wants to be told who the client is.
+    pub auth_required: bool,
+    /// Whether the server wants TLS.
+    pub tls_required: bool,
+    /// Whether the server takes messages with headers.
+    pub headers: bool,
+    /// Whether the server is about to stop, and asks its clients to go elsewhere.
+    pub lame_duck_mode: bool,
     /// Whether the server has JetStream.
     pub jetstream: bool,
 }
@@ -111,6 +113,33 @@ impl ServerInfo {
             domain,
             jetstream: self.jetstream,
         })
+    }
+}
+
+/// Prints the fields in the order of the crate's.
+impl fmt::Debug for ServerInfo {
+    fn fmt<W: fmt::Write>(&self, f: &mut fmt::Formatter<W>) -> fmt::Result {
+        f.debug_struct("ServerInfo")
+            .field("server_id", &self.server_id)
+            .field("server_name", &self.server_name)
+            .field("host", &self.host)
+            .field("port", &self.port)
+            .field("version", &self.version)
+            .field("auth_required", &self.auth_required)
+            .field("tls_required", &self.tls_required)
+            .field("max_payload", &self.max_payload)
+            .field("proto", &self.proto)
+            .field("client_id", &self.client_id)
+            .field("go", &self.go)
+            .field("nonce", &self.nonce)
+            .field("connect_urls", &self.connect_urls)
+            .field("client_ip", &self.client_ip)
+            .field("headers", &self.headers)
+            .field("lame_duck_mode", &self.lame_duck_mode)
+            .field("cluster", &self.cluster)
+            .field("domain", &self.domain)
+            .field("jetstream", &self.jetstream)
+            .finish()
     }
 }
 

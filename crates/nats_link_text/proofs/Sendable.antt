@@ -10,14 +10,15 @@ use Rattle.nats_wire.specs.Operations.{message, ping_op}
 use Rattle.nats_client_text.specs.Law.{IsName, IsNameOrNone, IsBelow, AreSendable}
 use Rattle.nats_history.specs.declared.config.Config.{Config}
 use Rattle.nats_history.specs.declared.call.Call.{Call}
-use Rattle.nats_history.specs.declared.call.Call.TheVariants.{Publish, Subscribe, Unsubscribe, Limit, Drain, DrainAll, Request, DropSub}
+use Rattle.nats_history.specs.declared.call.Call.TheVariants.{Subscribe, Unsubscribe, Limit, Drain, DrainAll, DropSub}
 use Rattle.nats_history.specs.declared.call.Interest.{Interest}
-use Rattle.nats_history.specs.History.{Step, opened, handled, read, ticked, link_end, History, is_up, requested, at_of, given, next_number, told, Sub, sub_of, is_open, listens, kept, rows_of, subscribe_command, unsubscribe_command, is_open_at, is_closing_at, commands_from, unsubscribed, inbox_of, inbox_commands, call_commands, limit_commands, subscribed_again, again, all_again}
+use Rattle.nats_history.specs.History.{Step, opened, handled, read, ticked, link_end, History, is_up, requested, at_of, given, next_number, told, Sub, sub_of, is_open, listens, kept, rows_of, subscribe_command, unsubscribe_command, is_open_at, is_closing_at, commands_from, unsubscribed, inbox_commands, inbox_before, reply_text, send_commands, call_commands, limit_commands, subscribed_again, again, all_again}
+use Rattle.nats_history.specs.Sent.{ReplyAt, at_subject, at_inbox, Sending, sent}
 use Rattle.nats_history.proofs.Refines.{length-rows}
 use Rattle.nats_link_text.specs.Sent.{commands_by, link_commands, ended_commands, up_commands, sent_commands}
 use Rattle.nats_link_text.specs.Typed.{IsTypedConfig}
 use Rattle.nats_link_text.proofs.Names.{reply_name, replies_name}
-use Rattle.nats_link_text.proofs.Sound.{SoundCall, SoundStep, SoundHistory, SoundAsk, SoundSub, AreSoundSubs, given_fits, requested_prefix, rows_sound}
+use Rattle.nats_link_text.proofs.Sound.{SoundReply, SoundSending, SoundCall, SoundStep, SoundHistory, SoundAsk, SoundSub, AreSoundSubs, given_fits, requested_prefix, rows_sound}
 
 sendable_append : (one other : List ClientOp) → AreSendable one → AreSendable other → AreSendable (one ++ other)
 sendable_append [] other are more = more
@@ -81,15 +82,27 @@ inbox_sendable c false typed prefix = tt
 inbox_sendable c true typed prefix =
     let least : 0 < 2 ^ 64 = lit< tt in ((least, replies_name c (prefix refl) typed.0, tt), tt)
 
+before_sendable : (c : Config) (h : History) (reply : ReplyAt) → IsTypedConfig c → SoundReply c reply → AreSendable (inbox_before c (requested h) reply)
+before_sendable c h (at_subject reply) typed is = tt
+before_sendable c h (at_inbox token) typed is = inbox_sendable c (not (requested h)) typed (λ first. is.0)
+
+reply_sendable : (c : Config) (reply : ReplyAt) → IsTypedConfig c → SoundReply c reply → IsNameOrNone (reply_text c reply)
+reply_sendable c (at_subject reply) typed is = is
+reply_sendable c (at_inbox token) typed is = reply_name c token is.0 typed.0 is.1
+
+send_sendable : (c : Config) (h : History) (m : Option Sending) → IsTypedConfig c → SoundSending c m → AreSendable (send_commands c (requested h) m)
+send_sendable c h None typed is = tt
+send_sendable c h (Some m) typed is =
+    sendable_append (inbox_before c (requested h) m.reply) (client.Publish m.subject m.payload (reply_text c m.reply) m.headers ∷ []) (before_sendable c h m.reply typed is.1) ((is.0, reply_sendable c m.reply typed is.1, is.2, is.3), tt)
+
 call_sendable : (c : Config) (h : History) (call : Call) → IsTypedConfig c → SoundHistory c h → SoundCall c call
     → AreSendable (call_commands c (requested h) (at_of h) (rows_of c h) call)
-call_sendable c h (Publish m) typed sound is = ((is.0, is.1, is.2, is.3), tt)
 call_sendable c h (Subscribe subject group) typed sound is =
-    next_sendable (given h) (at_of h).subscribed subject group (given_fits c h sound) is.0 is.1
+    next_sendable (given h) (at_of h).subscribed subject group (given_fits c h sound) is.1.0 is.1.1
 call_sendable c h (Unsubscribe s) typed sound is =
     unsubscribe_sendable (is_open_at (item_of s (rows_of c h))) s None (number_fits c h s is_open_at refl sound) tt
 call_sendable c h (Limit s n) typed sound is =
-    unsubscribe_sendable (is_open_at (item_of s (rows_of c h))) s (Some n) (number_fits c h s is_open_at refl sound) is
+    unsubscribe_sendable (is_open_at (item_of s (rows_of c h))) s (Some n) (number_fits c h s is_open_at refl sound) is.2
 call_sendable c h (DropSub s) typed sound is =
     unsubscribe_sendable (is_open_at (item_of s (rows_of c h))) s None (number_fits c h s is_open_at refl sound) tt
 call_sendable c h (Drain s) typed sound is =
@@ -97,10 +110,7 @@ call_sendable c h (Drain s) typed sound is =
     sendable_append (unsubscribe_command there s None) (client.Ping ∷ []) (unsubscribe_sendable there s None (number_fits c h s is_open_at refl sound) tt) (tt, tt)
 call_sendable c h DrainAll typed sound is =
     sendable_append (commands_from unsubscribed 1 (rows_of c h)) (client.Ping ∷ []) (from_sendable unsubscribed 1 (rows_of c h) unsubscribed_sendable (rows_sound c h sound) (rows_fit c h sound)) (tt, tt)
-call_sendable c h (Request subject payload headers token) typed sound is =
-    let asks = not (requested h) in
-    sendable_append (inbox_commands c asks) (client.Publish subject payload (Some (inbox_of c token)) headers ∷ []) (inbox_sendable c asks typed (λ first. is.1)) ((is.0, reply_name c token is.1 typed.0 is.2, is.3, is.4), tt)
-call_sendable c h call typed sound is = tt
+call_sendable c h call typed sound is = send_sendable c h (sent call) typed is.0
 
 -- ---- steps
 

@@ -5,19 +5,26 @@ use Rattle.nats_wire.specs.Commands.{sent_block}
 use Rattle.nats_client_text.specs.Law.{IsName, IsNameOrNone, IsBelow, IsCounted, AreHeadersOrNone}
 use Rattle.nats_history.specs.declared.config.Config.{Config}
 use Rattle.nats_history.specs.declared.call.Call.{Call}
-use Rattle.nats_history.specs.declared.call.Call.TheVariants.{Publish, Subscribe, Limit, Request}
 use Rattle.nats_history.specs.declared.call.Interest.{Interest}
-use Rattle.nats_history.specs.History.{Step, opened, accepted, handled, closed, History, max_payload, calls, handled_count, waiting_calls, asks, subscribes, requests, requested, at_of, given, concerns, numbers, Told, told_after, told, Sub, sub_of, interest_by, limit_by, is_over, forgotten, kept, rows_of}
+use Rattle.nats_history.specs.History.{Step, opened, accepted, handled, closed, History, max_payload, calls, handled_count, waiting_calls, asks, subscribes, requests, requested, at_of, given, concerns, numbers, Told, told_after, told, Sub, sub_of, interest_by, newer_limit, limit_by, is_over, forgotten, kept, rows_of}
+use Rattle.nats_history.specs.Sent.{ReplyAt, at_subject, at_inbox, Sending, sent, limits, is_at_inbox, is_request}
 use Rattle.nats_link_text.specs.Typed.{IsToken}
+
+abbrev pub SoundReply : Config → ReplyAt → Type 0
+SoundReply c (at_subject reply) = IsNameOrNone reply
+SoundReply c (at_inbox token) = IsName c.inbox_prefix × IsToken token
+
+abbrev pub SoundSending : Config → Option Sending → Type 0
+SoundSending c None = Unit {0}
+SoundSending c (Some m) = IsName m.subject × SoundReply c m.reply × AreHeadersOrNone m.headers × IsCounted (sent_block m.headers) m.payload
+
+abbrev pub SoundAsk : Option Interest → Type 0
+SoundAsk None = Unit {0}
+SoundAsk (Some asked) = IsName asked.subject × IsNameOrNone asked.queue_group
 
 -- a call whose names may be published to, whose headers are names and values, and whose numbers fit
 abbrev pub SoundCall : Config → Call → Type 0
-SoundCall c (Publish m) = IsName m.subject × IsNameOrNone m.reply × AreHeadersOrNone m.headers × IsCounted (sent_block m.headers) m.payload
-SoundCall c (Subscribe subject group) = IsName subject × IsNameOrNone group
-SoundCall c (Limit s n) = n < 2 ^ 64
-SoundCall c (Request subject payload headers token) =
-    IsName subject × IsName c.inbox_prefix × IsToken token × AreHeadersOrNone headers × IsCounted (sent_block headers) payload
-SoundCall c call = Unit {0}
+SoundCall c call = SoundSending c (sent call) × SoundAsk (asks call) × IsBelow (limits call)
 
 abbrev pub AreSoundCalls : Config → List Call → Type 0
 AreSoundCalls c [] = Unit {0}
@@ -72,9 +79,16 @@ pub waiting_sound : (c : Config) (h : History) → SoundHistory c h → AreSound
 waiting_sound c h sound = left_sound c (handled_count h) (calls h) (calls_sound c h sound)
 
 -- where a request was handled the replies have a name
+reply_prefix : (c : Config) (reply : ReplyAt) → SoundReply c reply → is_at_inbox reply ≡ true → IsName c.inbox_prefix
+reply_prefix c (at_subject reply) is asked = absurd (false≢true asked)
+reply_prefix c (at_inbox token) is asked = is.0
+
+sending_prefix : (c : Config) (m : Option Sending) → SoundSending c m → is_request m ≡ true → IsName c.inbox_prefix
+sending_prefix c None is asked = absurd (false≢true asked)
+sending_prefix c (Some m) is asked = reply_prefix c m.reply is.1 asked
+
 request_prefix : (c : Config) (call : Call) → SoundCall c call → requests call ≡ true → IsName c.inbox_prefix
-request_prefix c (Request subject payload headers token) is asked = is.1
-request_prefix c call is asked = absurd (false≢true asked)
+request_prefix c call is asked = sending_prefix c (sent call) is.0 asked
 
 pub requested_prefix : (c : Config) (h : History) → SoundHistory c h → requested h ≡ true → IsName c.inbox_prefix
 requested_prefix c [] sound asked = absurd (false≢true asked)
@@ -87,10 +101,6 @@ requested_prefix c ((place, step) ∷ h) sound asked = requested_prefix c h soun
 
 -- ---- subscriptions
 
-abbrev pub SoundAsk : Option Interest → Type 0
-SoundAsk None = Unit {0}
-SoundAsk (Some asked) = IsName asked.subject × IsNameOrNone asked.queue_group
-
 abbrev pub SoundTold : Told → Type 0
 SoundTold t = SoundAsk t.interest × IsBelow t.limit
 
@@ -101,17 +111,17 @@ abbrev pub AreSoundSubs : List Sub → Type 0
 AreSoundSubs [] = Unit {0}
 AreSoundSubs (sub ∷ more) = SoundSub sub × AreSoundSubs more
 
-asks_sound : (c : Config) (call : Call) (interest : Option Interest) → SoundCall c call → SoundAsk interest → SoundAsk (interest_by (asks call) interest)
-asks_sound c (Subscribe subject group) interest is ask = is
-asks_sound c call interest is ask = ask
+asks_sound : (asked interest : Option Interest) → SoundAsk asked → SoundAsk interest → SoundAsk (interest_by asked interest)
+asks_sound None interest is ask = ask
+asks_sound (Some asked) interest is ask = is
 
-limit_sound : (c : Config) (call : Call) (limit : Option ℕ) → SoundCall c call → IsBelow limit → IsBelow (limit_by call limit)
-limit_sound c (Limit s n) limit is below = is
-limit_sound c call limit is below = below
+limit_sound : (newer limit : Option ℕ) → IsBelow newer → IsBelow limit → IsBelow (newer_limit newer limit)
+limit_sound None limit is below = below
+limit_sound (Some n) limit is below = is
 
 told_next : (c : Config) (h : History) (place : ℕ) (step : Step) (t : Told) → SoundStep c h step → SoundTold t → SoundTold (told_after c place step t)
-told_next c h place (accepted call) t is told = (asks_sound c call t.interest is.0 told.0, told.1)
-told_next c h place (handled call) t is told = (told.0, limit_sound c call t.limit is told.1)
+told_next c h place (accepted call) t is told = (asks_sound (asks call) t.interest is.0.1 told.0, told.1)
+told_next c h place (handled call) t is told = (told.0, limit_sound (limits call) t.limit is.2 told.1)
 told_next c h place step t is told = (told.0, told.1)
 
 told_sound : (c : Config) (s : ℕ) (h : History) → SoundHistory c h → SoundTold (told c s h)

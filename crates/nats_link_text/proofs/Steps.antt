@@ -4,14 +4,14 @@ use Rattle.std.specs.Prelude.{◌-◌, ◌&&◌, nat_lt, nat_le, min}
 use Rattle.std.specs.List.{list_all, slice_split}
 use Rattle.std.proofs.lemmas.Bool.{false≢true, ltb-false, leb-false}
 use Rattle.std.proofs.lemmas.Option.{none-some, same_Some}
-use Rattle.nats_names.specs.Names.{is_dot, is_nonempty, is_publishable}
+use Rattle.nats_names.specs.Names.{is_dot, is_nonempty, is_publishable, is_valid}
 use Rattle.nats_header.specs.Headers.{Headers}
 use Rattle.nats_wire.specs.Commands.{sent_block}
 use Rattle.nats_wire.specs.Operations.{Front, got, unfinished, fault, front, length_or_0}
 use Rattle.nats_client_text.specs.Law.{IsNameOrNone, IsCounted}
 use Rattle.nats_history.specs.declared.config.Config.{Config}
 use Rattle.nats_history.specs.declared.call.Call.{Call}
-use Rattle.nats_history.specs.declared.call.Call.TheVariants.{Publish, Subscribe, Limit, Request}
+use Rattle.nats_history.specs.declared.call.Interest.{Interest}
 use Rattle.nats_history.specs.declared.call.CallReply.{CallReply}
 use Rattle.nats_history.specs.declared.call.TakeReply.{TakeReply}
 use Rattle.nats_history.specs.declared.call.TakeReply.TheVariants as takes
@@ -19,12 +19,14 @@ use Rattle.nats_history.specs.declared.turn.Turn.{Turn}
 use Rattle.nats_history.specs.declared.turn.Turn.TheVariants.{Up, Piece, Write, Tick, Lost, GiveUp, Hangup, Do, Take, Deadline}
 use Rattle.nats_history.specs.declared.transcript.LinkWord.{LinkWord}
 use Rattle.nats_history.specs.declared.transcript.LinkWord.TheVariants as word
-use Rattle.nats_history.specs.History.{Step, opened, fed, read, ticked, taken, accepted, handled, passed, link_end, closed, History, is_up, unread, max_payload, waiting_calls, subscribes, takes_ticket, lets_go, given, ticks, is_unsettled, waiting_bytes}
+use Rattle.nats_history.specs.History.{Step, opened, fed, read, ticked, taken, accepted, handled, passed, link_end, closed, History, is_up, unread, max_payload, waiting_calls, asks, subscribes, takes_ticket, lets_go, given, ticks, waiting_bytes}
+use Rattle.nats_history.specs.Tickets.{is_unsettled}
 use Rattle.nats_history.specs.Parts.{Parts, parts_of}
-use Rattle.nats_history.specs.Schedule.{may_publish_to, passes, has_subjects, has_group, size_of, has_no_number, takes_no_call, refusal, take_reply, closes, closing, ending, end_after, followers, chain, accepted_step, took_step, gone_step, tick_limit, own_steps, due_call, due_by, due, most_due, put_steps, settled_within, after_turn, steps_from, steps}
-use Rattle.nats_link_text.specs.Typed.{IsTextOrNone, IsTypedCall, IsTypedTurn, AreTypedTurns, IsTypedConfig}
+use Rattle.nats_history.specs.Sent.{ReplyAt, at_subject, at_inbox, Sending, sent}
+use Rattle.nats_history.specs.Schedule.{may_publish_to, passes, may_reply_at, may_send, asks_validly, has_subjects, group_passes, has_group, size_with, size_of, has_no_number, takes_no_call, refusal, take_reply, closes, closing, ending, end_after, followers, chain, accepted_step, took_step, gone_step, tick_limit, own_steps, due_call, due_by, due, most_due, put_steps, settled_within, after_turn, steps_from, steps}
+use Rattle.nats_link_text.specs.Typed.{IsTextOrNone, IsTypedReply, IsTypedSending, IsTypedAsk, IsTypedCall, IsTypedTurn, AreTypedTurns, IsTypedConfig}
 use Rattle.nats_link_text.proofs.Names.{both}
-use Rattle.nats_link_text.proofs.Sound.{SoundCall, AreSoundCalls, SoundStep, SoundHistory, payload_fits, waiting_sound}
+use Rattle.nats_link_text.proofs.Sound.{SoundReply, SoundSending, SoundAsk, SoundCall, AreSoundCalls, SoundStep, SoundHistory, payload_fits, waiting_sound}
 
 -- ---- what a call that is not refused is
 
@@ -51,19 +53,33 @@ counted headers payload small = by (sent_block headers) small
     by None small = omega (arith, small)
     by (Some block) small = small
 
+reply_sound : (c : Config) (reply : ReplyAt) → c.skip_subject_validation ≡ false → IsTypedConfig c → IsTypedReply reply → may_reply_at c reply ≡ true → SoundReply c reply
+reply_sound c (at_subject reply) tested config typed may = reply_named c reply tested typed may
+reply_sound c (at_inbox token) tested config typed may = ((config.1, may), typed)
+
+sending_sound : (c : Config) (m : Option Sending) → c.skip_subject_validation ≡ false → IsTypedConfig c → IsTypedSending m → may_send c m ≡ true → size_with m < 2 ^ 64 → SoundSending c m
+sending_sound c None tested config typed may small = tt
+sending_sound c (Some m) tested config typed may small =
+    let parts = both (may_publish_to c m.subject) (may_reply_at c m.reply) may in
+    ((typed.0, publishable c m.subject tested parts.0), reply_sound c m.reply tested config typed.1 parts.1, typed.2, counted m.headers m.payload small)
+
+rest_holds : (rest : Bool) (asked : Option Interest) → asks_validly rest asked ≡ true → rest ≡ true
+rest_holds rest None is = is
+rest_holds rest (Some asked) is = (both rest (is_valid asked.subject) is).0
+
+ask_sound : (rest : Bool) (asked : Option Interest) → IsTypedAsk asked → asks_validly rest asked ≡ true → group_passes asked ≡ true → SoundAsk asked
+ask_sound rest None typed valid grouped = tt
+ask_sound rest (Some asked) typed valid grouped =
+    let parts = both (is_publishable asked.subject) (list_all is_nonempty (slice_split is_dot asked.subject)) (both rest (is_valid asked.subject) valid).1 in
+    ((typed.0, parts.0), group_named asked.queue_group typed.1 grouped)
+
 call_sound : (c : Config) (call : Call) → c.skip_subject_validation ≡ false → IsTypedConfig c → IsTypedCall call → has_subjects c call ≡ true → has_group call ≡ true → size_of call < 2 ^ 64
     → SoundCall c call
-call_sound c (Publish m) tested config typed subjects group small =
-    let parts = both (may_publish_to c m.subject) (passes (may_publish_to c) m.reply) subjects in
-    ((typed.0, publishable c m.subject tested parts.0), reply_named c m.reply tested typed.1 parts.1, typed.2, counted m.headers m.payload small)
-call_sound c (Subscribe subject group) tested config typed subjects grouped small =
-    let parts = both (is_publishable subject) (list_all is_nonempty (slice_split is_dot subject)) subjects in
-    ((typed.0, parts.0), group_named group typed.1 grouped)
-call_sound c (Limit s n) tested config typed subjects grouped small = typed
-call_sound c (Request subject payload headers token) tested config typed subjects grouped small =
-    let parts = both (may_publish_to c subject) (is_publishable c.inbox_prefix) subjects in
-    ((typed.0, publishable c subject tested parts.0), (config.1, parts.1), typed.1, typed.2, counted headers payload small)
-call_sound c call tested config typed subjects grouped small = tt
+call_sound c call tested config typed subjects grouped small = (
+  sending_sound c (sent call) tested config typed.0 (rest_holds (may_send c (sent call)) (asks call) subjects) small,
+  ask_sound (may_send c (sent call)) (asks call) typed.1 subjects grouped,
+  typed.2,
+)
 
 goes_on : (b : Bool) (refused : CallReply) (more : Option CallReply) → cond b (Some refused) more ≡ None → (b ≡ false) × (more ≡ None)
 goes_on true refused more none = absurd (none-some refused (sym none))

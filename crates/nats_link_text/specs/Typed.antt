@@ -5,10 +5,12 @@ use Rattle.std.specs.Str.{is_utf8}
 use Rattle.nats_names.specs.Names.{is_token}
 use Rattle.nats_history.specs.declared.config.Config.{Config}
 use Rattle.nats_history.specs.declared.call.Call.{Call}
-use Rattle.nats_history.specs.declared.call.Call.TheVariants.{Publish, Subscribe, Limit, Request}
+use Rattle.nats_history.specs.declared.call.Interest.{Interest}
 use Rattle.nats_history.specs.declared.turn.Turn.{Turn}
 use Rattle.nats_history.specs.declared.turn.Turn.TheVariants.{Up, Do}
-use Rattle.nats_client_text.specs.Law.{AreHeadersOrNone}
+use Rattle.nats_history.specs.History.{asks}
+use Rattle.nats_history.specs.Sent.{ReplyAt, at_subject, at_inbox, Sending, sent, limits}
+use Rattle.nats_client_text.specs.Law.{IsBelow, AreHeadersOrNone}
 
 -- a subject or a reply: any UTF-8
 abbrev pub IsText : List ℕ → Type 0
@@ -22,12 +24,20 @@ IsTextOrNone (Some text) = IsText text
 abbrev pub IsToken : List ℕ → Type 0
 IsToken text = IsText text × (is_token text ≡ true)
 
+abbrev pub IsTypedReply : ReplyAt → Type 0
+IsTypedReply (at_subject reply) = IsTextOrNone reply
+IsTypedReply (at_inbox token) = IsToken token
+
+abbrev pub IsTypedSending : Option Sending → Type 0
+IsTypedSending None = Unit {0}
+IsTypedSending (Some m) = IsText m.subject × IsTypedReply m.reply × AreHeadersOrNone m.headers
+
+abbrev pub IsTypedAsk : Option Interest → Type 0
+IsTypedAsk None = Unit {0}
+IsTypedAsk (Some asked) = IsText asked.subject × IsTextOrNone asked.queue_group
+
 abbrev pub IsTypedCall : Call → Type 0
-IsTypedCall (Publish m) = IsText m.subject × IsTextOrNone m.reply × AreHeadersOrNone m.headers
-IsTypedCall (Subscribe subject group) = IsText subject × IsTextOrNone group
-IsTypedCall (Limit s n) = n < 2 ^ 64
-IsTypedCall (Request subject payload headers token) = IsText subject × IsToken token × AreHeadersOrNone headers
-IsTypedCall call = Unit {0}
+IsTypedCall call = IsTypedSending (sent call) × IsTypedAsk (asks call) × IsBelow (limits call)
 
 abbrev pub IsTypedTurn : Turn → Type 0
 IsTypedTurn (Up info) = info.max_payload < 2 ^ 64

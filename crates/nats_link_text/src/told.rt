@@ -1,9 +1,12 @@
 //! What the types of settings and turns keep, told to the proof. Each function only looks.
 ghost use Rattle.std.specs.Prelude.{◌<◌, ◌^◌};
-ghost use Rattle.nats_client_text.specs.Law.{AreTexts, AreHeaders, AreHeadersOrNone};
-ghost use Rattle.nats_link_text.specs.Typed.{IsText, IsTextOrNone, IsToken, IsTypedCall, IsTypedTurn, AreTypedTurns, IsTypedConfig};
+ghost use Rattle.nats_client_text.specs.Law.{IsBelow, AreTexts, AreHeaders, AreHeadersOrNone};
+ghost use Rattle.nats_history.specs.History.{asks};
+ghost use Rattle.nats_history.specs.Sent.{sent, limits, reply_view};
+ghost use Rattle.nats_link_text.specs.Typed.{IsText, IsTextOrNone, IsToken, IsTypedReply, IsTypedSending, IsTypedAsk, IsTypedCall, IsTypedTurn, AreTypedTurns, IsTypedConfig};
 
 use nats_header::{HeaderMap, HeaderValue};
+use nats_history::refusals::{ReplyTo, asked, limits, sent};
 use nats_names::{Subject, Token};
 use nats_session::{Call, Config, Turn};
 
@@ -67,40 +70,55 @@ fn tell_headers_or_none(headers: &Option<HeaderMap>)
     }
 }
 
+fn tell_reply(reply: &ReplyTo<'_>)
+    ensures { IsTypedReply (reply_view reply.now) }
+{
+    match reply {
+        ReplyTo::Given(reply) => tell_subject_or_none(reply),
+        ReplyTo::Inbox(token) => tell_token(token),
+    }
+}
+
+fn tell_sent(call: &Call)
+    ensures { IsTypedSending (sent call.now) }
+{
+    match sent(call) {
+        Some(message) => {
+            tell_subject(message.subject);
+            tell_reply(&message.reply);
+            tell_headers_or_none(message.headers);
+        }
+        None => {}
+    }
+}
+
+fn tell_asked(call: &Call)
+    ensures { IsTypedAsk (asks call.now) }
+{
+    match asked(call) {
+        Some(asked) => {
+            tell_subject(asked.subject);
+            tell_subject_or_none(asked.queue_group);
+        }
+        None => {}
+    }
+}
+
+fn tell_limit(call: &Call)
+    ensures { IsBelow (limits call.now) }
+{
+    match limits(call) {
+        Some(n) => tell_number(n),
+        None => {}
+    }
+}
+
 fn tell_call(call: &Call)
     ensures { IsTypedCall call.now }
 {
-    match call {
-        Call::Publish(message) => {
-            tell_subject(&message.subject);
-            tell_subject_or_none(&message.reply);
-            tell_headers_or_none(&message.headers);
-        }
-        Call::Subscribe {
-            subject,
-            queue_group,
-        } => {
-            tell_subject(subject);
-            tell_subject_or_none(queue_group);
-        }
-        Call::Limit(_, n) => tell_number(*n),
-        Call::Request {
-            subject,
-            headers,
-            token,
-            ..
-        } => {
-            tell_subject(subject);
-            tell_headers_or_none(headers);
-            tell_token(token);
-        }
-        Call::Unsubscribe(_)
-        | Call::Drain(_)
-        | Call::DrainAll
-        | Call::Flush
-        | Call::DropSub(_)
-        | Call::Reconnect => {}
-    }
+    tell_sent(call);
+    tell_asked(call);
+    tell_limit(call);
 }
 
 fn tell_turn(turn: &Turn)

@@ -10,7 +10,8 @@ use Rattle.nats_history.specs.declared.call.CallReply.{CallReply}
 use Rattle.nats_history.specs.declared.call.CallReply.TheVariants as replies
 use Rattle.nats_history.specs.declared.transcript.LinkWord.TheVariants as word
 use Rattle.nats_history.specs.declared.turn.Turn.TheVariants as turns
-use Rattle.nats_history.specs.History.{handled, taken, link_end, replied}
+use Rattle.nats_history.specs.History.{handled, taken, link_end}
+use Rattle.nats_history.specs.Tickets.{replied}
 use Rattle.nats_history.specs.Counts.{statistics_after}
 use Rattle.nats_history.specs.Schedule.{due, due_by, due_call, due_chain, own_steps, write_limit}
 use Rattle.nats_session.specs.Handler.{Seen, seen_all, seen_after, push_all}

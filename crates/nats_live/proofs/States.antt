@@ -3,7 +3,8 @@ use Rattle.std.proofs.Common.{◌≡◌, refl, ◌∙◌, sym, ap, ℕ, zero, su
 use Rattle.nats_wire.specs.Operations.{Operation, message, info_op, error_op, ok_op, ping_op, pong_op, Front, unfinished, got, fault, front, past}
 use Rattle.nats_history.specs.declared.call.CallReply.{CallReply}
 use Rattle.nats_history.specs.declared.transcript.LinkWord.TheVariants as word
-use Rattle.nats_history.specs.History.{Step, read, link_end, Sub, requests_elsewhere, request_at, request_reply, replied_if, asking_after, settled_by, info_after, all_reads_after, new_events, end_events, unsubscribe_command, is_closing_at}
+use Rattle.nats_history.specs.History.{Step, read, link_end, Sub, info_after, all_reads_after, new_events, end_events, unsubscribe_command, is_closing_at}
+use Rattle.nats_history.specs.Tickets.{requests_elsewhere, request_at, request_reply, replied_if, asking_after, settled_by}
 use Rattle.nats_history.specs.Counts.{statistics_after}
 use Rattle.nats_history.specs.Schedule.{due_by, due_chain, due_call, write_limit}
 use Rattle.nats_history.specs.After.{sub_after, written}

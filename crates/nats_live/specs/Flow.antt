@@ -25,7 +25,8 @@ use Rattle.nats_tickets.specs.Kept.{reply_in, without}
 use Rattle.nats_history.specs.declared.stage.Stage.TheVariants as stages
 use Rattle.nats_history.specs.declared.waits.Waits.{Waits}
 use Rattle.nats_history.specs.declared.waits.Waits.TheVariants as waits
-use Rattle.nats_history.specs.History.{Sub, Tickets, Awaits, no_tickets}
+use Rattle.nats_history.specs.History.{Sub}
+use Rattle.nats_history.specs.Tickets.{Tickets, Awaits, no_tickets}
 use Rattle.nats_history.specs.Schedule.{due}
 use Rattle.nats_session.specs.Handler.{Seen}
 use Rattle.nats_client.specs.declared.errors.PublishErrorKind.TheVariants as publishing

@@ -6,7 +6,7 @@ use Rattle.nats_history.specs.declared.call.Call.{Call}
 use Rattle.nats_history.specs.declared.call.CallReply.{CallReply}
 use Rattle.nats_history.specs.declared.config.Config.{Config}
 use Rattle.nats_history.specs.declared.statistics.Statistics.{Statistics}
-use Rattle.nats_history.specs.History.{Tickets, no_tickets}
+use Rattle.nats_history.specs.Tickets.{Tickets, no_tickets}
 use Rattle.nats_history.specs.Parts.{Subs}
 use Rattle.nats_session.specs.Handler.{Seen}
 

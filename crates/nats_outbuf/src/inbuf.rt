@@ -41,9 +41,16 @@ impl InBuf {
         ensures ok { OnOk result (self.new ≡ self.old ++ bytes.now) }
         ensures err { OnErr result (self.new ≡ self.old) }
     {
-        let (store, fed) = mem::replace(&mut self.store, Store::new(alloc)).fed(alloc, bytes);
-        self.store = store;
-        fed
+        self.store.feed(alloc, bytes)
+    }
+
+    /// Appends bytes that came in a buffer which may be shared, whole or not at all. They are not copied where no byte
+    /// waits here. Own call.
+    pub fn feed_shared(&mut self, alloc: Global, bytes: &Bytes) -> Result<(), NoMemory>
+        ensures ok { OnOk result (self.new ≡ self.old ++ bytes.now) }
+        ensures err { OnErr result (self.new ≡ self.old) }
+    {
+        self.store.feed_shared(alloc, bytes)
     }
 
     /// How many bytes there are.
@@ -111,7 +118,9 @@ impl InBuf {
     pub fn share(&mut self)
         ensures { self.new ≡ self.old }
     {
-        self.store = mem::replace(&mut self.store, Store::Shared(Bytes::new())).shared();
+        if self.shared().is_none() {
+            self.store = mem::replace(&mut self.store, Store::Shared(Bytes::new())).shared();
+        }
     }
 
     /// All of them, where parts of them share their memory. Own call.

@@ -126,6 +126,9 @@ impl OutBuf {
         requires { n ≤ length self.now }
         ensures { IfOk result (λ copy. copy.items ≡ take n self.now) }
     {
+        if n == 0 {
+            return Ok(Vec::new(alloc));
+        }
         let whole = n.min(self.chunks.len());
         let mut copy = Vec::with_capacity(alloc, n)?;
         self.chunks.copy_to(whole, &mut copy)?;
@@ -138,6 +141,9 @@ impl OutBuf {
         requires { n ≤ length self.old }
         ensures { self.new ≡ drop n self.old }
     {
+        if n == 0 {
+            return;
+        }
         let whole = n.min(self.chunks.len());
         self.chunks.advance(whole);
         self.tail.advance(n - whole);

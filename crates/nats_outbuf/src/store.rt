@@ -5,6 +5,7 @@ ghost use Rattle.nats_outbuf.specs.Store.{store_bytes};
 use bytes::BytesMut;
 use nats_names::{Bytes, NoMemory};
 use std::alloc::Global;
+use std::mem;
 
 /// Bytes that can be appended to, or bytes that parts of messages share.
 #[derive(Drop)]
@@ -22,6 +23,7 @@ impl Store {
     }
 
     /// All of them.
+    #[inline]
     pub fn as_slice(&self) -> &[u8]
         ensures { result.now ≡ store_bytes self.now }
     {
@@ -68,8 +70,48 @@ impl Store {
         }
     }
 
-    /// The same bytes with some more, whole or not at all. Bytes that messages share are copied, what is left of them.
-    pub fn fed(self, alloc: Global, more: &[u8]) -> (Store, Result<(), NoMemory>)
+    /// Appends bytes, whole or not at all. Where messages share what is left, it is copied; where nothing is left,
+    /// messages share what comes too.
+    pub fn feed(&mut self, alloc: Global, more: &[u8]) -> Result<(), NoMemory>
+        ensures ok { OnOk result (store_bytes self.new ≡ store_bytes self.old ++ more.now) }
+        ensures err { OnErr result (store_bytes self.new ≡ store_bytes self.old) }
+    {
+        match self {
+            Store::Growing(bytes) => Ok(bytes.extend_from_slice(more)?),
+            Store::Shared(bytes) => {
+                if bytes.is_empty() {
+                    *self = copied(alloc, more)?;
+                    return Ok(());
+                }
+                self.feed_behind(alloc, more)
+            }
+        }
+    }
+
+    /// Appends bytes that others may share, whole or not at all. They are shared and not copied where nothing is left.
+    pub fn feed_shared(&mut self, alloc: Global, more: &Bytes) -> Result<(), NoMemory>
+        ensures ok { OnOk result (store_bytes self.new ≡ store_bytes self.old ++ more.now) }
+        ensures err { OnErr result (store_bytes self.new ≡ store_bytes self.old) }
+    {
+        if self.as_slice().is_empty() {
+            *self = Store::Shared(more.clone()?);
+            return Ok(());
+        }
+        self.feed(alloc, more.as_slice())
+    }
+
+    // The same where something is left of bytes that messages share.
+    fn feed_behind(&mut self, alloc: Global, more: &[u8]) -> Result<(), NoMemory>
+        ensures ok { OnOk result (store_bytes self.new ≡ store_bytes self.old ++ more.now) }
+        ensures err { OnErr result (store_bytes self.new ≡ store_bytes self.old) }
+    {
+        let (store, fed) = mem::replace(self, Store::Shared(Bytes::new())).fed(alloc, more);
+        *self = store;
+        fed
+    }
+
+    // The same bytes with some more, whole or not at all. Bytes that messages share are copied, what is left of them.
+    fn fed(self, alloc: Global, more: &[u8]) -> (Store, Result<(), NoMemory>)
         ensures ok { OnOk result.1 (store_bytes result.0 ≡ store_bytes self ++ more.now) }
         ensures err { OnErr result.1 (store_bytes result.0 ≡ store_bytes self) }
     {
@@ -83,6 +125,16 @@ impl Store {
                 },
             },
         }
+    }
+}
+
+// A copy, which can be shared where memory for the count of its owners is found.
+fn copied(alloc: Global, bytes: &[u8]) -> Result<Store, NoMemory>
+    ensures { IfOk result (λ store. store_bytes store ≡ bytes.now) }
+{
+    match Bytes::from_vec(Vec::from_slice(alloc, bytes)?) {
+        Ok(bytes) => Ok(Store::Shared(bytes)),
+        Err(refused) => Ok(Store::Growing(BytesMut::from_vec(refused.value))),
     }
 }
 

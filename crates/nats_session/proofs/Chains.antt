@@ -1,5 +1,5 @@
 -- Several steps at once: what they write, and behind it their events.
-use Rattle.std.proofs.Common.{◌≡◌, ℕ, Bool, true, false, cond, not, min, List, [], ◌∷◌, ◌++◌, length, take, Option, Some, None, is_some, refl, sym, ◌∙◌, ap}
+use Rattle.std.proofs.Common.{◌≡◌, ℕ, zero, suc, arith, Bool, true, false, cond, not, min, List, [], ◌∷◌, ◌++◌, length, take, Option, Some, None, is_some, refl, sym, ◌∙◌, ap}
 use Rattle.std.proofs.lemmas.List.{append-nil, append_assoc}
 use Rattle.std.proofs.lemmas.Bool.{false≢true}
 use Rattle.nats_names.specs.declared.event.Event.{Event}
@@ -7,7 +7,8 @@ use Rattle.nats_history.specs.declared.transcript.LinkWord.{LinkWord}
 use Rattle.nats_history.specs.declared.transcript.LinkWord.TheVariants as word
 use Rattle.nats_history.specs.declared.call.CallReply.{CallReply}
 use Rattle.nats_history.specs.declared.turn.Turn.TheVariants.{Write}
-use Rattle.nats_history.specs.History.{Step, accepted, taken, ticked, passed, link_end, closed, at_place, grown_tickets, settle_once, settle_rows}
+use Rattle.nats_history.specs.History.{Step, accepted, taken, ticked, passed, link_end, closed, at_place}
+use Rattle.nats_history.specs.Tickets.{grown_tickets, settle_once, settle_rows}
 use Rattle.nats_tables.specs.Numbers.{at_number}
 use Rattle.nats_history.specs.Parts.{Parts}
 use Rattle.nats_history.specs.Schedule.{due, chain, closes, closing, ending}
@@ -176,18 +177,26 @@ played place steps old new last s0 s1 s2 gives_none none settled plays written n
           ∙ (ap (λ s. write_tickets place (all_settled old.parts steps) (write_events place (all_events old.parts steps) s)) written ∙ sym (recorded place steps old.parts s0 gives_none))),
     )
 
+-- where nothing waits the link takes nothing
+pub none_taken : (n : ℕ) (sheet : Sheet) (bytes : List ℕ) → length bytes ≡ 0 → sheet ≡ record sheet { taken = sheet.taken ++ take (min n (length bytes)) bytes }
+none_taken n sheet [] none =
+    sym (ap (λ xs. record sheet { taken = sheet.taken ++ xs }) (of_none (min n 0)) ∙ ap (λ xs. record sheet { taken = xs }) (append-nil sheet.taken))
+  where
+    of_none : (k : ℕ) → ◌≡◌ {A = List ℕ} (take k []) []
+    of_none zero = refl
+    of_none (suc k) = refl
+none_taken n sheet (b ∷ bytes) none = absurd (omega (arith, none))
+
 -- a write, after the bytes that the link takes were written
-pub write_noted : (place n : ℕ) (old new : Seen) (s0 s1 s2 : Sheet) (took : List ℕ) → can_play old.parts (Write n) ≡ true → old.events ≡ [] → old.ready ≡ []
-    → took ≡ take (min n (length old.parts.link.wire.waiting)) old.parts.link.wire.waiting → s1 ≡ record s0 { taken = s0.taken ++ took }
+pub write_noted : (place n : ℕ) (old new : Seen) (s0 s1 s2 : Sheet) → can_play old.parts (Write n) ≡ true → old.events ≡ [] → old.ready ≡ []
+    → s1 ≡ record s0 { taken = s0.taken ++ take (min n (length old.parts.link.wire.waiting)) old.parts.link.wire.waiting }
     → new ≡ seen_after old (taken (min n (length old.parts.link.wire.waiting))) → s2 ≡ write_tickets place new.ready (write_events place new.events s1)
     → s2 ≡ sheet_noted place (taken (min n (length old.parts.link.wire.waiting))) old.parts s0
-write_noted place n old new s0 s1 s2 took may none settled is noted plays news =
+write_noted place n old new s0 s1 s2 may none settled noted plays news =
     let bytes = old.parts.link.wire.waiting in
     let step = taken (min n (length bytes)) in
     let up : old.parts.link.is_up ≡ true = both_true old.parts.link.is_up (not (is_some (due old.parts))) may in
     let written : s1 ≡ sheet_written place (step ∷ []) old.parts s0 =
-    noted
-    ∙ (ap (λ text. record s0 { taken = s0.taken ++ text }) is
-    ∙ sym (ap (λ b. record s0 { taken = cond b (s0.taken ++ take (min n (length bytes)) bytes) [] }) up))
+    noted ∙ sym (ap (λ b. record s0 { taken = cond b (s0.taken ++ take (min n (length bytes)) bytes) [] }) up)
     in
     (played place (step ∷ []) old new (record new { events = []; ready = [] }) s0 s1 s2 (refl, tt) none settled plays written news refl).1

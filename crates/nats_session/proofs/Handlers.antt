@@ -1,6 +1,6 @@
 -- Laws on a handler as it is seen.
 use Rattle.std.proofs.Common.{◌≡◌, ℕ, zero, suc, ◌≤◌, ◌-◌, List, [], ◌∷◌, ◌++◌, length, drop, map, Option, Some, None, Result, Ok, Err, OnOk, OnErr, IfOk, Bool, true, false, not, cond, is_some, ◌&&◌, ◌||◌, ◌==◌, refl, sym, ◌∙◌, ap, subst, arith}
-use Rattle.std.proofs.lemmas.List.{append-nil, append_assoc, map-append, length-append, length-map, drop-append-le, length-drop}
+use Rattle.std.proofs.lemmas.List.{map-append, length-append, length-map, drop-append-le, length-drop}
 use Rattle.std.proofs.lemmas.Bool.{false≢true}
 use Rattle.std.proofs.lemmas.Option.{none-some, same_Some}
 use Rattle.std.proofs.lemmas.Result.{on_ok_weaker}
@@ -21,7 +21,8 @@ use Rattle.nats_history.specs.declared.turn.Turn.TheVariants.{Do, Take, Deadline
 use Rattle.nats_history.specs.declared.turn.Due.{Due}
 use Rattle.nats_history.specs.Queue.{first}
 use Rattle.nats_tables.specs.Numbers.{only, at_number, item_of, named, change}
-use Rattle.nats_history.specs.History.{Step, accepted, took, passed, History, asks, shuts, drains_all, waits_as, takes_ticket, requests, queued_with, waits_for_reply, requests_but, waits_late, is_waiting_request, is_unsettled, lets_go, settles, tickets, waiting_bytes, interest_by, Sub, is_ended, forgotten, kept, second, events_by, at_place, events}
+use Rattle.nats_history.specs.History.{Step, accepted, took, passed, History, asks, shuts, drains_all, waits_as, takes_ticket, requests, lets_go, waiting_bytes, interest_by, Sub, is_ended, forgotten, kept, second, events_by, at_place, events}
+use Rattle.nats_history.specs.Tickets.{queued_with, waits_for_reply, requests_but, waits_late, is_waiting_request, is_unsettled, settles, tickets}
 use Rattle.nats_history.specs.Parts.{Subs, Parts}
 use Rattle.nats_history.specs.Schedule.{refusal, reply_by, accepted_reply, call_reply, accepted_step, gone_step, call_steps, is_closed_sub, oldest, sub_take, take_reply_of, take_reply, is_there, took_step, own_steps, due, put_steps, chain, due_chain}
 use Rattle.nats_history.specs.After.{new_sub, sub_after, subs_after, after, after_all, events_of, settled_of}

@@ -7,7 +7,8 @@ use Rattle.nats_wire.specs.declared.message.Message.{Message}
 use Rattle.nats_wire.specs.Operations.{Operation, message, got, front, past}
 use Rattle.nats_history.specs.Parts.{Subs}
 use Rattle.nats_tables.specs.Numbers.{at_number, item_of}
-use Rattle.nats_history.specs.History.{came, read, cut, Sub, kept, unsubscribe_command, is_closing_at, requests_elsewhere, request_at, request_reply, replied_if, drop_events}
+use Rattle.nats_history.specs.History.{came, read, cut, Sub, kept, unsubscribe_command, is_closing_at, drop_events}
+use Rattle.nats_history.specs.Tickets.{requests_elsewhere, request_at, request_reply, replied_if}
 use Rattle.nats_history.specs.Counts.{message_counted}
 use Rattle.nats_history.specs.Schedule.{chain}
 use Rattle.nats_history.specs.After.{sub_after, written}

@@ -3,7 +3,7 @@ use Rattle.std.specs.Str.{bytes_eq}
 use Rattle.std.specs.Prelude.{slice_get}
 use Rattle.std.proofs.Common.{◌≡◌, ℕ, zero, suc, ◌+◌, ◌-◌, ◌≤◌, ◌<◌, Bool, true, false, cond, not, ◌&&◌, ◌||◌, ◌==◌, List, [], ◌∷◌, ◌++◌, length, map, Option, Some, None, is_some, refl, sym, ◌∙◌, ap, arith, zero-add}
 use Rattle.std.proofs.lemmas.List.{append-nil, length-append, map-append}
-use Rattle.std.proofs.lemmas.Bool.{false≢true, eqb-true, eqb-false}
+use Rattle.std.proofs.lemmas.Bool.{false≢true, eqb-true}
 use Rattle.nats_wire.specs.Operations.{Operation, message}
 use Rattle.nats_history.specs.declared.config.Config.{Config}
 use Rattle.nats_history.specs.declared.call.Call.{Call}
@@ -15,10 +15,11 @@ use Rattle.nats_history.specs.declared.waits.Waits.TheVariants as waits
 use Rattle.nats_history.specs.Queue.{first}
 use Rattle.nats_tables.specs.Numbers.{at_index, at_number, item_of}
 use Rattle.nats_tables.proofs.Numbers.{length-at_number}
-use Rattle.nats_history.specs.History.{Step, opened, read, taken, accepted, handled, passed, link_end, closed, History, requests, waits_as, inbox_of, waiting_bytes, Awaits, Tickets, reaches, flushed_by, nearer, left_by, awaiting, flushed_at_once, flush_handled, flush_settled, request_at, requests_elsewhere, waits_for_reply, requests_but, request_handled, displaced, waits_late, is_waiting_request, is_unsettled, request_reply, queued_with, ticket_handled, asking_after, settled_by, handled_settles, queue_dropped, tickets_after, ticket_of, ticket_in, replied, replied_if, settles, tickets}
+use Rattle.nats_history.specs.History.{Step, opened, read, taken, accepted, handled, passed, link_end, closed, History, requests, waits_as, inbox_of, waiting_bytes}
+use Rattle.nats_history.specs.Tickets.{Awaits, Tickets, reaches, flushed_by, nearer, left_by, awaiting, flushed_at_once, flush_handled, flush_settled, request_at, requests_elsewhere, waits_for_reply, requests_but, request_handled, displaced, waits_late, is_waiting_request, is_unsettled, request_reply, queued_with, ticket_handled, asking_after, settled_by, handled_settles, queue_dropped, tickets_after, ticket_of, ticket_in, replied, replied_if, settles, tickets}
 use Rattle.nats_tickets.specs.Kept.{reply_in, without}
 use Rattle.nats_session.specs.Handler.{settled_tickets, without_all, StoodThere}
-use Rattle.nats_session.specs.Laws.{stands_in, number_of, numbers_of, ReplyOnce}
+use Rattle.nats_session.specs.Laws.{stands_in, number_settled, numbers_settled, ReplyOnce}
 
 abbrev Settled : Type 0
 Settled = List (ℕ × CallReply)
@@ -53,36 +54,36 @@ stands_positive k (x ∷ xs) = by (k == x) (stands_positive k xs)
     by true e = refl
     by false e = e
 
-reply_positive : (k : ℕ) (xs : Settled) → is_some (reply_in k xs) ≡ positive (count k (numbers_of xs))
+reply_positive : (k : ℕ) (xs : Settled) → is_some (reply_in k xs) ≡ positive (count k (numbers_settled xs))
 reply_positive k [] = refl
 reply_positive k (x ∷ xs) = by (k == x.0) (reply_positive k xs)
   where
-    by : (b : Bool) → is_some (reply_in k xs) ≡ positive (count k (numbers_of xs))
-        → is_some (cond b (Some x.1) (reply_in k xs)) ≡ positive (cond b (suc (count k (numbers_of xs))) (count k (numbers_of xs)))
+    by : (b : Bool) → is_some (reply_in k xs) ≡ positive (count k (numbers_settled xs))
+        → is_some (cond b (Some x.1) (reply_in k xs)) ≡ positive (cond b (suc (count k (numbers_settled xs))) (count k (numbers_settled xs)))
     by true e = refl
     by false e = e
 
 -- one of them is taken away
-count_without : (k ticket : ℕ) (xs : Settled) → is_some (reply_in ticket xs) ≡ true → count k (ticket ∷ []) + count k (numbers_of (without ticket xs)) ≡ count k (numbers_of xs)
+count_without : (k ticket : ℕ) (xs : Settled) → is_some (reply_in ticket xs) ≡ true → count k (ticket ∷ []) + count k (numbers_settled (without ticket xs)) ≡ count k (numbers_settled xs)
 count_without k ticket [] e = absurd (false≢true e)
 count_without k ticket (x ∷ xs) e = by (ticket == x.0) refl e (count_without k ticket xs)
   where
     by : (b : Bool) → (ticket == x.0) ≡ b → is_some (cond b (Some x.1) (reply_in ticket xs)) ≡ true
-        → (is_some (reply_in ticket xs) ≡ true → count k (ticket ∷ []) + count k (numbers_of (without ticket xs)) ≡ count k (numbers_of xs))
-        → count k (ticket ∷ []) + count k (numbers_of (cond b xs (x ∷ without ticket xs))) ≡ count k (x.0 ∷ numbers_of xs)
+        → (is_some (reply_in ticket xs) ≡ true → count k (ticket ∷ []) + count k (numbers_settled (without ticket xs)) ≡ count k (numbers_settled xs))
+        → count k (ticket ∷ []) + count k (numbers_settled (cond b xs (x ∷ without ticket xs))) ≡ count k (x.0 ∷ numbers_settled xs)
     by true is e later =
-        sym (one_more k ticket (numbers_of xs)) ∙ ap (λ n. count k (n ∷ numbers_of xs)) (eqb-true ticket x.0 is)
+        sym (one_more k ticket (numbers_settled xs)) ∙ ap (λ n. count k (n ∷ numbers_settled xs)) (eqb-true ticket x.0 is)
     by false is e later =
-        omega (arith, one_more k x.0 (numbers_of (without ticket xs)), one_more k x.0 (numbers_of xs), later e)
+        omega (arith, one_more k x.0 (numbers_settled (without ticket xs)), one_more k x.0 (numbers_settled xs), later e)
 
-count_left : (k : ℕ) (out : List ℕ) (xs : Settled) → StoodThere out xs → count k out + count k (numbers_of (without_all out xs)) ≡ count k (numbers_of xs)
-count_left k [] xs there = zero-add (count k (numbers_of xs))
+count_left : (k : ℕ) (out : List ℕ) (xs : Settled) → StoodThere out xs → count k out + count k (numbers_settled (without_all out xs)) ≡ count k (numbers_settled xs)
+count_left k [] xs there = zero-add (count k (numbers_settled xs))
 count_left k (ticket ∷ out) xs there =
     omega (arith, one_more k ticket out, count_without k ticket (without_all out xs) there.0, count_left k out xs there.1)
 
 -- ---- the tickets that a step settles
 
-numbers_replied : (reply : CallReply) (ts : List ℕ) → numbers_of (replied reply ts) ≡ ts
+numbers_replied : (reply : CallReply) (ts : List ℕ) → numbers_settled (replied reply ts) ≡ ts
 numbers_replied reply [] = refl
 numbers_replied reply (t ∷ ts) = ap (λ xs. t ∷ xs) (numbers_replied reply ts)
 
@@ -115,7 +116,7 @@ abbrev open_from : ℕ → List Waits → List ℕ
 open_from n [] = []
 open_from n (next ∷ more) = open_of n next ++ open_from (suc n) more
 
-numbers_dropped : (n : ℕ) (qs : List Waits) → numbers_of (queue_dropped n qs) ≡ open_from n qs
+numbers_dropped : (n : ℕ) (qs : List Waits) → numbers_settled (queue_dropped n qs) ≡ open_from n qs
 numbers_dropped n [] = refl
 numbers_dropped n (waits.Flush ∷ qs) = ap (λ ns. n ∷ ns) (numbers_dropped (suc n) qs)
 numbers_dropped n (waits.Request ∷ qs) = ap (λ ns. n ∷ ns) (numbers_dropped (suc n) qs)
@@ -186,12 +187,12 @@ abbrev tickets_in : List (ℕ × List ℕ) → List ℕ
 tickets_in asking = map ticket_in asking
 
 count_elsewhere : (k : ℕ) (reply : CallReply) (subject : List ℕ) (asking : List (ℕ × List ℕ))
-    → count k (numbers_of (replied_if reply (request_at subject asking))) + count k (tickets_in (requests_elsewhere subject asking)) ≡ count k (tickets_in asking)
+    → count k (numbers_settled (replied_if reply (request_at subject asking))) + count k (tickets_in (requests_elsewhere subject asking)) ≡ count k (tickets_in asking)
 count_elsewhere k reply subject [] = refl
 count_elsewhere k reply subject (request ∷ more) = by (bytes_eq subject request.1) (count_elsewhere k reply subject more)
   where
-    by : (b : Bool) → count k (numbers_of (replied_if reply (request_at subject more))) + count k (tickets_in (requests_elsewhere subject more)) ≡ count k (tickets_in more)
-        → count k (numbers_of (replied_if reply (cond b (Some request.0) (request_at subject more)))) + count k (tickets_in (cond b more (request ∷ requests_elsewhere subject more)))
+    by : (b : Bool) → count k (numbers_settled (replied_if reply (request_at subject more))) + count k (tickets_in (requests_elsewhere subject more)) ≡ count k (tickets_in more)
+        → count k (numbers_settled (replied_if reply (cond b (Some request.0) (request_at subject more)))) + count k (tickets_in (cond b more (request ∷ requests_elsewhere subject more)))
         ≡ count k (request.0 ∷ tickets_in more)
     by true e = sym (one_more k request.0 (tickets_in more))
     by false e =
@@ -264,9 +265,9 @@ once_given k settled settled' t t' once more next order = by (k == suc t.given) 
 count_same : (k : ℕ) (settled : List ℕ) → count k (settled ++ []) ≡ count k settled
 count_same k settled = ap (count k) (append-nil settled)
 
-count_settled : (k : ℕ) (settled : List ℕ) (reply : CallReply) (ts : List ℕ) → count k (settled ++ numbers_of (replied reply ts)) ≡ count k settled + count k ts
+count_settled : (k : ℕ) (settled : List ℕ) (reply : CallReply) (ts : List ℕ) → count k (settled ++ numbers_settled (replied reply ts)) ≡ count k settled + count k ts
 count_settled k settled reply ts =
-    count_append k settled (numbers_of (replied reply ts)) ∙ ap (λ xs. count k settled + count k xs) (numbers_replied reply ts)
+    count_append k settled (numbers_settled (replied reply ts)) ∙ ap (λ xs. count k settled + count k xs) (numbers_replied reply ts)
 
 -- ---- a call that is handled
 
@@ -276,7 +277,7 @@ tickets_with given done kinds queued flushing asking =
 
 once_flush : (k waiting : ℕ) (settled : List ℕ) (given done : ℕ) (kinds : List Bool) (queued : List Waits) (flushing : List Awaits) (asking : List (ℕ × List ℕ))
     → Once k settled (tickets_with given done kinds queued flushing asking)
-    → Once k (settled ++ numbers_of (replied Flushed (flush_settled waiting (first queued) (tickets_with given done kinds queued flushing asking)))) (flush_handled waiting (first queued) (tickets_with given done kinds queued flushing asking))
+    → Once k (settled ++ numbers_settled (replied Flushed (flush_settled waiting (first queued) (tickets_with given done kinds queued flushing asking)))) (flush_handled waiting (first queued) (tickets_with given done kinds queued flushing asking))
 once_flush k waiting settled given done kinds [] flushing asking once =
     once_fewer k settled (settled ++ []) _ _ once (omega (arith, count_same k settled)) refl once.order
 once_flush k waiting settled given done kinds (waits.Request ∷ qs) flushing asking once =
@@ -285,31 +286,31 @@ once_flush k waiting settled given done kinds (waits.Late ∷ qs) flushing askin
     once_fewer k settled (settled ++ []) _ _ once (omega (arith, count_same k settled)) refl once.order
 once_flush k waiting settled given done kinds (waits.Flush ∷ qs) flushing asking once =
     let ticket = suc done in
-    once_fewer k settled (settled ++ numbers_of (replied Flushed (flushed_at_once ticket waiting))) _ _ once
+    once_fewer k settled (settled ++ numbers_settled (replied Flushed (flushed_at_once ticket waiting))) _ _ once
     (omega (arith, count_settled k settled Flushed (flushed_at_once ticket waiting), ap (count k) (map-append ticket_of flushing (awaiting ticket waiting)), count_append k (map ticket_of flushing) (map ticket_of (awaiting ticket waiting)), count_handled k ticket waiting, count_next k ticket waits.Flush qs))
     refl (omega (arith, once.order))
 
 once_request : (k : ℕ) (subject settled : List ℕ) (given done : ℕ) (kinds : List Bool) (queued : List Waits) (flushing : List Awaits) (asking : List (ℕ × List ℕ))
     → Once k settled (tickets_with given done kinds queued flushing asking)
-    → Once k (settled ++ numbers_of (replied_if Dropped (displaced subject (first queued) (tickets_with given done kinds queued flushing asking)))) (request_handled subject (first queued) (tickets_with given done kinds queued flushing asking))
+    → Once k (settled ++ numbers_settled (replied_if Dropped (displaced subject (first queued) (tickets_with given done kinds queued flushing asking)))) (request_handled subject (first queued) (tickets_with given done kinds queued flushing asking))
 once_request k subject settled given done kinds [] flushing asking once =
     once_fewer k settled (settled ++ []) _ _ once (omega (arith, count_same k settled)) refl once.order
 once_request k subject settled given done kinds (waits.Flush ∷ qs) flushing asking once =
     once_fewer k settled (settled ++ []) _ _ once (omega (arith, count_same k settled)) refl once.order
 once_request k subject settled given done kinds (waits.Late ∷ qs) flushing asking once =
-    let gone = numbers_of (replied_if Dropped (request_at subject asking)) in
+    let gone = numbers_settled (replied_if Dropped (request_at subject asking)) in
     once_fewer k settled (settled ++ gone) _ _ once
     (omega (arith, count_append k settled gone, count_elsewhere k Dropped subject asking, count_next k (suc done) waits.Late qs))
     refl (omega (arith, once.order))
 once_request k subject settled given done kinds (waits.Request ∷ qs) flushing asking once =
-    let gone = numbers_of (replied_if Dropped (request_at subject asking)) in
+    let gone = numbers_settled (replied_if Dropped (request_at subject asking)) in
     let rest = requests_elsewhere subject asking in
     once_fewer k settled (settled ++ gone) _ _ once
     (omega (arith, count_append k settled gone, count_elsewhere k Dropped subject asking, count_next k (suc done) waits.Request qs, ap (count k) (map-append ticket_in rest ((suc done, subject) ∷ [])), count_append k (map ticket_in rest) (suc done ∷ [])))
     refl (omega (arith, once.order))
 
 once_handled : (c : Config) (k waiting : ℕ) (call : Call) (settled : List ℕ) (t : Tickets) → Once k settled t
-    → Once k (settled ++ numbers_of (handled_settles c waiting call t)) (ticket_handled c waiting call t)
+    → Once k (settled ++ numbers_settled (handled_settles c waiting call t)) (ticket_handled c waiting call t)
 once_handled c k waiting Flush settled t once =
     once_flush k waiting settled t.given t.handled t.of_request t.queued t.flushing t.asking once
 once_handled c k waiting (Request subject payload headers token) settled t once =
@@ -332,12 +333,12 @@ once_accepted k request settled t (Some next) once =
 -- ---- an operation that is read
 
 once_read : (k : ℕ) (operation : Operation) (settled : List ℕ) (t : Tickets) → Once k settled t
-    → Once k (settled ++ numbers_of (settled_by operation t.asking)) (record t { asking = asking_after operation t.asking })
+    → Once k (settled ++ numbers_settled (settled_by operation t.asking)) (record t { asking = asking_after operation t.asking })
 once_read k (message sid m) settled t once = by (sid == 0)
   where
-    by : (b : Bool) → Once k (settled ++ numbers_of (cond b (replied_if (request_reply m) (request_at m.subject t.asking)) [])) (record t { asking = cond b (requests_elsewhere m.subject t.asking) t.asking })
+    by : (b : Bool) → Once k (settled ++ numbers_settled (cond b (replied_if (request_reply m) (request_at m.subject t.asking)) [])) (record t { asking = cond b (requests_elsewhere m.subject t.asking) t.asking })
     by true =
-        let gone = numbers_of (replied_if (request_reply m) (request_at m.subject t.asking)) in
+        let gone = numbers_settled (replied_if (request_reply m) (request_at m.subject t.asking)) in
         once_fewer k settled (settled ++ gone) t (record t { asking = requests_elsewhere m.subject t.asking }) once
         (omega (arith, count_append k settled gone, count_elsewhere k (request_reply m) m.subject t.asking)) refl once.order
     by false = once_fewer k settled (settled ++ []) t t once (omega (arith, count_same k settled)) refl once.order
@@ -347,7 +348,7 @@ once_read k operation settled t once =
 -- ---- a deadline
 
 once_passed : (k ticket : ℕ) (settled : List ℕ) (t : Tickets) → Once k settled t
-    → Once k (settled ++ numbers_of (cond (is_unsettled ticket t) ((ticket, TimedOut) ∷ []) [])) (record t { queued = at_number (ticket - t.handled) waits_late t.queued; asking = requests_but ticket t.asking })
+    → Once k (settled ++ numbers_settled (cond (is_unsettled ticket t) ((ticket, TimedOut) ∷ []) [])) (record t { queued = at_number (ticket - t.handled) waits_late t.queued; asking = requests_but ticket t.asking })
 once_passed k ticket settled t once = by (waits_for_reply ticket t.asking) (is_waiting_request (item_of (ticket - t.handled) t.queued)) refl refl
   where
     after_it : Tickets
@@ -360,53 +361,53 @@ once_passed k ticket settled t once = by (waits_for_reply ticket t.asking) (is_w
     fewer = late_at_fewer k (suc t.handled) (ticket - t.handled) t.queued
 
     by : (a b : Bool) → waits_for_reply ticket t.asking ≡ a → is_waiting_request (item_of (ticket - t.handled) t.queued) ≡ b
-        → Once k (settled ++ numbers_of (cond (waits_for_reply ticket t.asking || is_waiting_request (item_of (ticket - t.handled) t.queued)) ((ticket, TimedOut) ∷ []) [])) after_it
+        → Once k (settled ++ numbers_settled (cond (waits_for_reply ticket t.asking || is_waiting_request (item_of (ticket - t.handled) t.queued)) ((ticket, TimedOut) ∷ []) [])) after_it
     by true b asks waits_there =
         once_fewer k settled _ t after_it once
-        (omega (arith, ap (λ x. count k (settled ++ numbers_of (cond (x || is_waiting_request (item_of (ticket - t.handled) t.queued)) ((ticket, TimedOut) ∷ []) []))) asks, count_append k settled (ticket ∷ []), count_but k ticket t.asking asks, fewer))
+        (omega (arith, ap (λ x. count k (settled ++ numbers_settled (cond (x || is_waiting_request (item_of (ticket - t.handled) t.queued)) ((ticket, TimedOut) ∷ []) []))) asks, count_append k settled (ticket ∷ []), count_but k ticket t.asking asks, fewer))
         refl order
     by false true asks waits_there =
         once_fewer k settled _ t after_it once
-        (omega (arith, ap (λ x. count k (settled ++ numbers_of (cond (x || is_waiting_request (item_of (ticket - t.handled) t.queued)) ((ticket, TimedOut) ∷ []) []))) asks, ap (λ x. count k (settled ++ numbers_of (cond x ((ticket, TimedOut) ∷ []) []))) waits_there, count_append k settled (ticket ∷ []), count_but_fewer k ticket t.asking, late_at k t.handled ticket t.queued waits_there))
+        (omega (arith, ap (λ x. count k (settled ++ numbers_settled (cond (x || is_waiting_request (item_of (ticket - t.handled) t.queued)) ((ticket, TimedOut) ∷ []) []))) asks, ap (λ x. count k (settled ++ numbers_settled (cond x ((ticket, TimedOut) ∷ []) []))) waits_there, count_append k settled (ticket ∷ []), count_but_fewer k ticket t.asking, late_at k t.handled ticket t.queued waits_there))
         refl order
     by false false asks waits_there =
         once_fewer k settled _ t after_it once
-        (omega (arith, ap (λ x. count k (settled ++ numbers_of (cond (x || is_waiting_request (item_of (ticket - t.handled) t.queued)) ((ticket, TimedOut) ∷ []) []))) asks, ap (λ x. count k (settled ++ numbers_of (cond x ((ticket, TimedOut) ∷ []) []))) waits_there, count_same k settled, count_but_fewer k ticket t.asking, fewer))
+        (omega (arith, ap (λ x. count k (settled ++ numbers_settled (cond (x || is_waiting_request (item_of (ticket - t.handled) t.queued)) ((ticket, TimedOut) ∷ []) []))) asks, ap (λ x. count k (settled ++ numbers_settled (cond x ((ticket, TimedOut) ∷ []) []))) waits_there, count_same k settled, count_but_fewer k ticket t.asking, fewer))
         refl order
 
 -- ---- one step
 
-once_after : (c : Config) (k waiting : ℕ) (step : Step) (settled : List ℕ) (t : Tickets) → Once k settled t → Once k (settled ++ numbers_of (settles c waiting step t)) (tickets_after c waiting step t)
+once_after : (c : Config) (k waiting : ℕ) (step : Step) (settled : List ℕ) (t : Tickets) → Once k settled t → Once k (settled ++ numbers_settled (settles c waiting step t)) (tickets_after c waiting step t)
 once_after c k waiting (accepted call) settled t once = once_accepted k (requests call) settled t (waits_as call) once
 once_after c k waiting (handled call) settled t once = once_handled c k waiting call settled t once
 once_after c k waiting (read operation) settled t once = once_read k operation settled t once
 once_after c k waiting (passed ticket) settled t once = once_passed k ticket settled t once
 once_after c k waiting (taken n) settled t once =
-    once_fewer k settled (settled ++ numbers_of (replied Flushed (flushed_by n t.flushing))) t (tickets_after c waiting (taken n) t) once
+    once_fewer k settled (settled ++ numbers_settled (replied Flushed (flushed_by n t.flushing))) t (tickets_after c waiting (taken n) t) once
     (omega (arith, count_settled k settled Flushed (flushed_by n t.flushing), count_taken k n t.flushing)) refl once.order
 once_after c k waiting (opened info) settled t once =
     once_fewer k settled (settled ++ []) t (tickets_after c waiting (opened info) t) once (omega (arith, count_same k settled)) refl once.order
 once_after c k waiting (link_end end) settled t once =
-    once_fewer k settled (settled ++ numbers_of (replied FlushFailed (map ticket_of t.flushing))) t (tickets_after c waiting (link_end end) t) once
+    once_fewer k settled (settled ++ numbers_settled (replied FlushFailed (map ticket_of t.flushing))) t (tickets_after c waiting (link_end end) t) once
     (omega (arith, count_settled k settled FlushFailed (map ticket_of t.flushing))) refl once.order
 once_after c k waiting closed settled t once =
     let failing = replied FlushFailed (map ticket_of t.flushing) in
     let asked = replied Dropped (map ticket_in t.asking) in
     let queued = queue_dropped (suc t.handled) t.queued in
-    once_fewer k settled (settled ++ numbers_of (failing ++ asked ++ queued)) t (tickets_after c waiting closed t) once
-    (omega (arith, count_append k settled (numbers_of (failing ++ asked ++ queued)), ap (count k) (map-append number_of (failing ++ asked) queued), count_append k (numbers_of (failing ++ asked)) (numbers_of queued), ap (count k) (map-append number_of failing asked), count_append k (numbers_of failing) (numbers_of asked), ap (count k) (numbers_replied FlushFailed (map ticket_of t.flushing)), ap (count k) (numbers_replied Dropped (map ticket_in t.asking)), ap (count k) (numbers_dropped (suc t.handled) t.queued)))
+    once_fewer k settled (settled ++ numbers_settled (failing ++ asked ++ queued)) t (tickets_after c waiting closed t) once
+    (omega (arith, count_append k settled (numbers_settled (failing ++ asked ++ queued)), ap (count k) (map-append number_settled (failing ++ asked) queued), count_append k (numbers_settled (failing ++ asked)) (numbers_settled queued), ap (count k) (map-append number_settled failing asked), count_append k (numbers_settled failing) (numbers_settled asked), ap (count k) (numbers_replied FlushFailed (map ticket_of t.flushing)), ap (count k) (numbers_replied Dropped (map ticket_in t.asking)), ap (count k) (numbers_dropped (suc t.handled) t.queued)))
     refl (omega arith)
 once_after c k waiting step settled t once =
     once_fewer k settled (settled ++ []) t t once (omega (arith, count_same k settled)) refl once.order
 
-once_settled : (c : Config) (h : History) (k : ℕ) → Once k (numbers_of (settled_tickets c h)) (tickets c h)
+once_settled : (c : Config) (h : History) (k : ℕ) → Once k (numbers_settled (settled_tickets c h)) (tickets c h)
 once_settled c [] k = record { most = omega arith; none = λ less. refl; order = refl }
 once_settled c ((place, step) ∷ h) k =
     let waiting = length (waiting_bytes c h) in
     let t = tickets c h in
     let before = settled_tickets c h in
-    let after = once_after c k waiting step (numbers_of before) t (once_settled c h k) in
-    let same = ap (count k) (map-append number_of before (settles c waiting step t)) in
+    let after = once_after c k waiting step (numbers_settled before) t (once_settled c h k) in
+    let same = ap (count k) (map-append number_settled before (settles c waiting step t)) in
     record {
       most = omega (arith, same, after.most);
       none = λ less. omega (arith, same, after.none less);
@@ -429,6 +430,6 @@ reply_once c h out ticket there =
     let all = settled_tickets c h in
     let once = once_settled c h ticket in
     reply_positive ticket (without_all out all)
-    ∙ (left_once (count ticket out) (count ticket (numbers_of (without_all out all))) (count ticket (numbers_of all)) (count_left ticket out all there) (omega (arith, once.most))
-    ∙ (ap (λ b. b && not (positive (count ticket out))) (sym (stands_positive ticket (numbers_of all)))
-    ∙ ap (λ b. stands_in ticket (numbers_of all) && not b) (sym (stands_positive ticket out))))
+    ∙ (left_once (count ticket out) (count ticket (numbers_settled (without_all out all))) (count ticket (numbers_settled all)) (count_left ticket out all there) (omega (arith, once.most))
+    ∙ (ap (λ b. b && not (positive (count ticket out))) (sym (stands_positive ticket (numbers_settled all)))
+    ∙ ap (λ b. stands_in ticket (numbers_settled all) && not b) (sym (stands_positive ticket out))))

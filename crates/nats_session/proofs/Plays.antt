@@ -14,7 +14,8 @@ use Rattle.nats_history.specs.declared.transcript.LinkWord.TheVariants as word
 use Rattle.nats_history.specs.declared.turn.Turn.{Turn}
 use Rattle.nats_history.specs.declared.turn.Turn.TheVariants.{Up, Piece, Write, Tick, Lost, GiveUp, Hangup, Do, Take, Deadline}
 use Rattle.nats_tables.specs.Numbers.{item_of}
-use Rattle.nats_history.specs.History.{Step, read, ticked, link_end, closed, handled, passed, History, ticks, is_unsettled, lets_go, Sub, at_of, given}
+use Rattle.nats_history.specs.History.{Step, read, ticked, link_end, closed, handled, passed, History, ticks, lets_go, Sub, at_of, given}
+use Rattle.nats_history.specs.Tickets.{is_unsettled}
 use Rattle.nats_history.specs.Parts.{Parts, parts_of}
 use Rattle.nats_history.specs.Schedule.{refusal, take_reply, is_there, is_valid_turn, closes, closing, ending, ends_link, read_end, tick_limit, chain, accepted_step, gone_step, took_step, own_steps, due_by, due, most_due, put_steps, after_turn, steps_from, steps, out_of_turn_from, out_of_turn}
 use Rattle.nats_history.specs.Transcripts.{Answer, answer_of, answers_from, answers, transcript}

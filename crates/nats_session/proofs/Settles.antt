@@ -1,9 +1,9 @@
 -- Laws on due steps as they are played, written and played out.
 use Rattle.std.specs.Option.{option_map}
-use Rattle.std.proofs.Common.{◌≡◌, ℕ, ◌<◌, Bool, true, false, cond, List, [], ◌∷◌, ◌++◌, Option, Some, None, is_some, refl, sym, ◌∙◌, ap, subst}
-use Rattle.std.proofs.lemmas.Bool.{false≢true}
+use Rattle.std.proofs.Common.{◌≡◌, ℕ, ◌<◌, Bool, true, false, cond, not, ◌&&◌, ◌||◌, ◌==◌, length, arith, List, [], ◌∷◌, ◌++◌, Option, Some, None, is_some, refl, sym, ◌∙◌, ap, subst}
+use Rattle.std.proofs.lemmas.Bool.{false≢true, eqb-true}
 use Rattle.std.proofs.lemmas.Option.{none-some, same_Some}
-use Rattle.nats_wire.specs.Operations.{message, pong_op, Front, got, unfinished, fault, front}
+use Rattle.nats_wire.specs.Operations.{peeked_view, message, pong_op, Front, got, unfinished, fault, front}
 use Rattle.nats_history.specs.declared.call.Call.{Call}
 use Rattle.nats_history.specs.declared.call.Call.TheVariants.{Reconnect}
 use Rattle.nats_history.specs.declared.turn.Due.{Due}
@@ -20,9 +20,10 @@ use Rattle.nats_history.specs.Parts.{Parts}
 use Rattle.nats_history.specs.Schedule.{closes, ending, ends_link, read_end, pong_end, chain, due_call, due_by, due, due_chain, most_due}
 use Rattle.nats_history.specs.After.{after, after_all, due_steps}
 use Rattle.nats_history.proofs.Dues.{bound_falls, none_due, one_due, after_append}
-use Rattle.nats_session.specs.Handler.{Seen, delivery_name, delivery_of, end_in, ended_or, name_of, Advances, Sees, is_nothing}
+use Rattle.nats_session.specs.Handler.{Seen, delivery_name, delivery_of, end_in, ended_or, name_of, Advances, Sees, is_at_rest, is_nothing}
 use Rattle.nats_session.specs.Sheet.{Sheet, write_delivery, write_due, write_events, write_tickets}
-use Rattle.nats_session.specs.Machine.{sheet_noted, sheet_recorded, sheet_written, settled_parts, settled_sheet, write_look, write_before, write_coming, write_end, Notes}
+use Rattle.nats_session.specs.Machine.{quiet, sheet_noted, sheet_recorded, sheet_written, settled_parts, settled_sheet, write_op, write_look, write_before, write_coming, write_end, Notes}
+use Rattle.nats_session.proofs.Handlers.{none_unread}
 use Rattle.nats_session.proofs.Chains.{NoneGiven, ending_gives_none, closing_gives_none, no_events, end_written, ending_written, played}
 
 -- ---- what can be due
@@ -126,14 +127,15 @@ some_handled (call ∷ more) e = refl
 
 pub some_seen : (p : Parts) (look : Look) → Sees p look → is_nothing look ≡ false → is_some (due p) ≡ true
 some_seen p looks.Nothing sees is = absurd (false≢true (sym is))
-some_seen p (looks.Read peeked) sees is = ap is_some sees.0
+some_seen p (looks.Read peeked delivery) sees is = ap is_some sees.0
 some_seen p looks.Fault sees is = ap is_some sees
 some_seen p looks.Command sees is = ap is_some sees.0 ∙ some_handled p.calls sees.1
 
 -- what a look has written is what the step that is due writes
-pub look_written : (place : ℕ) (p : Parts) (look : Look) (sheet : Sheet) → Sees p look → write_look place p look sheet ≡ write_before place p (due p) sheet
+pub look_written : (place : ℕ) (p : Parts) (look : Look) (sheet : Sheet) → Sees p look → write_look place look sheet ≡ write_before place p (due p) sheet
 look_written place p looks.Nothing sheet sees = sym (ap (λ next. write_before place p next sheet) sees)
-look_written place p (looks.Read peeked) sheet sees = sym (ap (λ next. write_before place p next sheet) sees.0)
+look_written place p (looks.Read peeked delivery) sheet sees =
+    ap (λ d. write_op place d (peeked_view peeked.op) sheet) sees.4 ∙ sym (ap (λ next. write_before place p next sheet) sees.0)
 look_written place p looks.Fault sheet sees = sym (ap (λ next. write_before place p next sheet) sees)
 look_written place p looks.Command sheet sees = sym (ap (λ next. write_before place p next sheet) sees.0 ∙ by_calls p.calls)
   where
@@ -180,6 +182,35 @@ stops place p sheet is = (
   sym (ap (λ steps. after_all p steps) (none_due p is)),
   sym (ap (λ steps. sheet_recorded place steps p sheet) (none_due p is)),
 )
+
+-- none is due where no link is up, or nothing is unread and no call waits
+no_calls : (room : Bool) (calls : List Call) → length calls ≡ 0 → due_call room calls ≡ None
+no_calls true [] none = refl
+no_calls false [] none = refl
+no_calls room (call ∷ more) none = absurd (omega (arith, none))
+
+at_rest_none : (p : Parts) → is_at_rest p ≡ true → due p ≡ None
+at_rest_none p rest = by_up p.link.is_up rest
+  where
+    both : (a b : Bool) → (a && b) ≡ true → (a ≡ true) × (b ≡ true)
+    both true b e = (refl, e)
+    both false b e = absurd (false≢true e)
+
+    by_up : (up : Bool) → (not up || (length p.link.wire.unread == 0 && length p.calls == 0)) ≡ true → cond up (due_by (front p.link.wire.unread) p) None ≡ None
+    by_up false e = refl
+    by_up true e =
+        let left = both (length p.link.wire.unread == 0) (length p.calls == 0) e in
+        ap (λ f. due_by f p) (none_unread p.link.wire.unread (eqb-true (length p.link.wire.unread) 0 left.0)) ∙ no_calls _ p.calls (eqb-true (length p.calls) 0 left.1)
+
+pub rests_here : (place from : ℕ) (seen : Seen) (p : Parts) (sheet before : Sheet) → is_at_rest seen.parts ≡ true → seen.events ≡ [] → seen.ready ≡ []
+    → settled_parts seen.parts ≡ settled_parts p → settled_sheet place seen.parts sheet ≡ settled_sheet from p before
+    → (seen ≡ quiet (settled_parts p)) × (sheet ≡ settled_sheet from p before)
+rests_here place from seen p sheet before rest none settled same_parts same_sheet =
+    let stop = stops place seen.parts sheet (at_rest_none seen.parts rest) in (
+      ap (λ es. record { parts = seen.parts; events = es; ready = seen.ready }) none
+          ∙ (ap (λ rs. record { parts = seen.parts; events = []; ready = rs }) settled ∙ ap quiet (stop.0 ∙ same_parts)),
+      stop.1 ∙ same_sheet,
+    )
 
 -- a round of playing, where the look saw a step
 pub goes_by : (place : ℕ) (p : Parts) (look : Look) (seen : Seen) (sheet sheet' : Sheet) → Sees p look → is_nothing look ≡ false → Notes (due p) place p sheet seen sheet' → Goes place p sheet seen sheet'

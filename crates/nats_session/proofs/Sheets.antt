@@ -19,7 +19,8 @@ use Rattle.nats_history.specs.declared.transcript.SubRow.{SubRow}
 use Rattle.nats_subs.specs.declared.subs.subscription.Delivery.{Delivery}
 use Rattle.nats_subs.specs.declared.subs.subscription.Delivery.TheVariants.{Put, Dropped, Unwanted, Ignored}
 use Rattle.nats_tables.specs.Numbers.{is_about, at_number, item_of, count_from}
-use Rattle.nats_history.specs.History.{Step, opened, read, taken, accepted, link_end, History, is_up, subscribes, given_after, at_after, at_of, given, numbers, about, is_given, concerns, Told, nothing_told, Sub, sub_of, is_open, is_ended, has_room, is_over, forgotten, kept, told_after, told, rows_of, link_text, taken_count, waiting_bytes, text_by, events, ticket_rows}
+use Rattle.nats_history.specs.History.{Step, opened, read, taken, accepted, link_end, History, is_up, subscribes, given_after, at_after, at_of, given, numbers, about, is_given, concerns, Told, nothing_told, Sub, sub_of, is_open, is_ended, has_room, is_over, forgotten, kept, told_after, told, rows_of, link_text, taken_count, waiting_bytes, text_by, events}
+use Rattle.nats_history.specs.Tickets.{ticket_rows}
 use Rattle.nats_history.specs.Parts.{Parts, parts_of}
 use Rattle.nats_history.specs.After.{after}
 use Rattle.nats_subs.specs.Delivery.{delivery, delivery_at}

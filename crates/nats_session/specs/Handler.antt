@@ -1,5 +1,5 @@
 -- What the calls of a handler answer and leave.
-use Rattle.std.specs.Prelude.{◌≡◌, ℕ, suc, ◌≤◌, Bool, true, false, not, ◌&&◌, List, [], ◌∷◌, ◌++◌, length, drop, map, Option, Some, None, is_some, Result, Ok, Err, ◌==◌, if◌then◌else◌}
+use Rattle.std.specs.Prelude.{◌≡◌, ℕ, suc, ◌≤◌, Bool, true, false, not, ◌&&◌, ◌||◌, List, [], ◌∷◌, ◌++◌, length, drop, map, Option, Some, None, is_some, Result, Ok, Err, ◌==◌, if◌then◌else◌}
 use Rattle.std.specs.Option.{option_map}
 use Rattle.nats_names.specs.declared.event.Event.{Event}
 use Rattle.nats_names.specs.declared.state.State.{State}
@@ -8,7 +8,7 @@ use Rattle.nats_names.specs.declared.event.Event.TheVariants.{Closed, SlowConsum
 use Rattle.nats_wire.specs.declared.op.ClientOp.TheVariants as client
 use Rattle.nats_wire.specs.Commands.{command_text}
 use Rattle.nats_wire.specs.declared.message.Message.{Message}
-use Rattle.nats_wire.specs.Operations.{message, peeked_view, got, front}
+use Rattle.nats_wire.specs.Operations.{Operation, message, peeked_view, got, front}
 use Rattle.nats_wire.specs.Wire.{Wire, fresh}
 use Rattle.nats_history.specs.declared.config.Config.{Config}
 use Rattle.nats_history.specs.declared.call.Call.{Call}
@@ -18,13 +18,16 @@ use Rattle.nats_history.specs.declared.transcript.LinkWord.TheVariants as word
 use Rattle.nats_history.specs.declared.turn.Turn.{Turn}
 use Rattle.nats_history.specs.declared.turn.Due.{Due}
 use Rattle.nats_history.specs.declared.turn.Due.TheVariants as due_names
+use Rattle.nats_session.specs.declared.handler.played.Played.{Played}
+use Rattle.nats_session.specs.declared.handler.played.Played.TheVariants as played
 use Rattle.nats_session.specs.declared.handler.due.Look.{Look}
 use Rattle.nats_session.specs.declared.handler.due.Look.TheVariants as looks
 use Rattle.nats_subs.specs.declared.subs.subscription.Delivery.{Delivery}
 use Rattle.nats_subs.specs.declared.subs.subscription.Delivery.TheVariants.{Put, Dropped, Unwanted, Ignored}
 use Rattle.nats_history.specs.Queue.{first}
 use Rattle.nats_tables.specs.Numbers.{at_number, item_of, change}
-use Rattle.nats_history.specs.History.{Step, cut, read, handled, link_end, History, drained_by, second, kept, events, waiting_bytes, settles, no_tickets, tickets}
+use Rattle.nats_history.specs.History.{default_max_payload, Step, cut, read, handled, link_end, History, drained_by, second, kept, events, waiting_bytes}
+use Rattle.nats_history.specs.Tickets.{settles, no_tickets, tickets}
 use Rattle.nats_history.specs.Counts.{no_statistics, message_counted}
 use Rattle.nats_history.specs.Parts.{Parts, parts_of}
 use Rattle.nats_history.specs.Schedule.{is_valid_turn, refusal, call_reply, accepted_step, call_steps, due, chain, ends_link, put_steps}
@@ -84,7 +87,15 @@ idle c = record {
   config = c;
   is_closed = false;
   drain = record { is_accepted = false; is_handled = false };
-  link = record { number = 0; is_up = false; max_payload = 1048576; info = None; reads = 0; pings = []; wire = fresh };
+  link = record {
+    number = 0;
+    is_up = false;
+    max_payload = default_max_payload;
+    info = None;
+    reads = 0;
+    pings = [];
+    wire = fresh;
+  };
   calls = [];
   subs = record { given = 0; subscribed = 0; rows = [] };
   requested = false;
@@ -174,6 +185,11 @@ delivery_name sid m Ignored = due_names.Read
 abbrev pub delivery_of : Parts → ℕ → Delivery
 delivery_of p sid = delivery_at p.config (item_of sid p.subs.rows)
 
+-- the same of an operation that is read: what is no message is none for a subscription
+abbrev pub coming : Parts → Operation → Delivery
+coming p (message sid m) = delivery_of p sid
+coming p operation = Ignored
+
 -- what is seen after a message that comes for a subscription, by what became of it
 abbrev pub delivered_seen : ℕ → Message → Seen → Seen
 delivered_seen sid m old = record old {
@@ -245,6 +261,15 @@ ended_or (Some word) name = due_names.Ended
 abbrev pub name_of : Parts → Step → Due
 name_of p step = ended_or (end_in (chain p step)) (own_name p step)
 
+-- the same name, apart from where its message is
+abbrev pub played_name : Played → Due
+played_name played.Nothing = due_names.Nothing
+played_name played.Read = due_names.Read
+played_name (played.Put sid) = due_names.Put sid
+played_name (played.Dropped sid m) = due_names.Dropped sid m.value
+played_name played.Handled = due_names.Handled
+played_name played.Ended = due_names.Ended
+
 -- the step that is due was played with what follows it at once, and named; or none is due
 abbrev pub Advances : Option Step → Seen → Due → Seen → Type 0
 Advances None old name new = (name ≡ due_names.Nothing) × (new ≡ old)
@@ -263,19 +288,24 @@ abbrev pub seen_handled : Option Call → Seen → Seen
 seen_handled None old = old
 seen_handled (Some call) old = seen_after old (handled call)
 
--- a look at the parts tells which step is due
+-- no link is up, or nothing is unread and no call waits
+abbrev pub is_at_rest : Parts → Bool
+is_at_rest p = not p.link.is_up || (length p.link.wire.unread == 0 && length p.calls == 0)
+
+-- a look at the parts tells which step is due, and what becomes of a message
 abbrev pub Sees : Parts → Look → Type 0
 Sees p looks.Nothing = due p ≡ None
-Sees p (looks.Read peeked) =
+Sees p (looks.Read peeked delivery) =
     (due p ≡ Some (read (peeked_view peeked.op)))
     × (front p.link.wire.unread ≡ got (peeked_view peeked.op) peeked.len)
     × (peeked.len ≤ length p.link.wire.unread) × (p.link.is_up ≡ true)
+    × (delivery ≡ coming p (peeked_view peeked.op))
 Sees p looks.Fault = due p ≡ Some (link_end word.Fault)
 Sees p looks.Command = (due p ≡ handled_first p) × (is_some (first p.calls) ≡ true) × (p.link.is_up ≡ true)
 
 abbrev pub is_nothing : Look → Bool
 is_nothing looks.Nothing = true
-is_nothing (looks.Read peeked) = false
+is_nothing (looks.Read peeked delivery) = false
 is_nothing looks.Fault = false
 is_nothing looks.Command = false
 

@@ -10,15 +10,15 @@ abbrev pub stands_in : ℕ → List ℕ → Bool
 stands_in ticket [] = false
 stands_in ticket (x ∷ xs) = (ticket == x) || stands_in ticket xs
 
-abbrev pub number_of : ℕ × CallReply → ℕ
-number_of settled = settled.0
+abbrev pub number_settled : ℕ × CallReply → ℕ
+number_settled settled = settled.0
 
-abbrev pub numbers_of : List (ℕ × CallReply) → List ℕ
-numbers_of settled = map number_of settled
+abbrev pub numbers_settled : List (ℕ × CallReply) → List ℕ
+numbers_settled settled = map number_settled settled
 
 -- a ticket has a reply that is to be handed out exactly where it settled and its reply was not handed out
 abbrev pub ReplyOnce : Type 0
 ReplyOnce =
     (c : Config) (h : History) (out : List ℕ) (ticket : ℕ) → StoodThere out (settled_tickets c h)
     → is_some (reply_in ticket (without_all out (settled_tickets c h)))
-    ≡ (stands_in ticket (numbers_of (settled_tickets c h)) && not (stands_in ticket out))
+    ≡ (stands_in ticket (numbers_settled (settled_tickets c h)) && not (stands_in ticket out))

@@ -15,7 +15,7 @@ use Rattle.nats_subs.specs.declared.subs.subscription.Delivery.{Delivery}
 use Rattle.nats_subs.specs.declared.subs.subscription.Delivery.TheVariants.{Put, Dropped, Unwanted, Ignored}
 use Rattle.nats_session.specs.declared.handler.due.Look.{Look}
 use Rattle.nats_session.specs.declared.handler.due.Look.TheVariants as looks
-use Rattle.nats_session.specs.Handler.{Seen, delivery_of}
+use Rattle.nats_session.specs.Handler.{Seen, coming}
 use Rattle.nats_session.specs.Sheet.{Sheet, row_with, write_put, write_step, write_answer, write_events, write_tickets}
 
 -- a handler with these parts, all of whose events and settled tickets were handed out
@@ -97,21 +97,21 @@ write_coming place sid m Dropped sheet = sheet
 write_coming place sid m Unwanted sheet = sheet
 write_coming place sid m Ignored sheet = sheet
 
-abbrev pub write_op : ℕ → Parts → Operation → Sheet → Sheet
-write_op place p (message sid m) sheet = write_coming place sid m (delivery_of p sid) sheet
-write_op place p operation sheet = sheet
+abbrev pub write_op : ℕ → Delivery → Operation → Sheet → Sheet
+write_op place delivery (message sid m) sheet = write_coming place sid m delivery sheet
+write_op place delivery operation sheet = sheet
 
 -- what the step that is due writes before it is played
 abbrev pub write_before : ℕ → Parts → Option Step → Sheet → Sheet
-write_before place p (Some (read operation)) sheet = write_op place p operation sheet
+write_before place p (Some (read operation)) sheet = write_op place (coming p operation) operation sheet
 write_before place p next sheet = sheet
 
 -- the same of a look
-abbrev pub write_look : ℕ → Parts → Look → Sheet → Sheet
-write_look place p (looks.Read peeked) sheet = write_op place p (peeked_view peeked.op) sheet
-write_look place p looks.Nothing sheet = sheet
-write_look place p looks.Fault sheet = sheet
-write_look place p looks.Command sheet = sheet
+abbrev pub write_look : ℕ → Look → Sheet → Sheet
+write_look place (looks.Read peeked delivery) sheet = write_op place delivery (peeked_view peeked.op) sheet
+write_look place looks.Nothing sheet = sheet
+write_look place looks.Fault sheet = sheet
+write_look place looks.Command sheet = sheet
 
 -- the step that is due was played and written with what follows it at once
 abbrev pub Notes : Option Step → ℕ → Parts → Sheet → Seen → Sheet → Type 0

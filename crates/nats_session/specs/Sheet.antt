@@ -9,13 +9,16 @@ use Rattle.nats_history.specs.declared.transcript.LinkWord.TheVariants as word
 use Rattle.nats_history.specs.declared.transcript.LinkRow.{LinkRow}
 use Rattle.nats_history.specs.declared.transcript.SubRow.{SubRow}
 use Rattle.nats_history.specs.declared.transcript.Transcript.{Transcript}
+use Rattle.nats_history.specs.declared.turn.Due.{Due}
+use Rattle.nats_history.specs.declared.turn.Due.TheVariants as due_names
 use Rattle.nats_subs.specs.declared.subs.subscription.Delivery.{Delivery}
 use Rattle.nats_subs.specs.declared.subs.subscription.Delivery.TheVariants.{Put, Dropped, Unwanted, Ignored}
-use Rattle.nats_history.specs.History.{Step, opened, read, taken, accepted, link_end, History, is_up, subscribes, link_text, taken_count, at_place, given, events, grown_tickets, settle_rows, ticket_rows}
+use Rattle.nats_history.specs.History.{Step, opened, read, taken, accepted, link_end, History, is_up, subscribes, link_text, taken_count, at_place, given, events}
+use Rattle.nats_history.specs.Tickets.{grown_tickets, settle_rows, ticket_rows}
 use Rattle.nats_tables.specs.Numbers.{at_number, item_of}
 use Rattle.nats_history.specs.Parts.{Parts, parts_of}
 use Rattle.nats_subs.specs.Delivery.{delivery_at}
-pub use Rattle.nats_draft.specs.Sheet.{Sheet, empty_sheet, row_with, new_row, added, added_ticket, write_settled, write_put, write_drop, write_take, write_due}
+pub use Rattle.nats_draft.specs.Sheet.{Sheet, empty_sheet, row_with, new_row, added, added_ticket, write_settled, write_put, write_drop, write_take}
 use Rattle.nats_history.specs.Transcripts.{Answer, nothing, called, asked, ended_links, sub_rows, take_replies, call_replies}
 
 -- the sheet that the words on a history and the answers give
@@ -53,6 +56,11 @@ rows_written place p (accepted call) rows = if subscribes call then rows ++ new_
 rows_written place p (read (message sid m)) rows =
     write_delivery place sid m (delivery_at p.config (item_of sid p.subs.rows)) rows
 rows_written place p step rows = rows
+
+-- what is written of a step by its name, once it was played
+abbrev pub write_due : ℕ → Due → Sheet → Sheet
+write_due place (due_names.Dropped sid m) sheet = record sheet { subs = at_number sid (write_drop place m) sheet.subs }
+write_due place name sheet = sheet
 
 -- what a step writes at a place but for its events and the tickets that it settles, where these are the parts before it
 abbrev pub write_step : ℕ → Parts → Step → Sheet → Sheet

@@ -7,6 +7,7 @@ mod calls;
 mod drains;
 mod due;
 mod ends;
+mod played;
 mod requests;
 
 pub use due::Look;
@@ -14,11 +15,12 @@ use nats_history::{Call, Config, Event, NoMemory, ServerInfo, Statistics};
 use nats_subs::{Pings, Queue, Subscriptions};
 use nats_tickets::Tickets;
 use nats_wire::Connection;
+pub use played::Played;
 use std::alloc::Global;
 use std::marker::Model;
 
 /// The limit of a payload's size in bytes, with its header block, before any link came up. The crate's default.
-const DEFAULT_MAX_PAYLOAD: u64 = 1_048_576;
+pub const DEFAULT_MAX_PAYLOAD: u64 = 1_048_576;
 
 /// A tick ends the link where so many ticks before it have no answer. The crate's `MAX_PENDING_PINGS`.
 const TICK_LIMIT: u64 = 2;
@@ -82,6 +84,7 @@ impl ConnectionHandler {
     pub fn new(alloc: Global, config: Config) -> Result<ConnectionHandler, NoMemory>
         ensures seen { IfOk result (λ h. h ≡ record { parts = idle config; events = []; ready = [] }) }
         ensures stands { IfOk result (λ h. StandsFor config nothing_handed [] h) }
+        ensures limit { IfOk result (λ h. h.parts.link.max_payload ≡ DEFAULT_MAX_PAYLOAD) }
     {
         Ok(ConnectionHandler {
             config,

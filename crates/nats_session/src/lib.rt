@@ -6,7 +6,7 @@ mod handler;
 pub mod laws;
 mod play;
 
-pub use handler::ConnectionHandler;
+pub use handler::{ConnectionHandler, DEFAULT_MAX_PAYLOAD};
 pub use nats_history::{
     Bytes, Call, CallReply, Config, Due, Event, HeaderMap, LinkRow, LinkWord, Message, NoMemory,
     OutboundMessage, RunError, Seq, ServerInfo, Statistics, SubRow, Subject, TakeReply, Token,

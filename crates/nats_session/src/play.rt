@@ -1,19 +1,22 @@
 //! Playing a whole list of turns.
-ghost use Rattle.std.specs.Prelude.{◌≡◌, [], None, OnOk, IfOk, IsTrue};
+ghost use Rattle.std.specs.Prelude.{◌≡◌, ◌++◌, [], None, OnOk, IfOk, IsTrue, length, min, take};
+ghost use Rattle.nats_tables.specs.Numbers.{at_number};
 ghost use Rattle.nats_history.specs.declared.turn.Turn.TheVariants as turns;
 ghost use Rattle.nats_history.specs.Schedule.{due};
 ghost use Rattle.nats_history.specs.Transcripts.{Plays};
-ghost use Rattle.nats_session.specs.Handler.{can_play, end_in, idle, Sees, is_nothing};
-ghost use Rattle.nats_session.specs.Sheet.{empty_sheet, write_events, write_tickets, finished};
+ghost use Rattle.nats_session.specs.Handler.{can_play, end_in, idle, played_name, Sees, is_nothing};
+ghost use Rattle.nats_session.specs.Sheet.{empty_sheet, write_due, write_events, write_take, write_tickets, finished};
 ghost use Rattle.nats_session.specs.Machine.{quiet, own_parts, own_sheet, settled_parts, settled_sheet, turn_parts, turn_sheet, write_look, write_end, Notes};
 ghost use Rattle.nats_history.specs.declared.transcript.RunError.TheVariants as refused;
 ghost use Rattle.nats_session.specs.Playing.{PlaysTo};
 
-use crate::handler::{ConnectionHandler, Look};
-use nats_draft::{Draft, Note};
+use crate::handler::{ConnectionHandler, Look, Played};
+use nats_draft::Draft;
 use nats_history::refusals::takes_ticket;
-use nats_history::{Call, Config, LinkWord, NoMemory, RunError, ServerInfo, Transcript, Turn};
-use nats_subs::Delivery;
+use nats_history::{
+    Bytes, Call, Config, LinkWord, NoMemory, RunError, ServerInfo, TakeReply, Transcript, Turn,
+};
+use nats_subs::{BoxedReply, Delivery, Taken};
 use nats_wire::PeekedOp;
 use std::alloc::Global;
 
@@ -40,7 +43,7 @@ fn play_piece(
     handler: &mut ConnectionHandler,
     draft: &mut Draft,
     place: u64,
-    bytes: &[u8],
+    bytes: &Bytes,
 ) -> Result<(), NoMemory>
     requires may { IsTrue (can_play handler.old.parts (turns.Piece bytes.now)) }
     requires none { handler.old.events ≡ [] }
@@ -48,8 +51,27 @@ fn play_piece(
     ensures parts { OnOk result (handler.new ≡ quiet (own_parts (turns.Piece bytes.now) handler.old.parts)) }
     ensures sheet { OnOk result (draft.new ≡ own_sheet place (turns.Piece bytes.now) handler.old.parts draft.old) }
 {
-    handler.piece(alloc, bytes)?;
+    handler.shared_piece(alloc, bytes)?;
     note_news(handler, draft, place)
+}
+
+/// The bytes that the link is to take are written down while they wait.
+fn note_took(
+    alloc: Global,
+    handler: &ConnectionHandler,
+    draft: &mut Draft,
+    n: u64,
+) -> Result<(), NoMemory>
+    ensures { OnOk result (draft.new ≡ record draft.old {
+      taken = draft.old.taken
+          ++ take (min n (length handler.now.parts.link.wire.waiting)) handler.now.parts.link.wire.waiting;
+    }) }
+{
+    if handler.pending() == 0 {
+        return Ok(());
+    }
+    let took = handler.copy_waiting(alloc, n)?;
+    draft.note_taken(took.as_slice())
 }
 
 fn play_write(
@@ -65,8 +87,7 @@ fn play_write(
     ensures parts { OnOk result (handler.new ≡ quiet (own_parts (turns.Write n) handler.old.parts)) }
     ensures sheet { OnOk result (draft.new ≡ own_sheet place (turns.Write n) handler.old.parts draft.old) }
 {
-    let took = handler.copy_waiting(alloc, n)?;
-    draft.note_taken(took.as_slice())?;
+    note_took(alloc, handler, draft, n)?;
     handler.written(n);
     note_news(handler, draft, place)
 }
@@ -162,6 +183,24 @@ fn play_call(
     draft.note_call(alloc, place, reply)
 }
 
+/// A take of subscription `sid` was answered so.
+fn note_reply(
+    alloc: Global,
+    draft: &mut Draft,
+    place: u64,
+    sid: u64,
+    taken: Taken,
+) -> Result<(), NoMemory>
+    ensures { OnOk result
+        (draft.new ≡ record draft.old { subs = at_number sid (write_take place taken) draft.old.subs }) }
+{
+    match taken.boxed() {
+        BoxedReply::Message(message) => draft.note_message_taken(alloc, place, sid, message),
+        BoxedReply::Empty => draft.note_take(alloc, place, sid, TakeReply::Empty),
+        BoxedReply::Ended => draft.note_take(alloc, place, sid, TakeReply::Ended),
+    }
+}
+
 fn play_take(
     alloc: Global,
     handler: &mut ConnectionHandler,
@@ -175,8 +214,8 @@ fn play_take(
     ensures parts { OnOk result (handler.new ≡ quiet (own_parts (turns.Take sid) handler.old.parts)) }
     ensures sheet { OnOk result (draft.new ≡ own_sheet place (turns.Take sid) handler.old.parts draft.old) }
 {
-    let reply = handler.take(sid);
-    draft.note(alloc, place, sid, Note::Take(reply))
+    let taken = handler.take_oldest(sid);
+    note_reply(alloc, draft, place, sid, taken)
 }
 
 fn play_deadline(
@@ -210,7 +249,7 @@ fn play_own(
 {
     match turn {
         Turn::Up(info) => play_up(alloc, handler, draft, place, info),
-        Turn::Piece(bytes) => play_piece(alloc, handler, draft, place, bytes.as_slice()),
+        Turn::Piece(bytes) => play_piece(alloc, handler, draft, place, bytes),
         Turn::Write(n) => play_write(alloc, handler, draft, place, *n),
         Turn::Tick => play_tick(alloc, handler, draft, place),
         Turn::Lost => play_lost(alloc, handler, draft, place),
@@ -247,7 +286,18 @@ fn note_settled(handler: &mut ConnectionHandler, draft: &mut Draft, place: u64)
     }
 }
 
-/// Takes over all that waits in the handler to be handed out.
+/// Takes over the events and the settled tickets that wait in the handler.
+fn note_all(handler: &mut ConnectionHandler, draft: &mut Draft, place: u64) -> Result<(), NoMemory>
+    ensures written { OnOk result
+        (draft.new ≡ write_tickets place handler.old.ready (write_events place handler.old.events draft.old)) }
+    ensures handed_out { OnOk result (handler.new ≡ record handler.old { events = []; ready = [] }) }
+{
+    note_events(handler, draft, place)?;
+    note_settled(handler, draft, place);
+    Ok(())
+}
+
+/// The same, at little cost where nothing waits.
 fn note_news(handler: &mut ConnectionHandler, draft: &mut Draft, place: u64) -> Result<(), NoMemory>
     ensures written { OnOk result
         (draft.new ≡ write_tickets place handler.old.ready (write_events place handler.old.events draft.old)) }
@@ -256,9 +306,7 @@ fn note_news(handler: &mut ConnectionHandler, draft: &mut Draft, place: u64) -> 
     if !handler.has_news() {
         return Ok(());
     }
-    note_events(handler, draft, place)?;
-    note_settled(handler, draft, place);
-    Ok(())
+    note_all(handler, draft, place)
 }
 
 /// What a link that ends is to leave is taken down while it is there.
@@ -280,25 +328,29 @@ fn note_end(
 }
 
 /// A message that the step of `look` is to put is written down from the look, so that it is copied once.
-fn note_coming(
-    alloc: Global,
-    handler: &ConnectionHandler,
-    draft: &mut Draft,
-    place: u64,
-    look: &Look,
-) -> Result<(), NoMemory>
-    ensures { OnOk result (draft.new ≡ write_look place handler.now.parts look.now draft.old) }
+fn note_coming(alloc: Global, draft: &mut Draft, place: u64, look: &Look) -> Result<(), NoMemory>
+    ensures { OnOk result (draft.new ≡ write_look place look.now draft.old) }
 {
-    let Look::Read(peeked) = look else {
+    let Look::Read(peeked, delivery) = look else {
         return Ok(());
     };
     match &peeked.op {
-        PeekedOp::Message { sid, message } => match handler.delivery(*sid) {
+        PeekedOp::Message { sid, message } => match delivery {
             Delivery::Put => draft.note_put(alloc, place, *sid, message),
             Delivery::Dropped | Delivery::Unwanted | Delivery::Ignored => Ok(()),
         },
         PeekedOp::Ok | PeekedOp::Info(_) | PeekedOp::Ping | PeekedOp::Pong | PeekedOp::Error(_) =>
             Ok(()),
+    }
+}
+
+/// A message that was dropped is written down, once the step is known to be played.
+fn note_played(alloc: Global, draft: &mut Draft, place: u64, played: Played) -> Result<(), NoMemory>
+    ensures { OnOk result (draft.new ≡ write_due place (played_name played) draft.old) }
+{
+    match played {
+        Played::Dropped(sid, message) => draft.note_drop(alloc, place, sid, message),
+        Played::Put(_) | Played::Nothing | Played::Read | Played::Handled | Played::Ended => Ok(()),
     }
 }
 
@@ -316,10 +368,10 @@ fn play_due(
     ensures { OnOk result (Notes (due handler.old.parts) place handler.old.parts draft.old handler.new draft.new) }
 {
     let end = handler.end_by(&look);
-    note_coming(alloc, handler, draft, place, &look)?;
+    note_coming(alloc, draft, place, &look)?;
     note_end(alloc, handler, draft, end)?;
-    let name = handler.advance_by(alloc, look)?;
-    draft.note_due(alloc, place, name)?;
+    let played = handler.advance_by(alloc, look)?;
+    note_played(alloc, draft, place, played)?;
     note_news(handler, draft, place)
 }
 
@@ -335,6 +387,9 @@ fn settle(
     ensures sheet { OnOk result (draft.new ≡ settled_sheet place handler.old.parts draft.old) }
 {
     'due: loop {
+        if handler.is_at_rest() {
+            return Ok(());
+        }
         let look = handler.look(alloc)?;
         if look.is_nothing() {
             return Ok(());

@@ -1,3 +1,4 @@
+pub mod Boxes
 pub mod Counted
 pub mod Deliveries
 pub mod Ends

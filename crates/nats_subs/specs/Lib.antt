@@ -1,3 +1,4 @@
+pub mod Boxes
 pub mod Delivery
 pub mod Draining
 pub mod Forgetting

@@ -6,7 +6,10 @@ mod drained;
 mod pings;
 mod queue;
 mod subs;
+mod taken;
+mod waiting;
 
 pub use pings::Pings;
 pub use queue::Queue;
 pub use subs::{Alteration, Delivery, Subscriptions};
+pub use taken::{BoxedReply, Taken};

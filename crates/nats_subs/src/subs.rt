@@ -12,7 +12,8 @@ ghost use Rattle.nats_subs.specs.Delivery.{deliver, take_from, delivery_at, youn
 mod subscription;
 
 use crate::drained::Drained;
-use nats_history::{Config, Interest, Message, NoMemory, TakeReply};
+use crate::taken::Taken;
+use nats_history::{Config, Interest, Message, NoMemory};
 use nats_tables::Table;
 use nats_wire::ClientOp;
 use std::alloc::Global;
@@ -249,8 +250,8 @@ impl Subscriptions {
         self.table.try_alter(sid, Arrival { config, message })
     }
 
-    /// The oldest waiting message of a subscription leaves, where one waits.
-    pub fn take(&mut self, sid: u64) -> TakeReply
+    /// The oldest waiting message of a subscription leaves in its box, where one waits.
+    pub fn take(&mut self, sid: u64) -> Taken
         ensures reply { result ≡ take_reply_of (item_of sid self.old.rows) }
         ensures rest { self.new ≡ with_rows (at_number sid (λ sub. kept (take_from sub)) self.old.rows) self.old }
     {

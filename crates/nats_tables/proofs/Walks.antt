@@ -73,19 +73,19 @@ loud_wakes : (b : Bool) (u : ⊤) → unless b ≡ Some u → b ≡ false
 loud_wakes true u loud = absurd (none-some u loud)
 loud_wakes false u loud = refl
 
-module _ {A : Type 0} (overs rests : A → Bool) (gone : A) (given : ℕ) (es : List (ℕ × A)) (ws : List (ℕ × ⊤)) (over_rests : (row : A) → overs row ≡ true → rests row ≡ true)
+module _ {A : Type 0} (overs rests : A → Bool) (gone : A) (given : ℕ) (es : ℕ → Option A) (ws : List (ℕ × ⊤)) (over_rests : (row : A) → overs row ≡ true → rests row ≡ true)
     (keeps : Keeps overs gone given es) (index : Indexes rests es ws) where
   missing_rests : (q : ℕ) → 0 < q → q ≤ given → look q ws ≡ None → rests (row_in gone es q) ≡ true
-  missing_rests q low high none = by (look q es) refl (sym (index q) ∙ none)
+  missing_rests q low high none = by (es q) refl (sym (index q) ∙ none)
     where
-      by : (o : Option A) → look q es ≡ o → woken rests (look q es) ≡ None → rests (row_in gone es q) ≡ true
+      by : (o : Option A) → es q ≡ o → woken rests (es q) ≡ None → rests (row_in gone es q) ≡ true
       by None is quiet = ap (λ o. rests (unwrap_or o gone)) is ∙ over_rests gone (keeps.1 q low high is)
       by (Some row) is quiet = ap (λ o. rests (unwrap_or o gone)) is ∙ quiet_rests (rests row) (sym (ap (woken rests) is) ∙ quiet)
 
   awake_stays : (k : ℕ) (u : ⊤) → look k ws ≡ Some u → (k ≤ given) × (rests (row_in gone es k) ≡ false)
-  awake_stays k u there = by (look k es) refl (keeps.0 k) (sym (index k) ∙ there)
+  awake_stays k u there = by (es k) refl (keeps.0 k) (sym (index k) ∙ there)
     where
-      by : (o : Option A) → look k es ≡ o → IfSome o (Stays overs given k) → woken rests (look k es) ≡ Some u → (k ≤ given) × (rests (row_in gone es k) ≡ false)
+      by : (o : Option A) → es k ≡ o → IfSome o (Stays overs given k) → woken rests (es k) ≡ Some u → (k ≤ given) × (rests (row_in gone es k) ≡ false)
       by None is stays loud = absurd (none-some u (sym (ap (woken rests) is) ∙ loud))
       by (Some row) is stays loud =
           (stays.1, ap (λ o. rests (unwrap_or o gone)) is ∙ loud_wakes (rests row) u (sym (ap (woken rests) is) ∙ loud))
@@ -107,17 +107,17 @@ module _ {A : Type 0} (overs rests : A → Bool) (gone : A) (given : ℕ) (es : 
       ∙ one_awake rests (row_in gone es) (suc n) (given - n) k past (omega (arith, stays.0, past)) stays.1
       (λ q low high. missing_rests q (omega arith) (omega (arith, stays.0, high)) (none q low high))
 
-module _ {A : Type 0} (overs : A → Bool) (gone : A) (given : ℕ) (es : List (ℕ × A)) where
+module _ {A : Type 0} (overs : A → Bool) (gone : A) (given : ℕ) (es : ℕ → Option A) where
   pub tidy_rows : KeepsOnly overs given es → Tidy overs gone (rows_in gone given es)
   tidy_rows keeps = each 1 given
     where
-      at_one : (q : ℕ) (o : Option A) → look q es ≡ o → IfSome o (Stays overs given q) → overs (unwrap_or o gone) ≡ true → unwrap_or o gone ≡ gone
+      at_one : (q : ℕ) (o : Option A) → es q ≡ o → IfSome o (Stays overs given q) → overs (unwrap_or o gone) ≡ true → unwrap_or o gone ≡ gone
       at_one q None is stays over = refl
       at_one q (Some row) is stays over = absurd (false≢true (sym stays.2 ∙ over))
 
       each : (s m : ℕ) → Tidy overs gone (map (row_in gone es) (count_from s m))
       each s zero = tt
-      each s (suc m) = (at_one s (look s es) refl (keeps s), each (suc s) m)
+      each s (suc m) = (at_one s (es s) refl (keeps s), each (suc s) m)
 
 -- ---- a range of the map
 
@@ -125,7 +125,7 @@ none_below : {A : Type 0} (k q : ℕ) (o : Option A) → q < k → (IsSome o →
 none_below k q None less none = refl
 none_below k q (Some row) less none = absurd (false≢true (sym (none refl) ∙ above k q less))
 
-module _ {A : Type 0} (overs rests : A → Bool) (gone : A) (given n : ℕ) (es : List (ℕ × A)) (m : BTreeMap ℕ ⊤) (r : List (ℕ × ⊤)) (over_rests : (row : A) → overs row ≡ true → rests row ≡ true)
+module _ {A : Type 0} (overs rests : A → Bool) (gone : A) (given n : ℕ) (es : ℕ → Option A) (m : BTreeMap ℕ ⊤) (r : List (ℕ × ⊤)) (over_rests : (row : A) → overs row ≡ true → rests row ≡ true)
     (keeps : Keeps overs gone given es) (index : Indexes rests es m.entries) (range : IsRangeOf nat_cmp (Excluded n) Unbounded m r) where
   pub next_none : r ≡ [] → None ≡ first_awake rests (suc n) (drop n (rows_in gone given es))
   next_none is =

@@ -1,2 +1,5 @@
 pub mod Numbers
 pub mod Rows
+pub mod Slots
+pub mod Pages
+pub mod Lent

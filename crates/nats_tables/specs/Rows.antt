@@ -18,13 +18,21 @@ UpdatedAt k w es fs = (q : ℕ) → look q fs ≡ cond (is_at (nat_cmp k) q) w (
 abbrev pub UpdatedIf : {A : Type 0} → Bool → ℕ → Option A → List (ℕ × A) → List (ℕ × A) → Type 0
 UpdatedIf b k w es fs = (q : ℕ) → look q fs ≡ cond (b && is_at (nat_cmp k) q) w (look q es)
 
+-- what is kept of each number is `after`, where it was `before`, but for a number that now has w
+abbrev pub ChangedAt : {A : Type 0} → ℕ → Option A → (before after : ℕ → Option A) → Type 0
+ChangedAt k w before after = (q : ℕ) → after q ≡ cond (is_at (nat_cmp k) q) w (before q)
+
+-- the same where something holds, and else `after` is `before`
+abbrev pub ChangedIf : {A : Type 0} → Bool → ℕ → Option A → (before after : ℕ → Option A) → Type 0
+ChangedIf b k w before after = (q : ℕ) → after q ≡ cond (b && is_at (nat_cmp k) q) w (before q)
+
 -- the row of a number: those that are not kept look alike
-abbrev pub row_in : {A : Type 0} → A → List (ℕ × A) → ℕ → A
-row_in gone es s = unwrap_or (look s es) gone
+abbrev pub row_in : {A : Type 0} → A → (ℕ → Option A) → ℕ → A
+row_in gone kept s = unwrap_or (kept s) gone
 
 -- the rows of all numbers that were given
-abbrev pub rows_in : {A : Type 0} → A → ℕ → List (ℕ × A) → List A
-rows_in gone given es = map (row_in gone es) (count_from 1 given)
+abbrev pub rows_in : {A : Type 0} → A → ℕ → (ℕ → Option A) → List A
+rows_in gone given kept = map (row_in gone kept) (count_from 1 given)
 
 -- a row as it is shown: one that is over is forgotten
 abbrev pub tidied : {A : Type 0} → (A → Bool) → A → A → A
@@ -34,16 +42,16 @@ tidied over gone row = if over row then gone else row
 abbrev pub Stays : {A : Type 0} → (A → Bool) → ℕ → ℕ → A → Type 0
 Stays over given s row = (0 < s) × (s ≤ given) × (over row ≡ false)
 
-abbrev pub KeepsOnly : {A : Type 0} → (A → Bool) → ℕ → List (ℕ × A) → Type 0
-KeepsOnly over given es = (s : ℕ) → IfSome (look s es) (Stays over given s)
+abbrev pub KeepsOnly : {A : Type 0} → (A → Bool) → ℕ → (ℕ → Option A) → Type 0
+KeepsOnly over given kept = (s : ℕ) → IfSome (kept s) (Stays over given s)
 
 -- a number that was given stays in memory, unless rows that are forgotten are over
-abbrev pub KeepsAll : {A : Type 0} → (A → Bool) → A → ℕ → List (ℕ × A) → Type 0
-KeepsAll over gone given es = (s : ℕ) → 0 < s → s ≤ given → look s es ≡ None → over gone ≡ true
+abbrev pub KeepsAll : {A : Type 0} → (A → Bool) → A → ℕ → (ℕ → Option A) → Type 0
+KeepsAll over gone given kept = (s : ℕ) → 0 < s → s ≤ given → kept s ≡ None → over gone ≡ true
 
 -- what a table keeps: rows of given numbers that are not over, and all of them
-abbrev pub Keeps : {A : Type 0} → (A → Bool) → A → ℕ → List (ℕ × A) → Type 0
-Keeps over gone given es = KeepsOnly over given es × KeepsAll over gone given es
+abbrev pub Keeps : {A : Type 0} → (A → Bool) → A → ℕ → (ℕ → Option A) → Type 0
+Keeps over gone given kept = KeepsOnly over given kept × KeepsAll over gone given kept
 
 -- what an index has of what is kept of a number: nothing where that rests
 abbrev pub woken : {A : Type 0} → (A → Bool) → Option A → Option ⊤
@@ -51,8 +59,8 @@ woken rests None = None
 woken rests (Some row) = if rests row then None else Some tt
 
 -- an index of the rows that do not rest
-abbrev pub Indexes : {A : Type 0} → (A → Bool) → List (ℕ × A) → List (ℕ × ⊤) → Type 0
-Indexes rests es ws = (s : ℕ) → look s ws ≡ woken rests (look s es)
+abbrev pub Indexes : {A : Type 0} → (A → Bool) → (ℕ → Option A) → List (ℕ × ⊤) → Type 0
+Indexes rests kept ws = (s : ℕ) → look s ws ≡ woken rests (kept s)
 
 -- the row of a number, where one that was not given looks like one that is forgotten
 abbrev pub row_at : {A : Type 0} → A → ℕ → List A → A

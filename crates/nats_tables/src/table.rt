@@ -2,8 +2,10 @@
 ghost use Rattle.std.specs.Prelude.{◌≡◌, ◌++◌, [], ◌∷◌, Bool, true, false, length, drop, suc, OnOk, OnErr, IfOk, Some, None};
 ghost use Rattle.std.specs.Option.{option_copied};
 ghost use Rattle.nats_tables.specs.Numbers.{item_of, at_number};
-ghost use Rattle.nats_tables.specs.Rows.{row_at, kept_row, tidied, first_awake, Tidy, UpdatedAt, UpdatedIf};
+ghost use Rattle.nats_tables.specs.Rows.{row_at, kept_row, tidied, first_awake, Tidy, UpdatedIf, ChangedIf};
+ghost use Rattle.nats_tables.specs.Pages.{row_of, given_in};
 
+use crate::pages::Pages;
 use nats_names::NoMemory;
 use std::alloc::Global;
 use std::collections::BTreeMap;
@@ -86,38 +88,47 @@ pub trait TryChange<T: Row> {
 }
 
 /// Rows by their numbers, from 1. Contracts see all rows that got a number, in the order of their numbers; in
-/// memory are those that are not over, and once more the numbers of those that do not rest. A call costs at most
-/// the logarithm of what is in memory. Our own; the crate has a `HashMap`.
+/// memory are those that are not over, in pages of `PAGE_ROWS` successive numbers, and once more the numbers of
+/// those that do not rest. A page without a row is given back, but for the newest: so a page with one row that stays
+/// takes the memory of a whole page at most. A call costs at most the logarithm of what is in memory, and one of the
+/// newest page less. Our own; the crate has a `HashMap`.
 #[derive(Drop)]
 pub struct Table<T: Row> {
     given: u64,
-    kept: BTreeMap<u64, T>,
+    kept: Pages<T>,
     awake: BTreeMap<u64, ()>,
 }
 
 impl<T: Row> Model for Table<T> {
-    ghost use Rattle.std.specs.Prelude.{List};
+    ghost use Rattle.std.specs.Prelude.{◌≡◌, List};
     ghost use Rattle.nats_tables.specs.Rows.{rows_in, Keeps, Indexes};
+    ghost use Rattle.nats_tables.specs.Pages.{row_of, given_in};
 
     ghost Value = { List T };
 
-    ghost view = { λ t. rows_in T.forgotten t.given t.kept.entries };
+    ghost view = { λ t. rows_in T.forgotten t.given (row_of t.kept) };
 
-    ghost invariant = { λ t. Keeps T.over T.forgotten t.given t.kept.entries
-        × Indexes T.rests t.kept.entries t.awake.entries };
+    ghost invariant = { λ t. Keeps T.over T.forgotten t.given (row_of t.kept)
+        × Indexes T.rests (row_of t.kept) t.awake.entries
+        × (given_in t.kept ≡ t.given) };
 }
 
-fn forget<V: Drop>(map: &mut BTreeMap<u64, V>, number: u64)
-    ensures { UpdatedAt number None map.old.entries map.new.entries }
-{
-    let _ = map.remove(&number);
-}
-
-fn forget_if<V: Drop>(map: &mut BTreeMap<u64, V>, number: u64, goes: bool)
-    ensures { UpdatedIf goes number None map.old.entries map.new.entries }
+#[inline(always)]
+fn forget_if<T: Drop>(kept: &mut Pages<T>, number: u64, goes: bool)
+    ensures rows { ChangedIf goes number None (row_of kept.old) (row_of kept.new) }
+    ensures given { given_in kept.new ≡ given_in kept.old }
 {
     if goes {
-        forget(map, number);
+        kept.forget(number);
+    }
+}
+
+#[inline(always)]
+fn rest_if(awake: &mut BTreeMap<u64, ()>, number: u64, rests: bool)
+    ensures { UpdatedIf rests number None awake.old.entries awake.new.entries }
+{
+    if rests {
+        let _ = awake.remove(&number);
     }
 }
 
@@ -141,7 +152,7 @@ impl<T: Row> Table<T> {
     {
         Table {
             given: 0,
-            kept: BTreeMap::new(alloc),
+            kept: Pages::new(alloc),
             awake: BTreeMap::new(alloc),
         }
     }
@@ -168,8 +179,8 @@ impl<T: Row> Table<T> {
         };
         let is_awake = !row.is_resting();
         wake_if(&mut self.awake, number, is_awake)?;
-        let Ok(_) = self.kept.insert(number, row) else {
-            forget_if(&mut self.awake, number, is_awake);
+        let Ok(()) = self.kept.push(row) else {
+            rest_if(&mut self.awake, number, is_awake);
             return Err(NoMemory);
         };
         self.given = number;
@@ -180,7 +191,7 @@ impl<T: Row> Table<T> {
     pub fn item(&self, number: u64) -> Option<&T>
         ensures { option_copied result ≡ kept_row T.over (item_of number self.now) }
     {
-        self.kept.get(&number)
+        self.kept.get(number)
     }
 
     /// The first number above this one whose row does not rest, so that those can be gone through in order; `None`
@@ -209,13 +220,13 @@ impl<T: Row> Table<T> {
             ≡ at_number number (λ row. tidied T.over T.forgotten (C.changes change.now row)) self.old }
         ensures answer { result ≡ C.answers change.now (row_at T.forgotten number self.old) }
     {
-        let Some(row) = self.kept.get_mut(&number) else {
+        let Some(row) = self.kept.get_mut(number) else {
             return change.refuse();
         };
         let answer = change.change(row);
         let rests = row.is_resting();
         let over = row.is_over();
-        forget_if(&mut self.awake, number, rests);
+        rest_if(&mut self.awake, number, rests);
         forget_if(&mut self.kept, number, over);
         answer
     }
@@ -235,13 +246,13 @@ impl<T: Row> Table<T> {
         ensures answer { IfOk result (λ a. a ≡ C.answers change (row_at T.forgotten number self.old)) }
         ensures err { OnErr result (self.new ≡ self.old) }
     {
-        let Some(row) = self.kept.get_mut(&number) else {
+        let Some(row) = self.kept.get_mut(number) else {
             return Ok(change.refuse());
         };
         let answer = change.try_change(row)?;
         let rests = row.is_resting();
         let over = row.is_over();
-        forget_if(&mut self.awake, number, rests);
+        rest_if(&mut self.awake, number, rests);
         forget_if(&mut self.kept, number, over);
         Ok(answer)
     }

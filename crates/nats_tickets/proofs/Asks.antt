@@ -4,7 +4,6 @@ use Rattle.std.specs.Option.{option_map}
 use Rattle.std.specs.Map.{remove_entry}
 use Rattle.nats_history.specs.Queue.{first}
 use Rattle.std.specs.BTreeMap.{is_at, insert_entry}
-use Rattle.std.specs.Cmp.Lexicographic.{slice_cmp}
 use Rattle.std.specs.Str.{bytes_eq}
 use Rattle.std.specs.List.{AllByRecursion}
 use Rattle.std.specs.List.Sorted.{IsStrictlySortedBy}
@@ -17,7 +16,7 @@ use Rattle.std.proofs.lemmas.Map.Text.{is_eq-slice_cmp}
 use Rattle.std.proofs.lemmas.Slice.Eq.{bytes_eq-Decides}
 use Rattle.nats_tables.specs.Rows.{look, UpdatedAt}
 use Rattle.nats_tables.proofs.Tables.{at_same, at_apart}
-use Rattle.nats_history.specs.History.{request_at, requests_elsewhere, waits_for_reply, requests_but, ticket_in}
+use Rattle.nats_history.specs.Tickets.{request_at, requests_elsewhere, waits_for_reply, requests_but, ticket_in}
 use Rattle.nats_tickets.specs.Asking.{is_it, find, found_but, AllBelow, AllUnder, Indexed, but_if, gone_at, found_but_if}
 use Rattle.nats_tickets.specs.Kept.{one_if, bit}
 

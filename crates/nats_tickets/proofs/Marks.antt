@@ -5,7 +5,7 @@ use Rattle.nats_history.specs.declared.call.CallReply.{CallReply}
 use Rattle.nats_history.specs.declared.call.CallReply.TheVariants.{Flushed, FlushFailed, Dropped}
 use Rattle.nats_history.specs.declared.waits.Waits.{Waits}
 use Rattle.nats_history.specs.declared.waits.Waits.TheVariants as waits
-use Rattle.nats_history.specs.History.{Awaits, Tickets, flushed_by, nearer, left_by, ticket_of, ticket_in, replied, waits_dropped, queue_dropped}
+use Rattle.nats_history.specs.Tickets.{Awaits, Tickets, flushed_by, nearer, left_by, ticket_of, ticket_in, replied, waits_dropped, queue_dropped}
 use Rattle.nats_tickets.specs.declared.flushes.Mark.{Mark}
 use Rattle.nats_tickets.specs.Kept.{Kept, awaits, tickets_of, push_all, passed, failed, dropped, pending_of, pending}
 

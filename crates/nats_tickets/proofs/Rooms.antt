@@ -1,13 +1,13 @@
 -- The room of tickets that are unsettled, and places among the calls that wait.
 use Rattle.std.specs.Prelude.{slice_index_or, slice_set}
-use Rattle.std.proofs.Common.{◌≡◌, ℕ, zero, suc, ◌+◌, ◌-◌, ◌≤◌, ◌<◌, Bool, true, false, ◌||◌, List, [], ◌∷◌, ◌++◌, length, drop, Option, Some, None, refl, sym, ◌∙◌, ap, arith}
+use Rattle.std.proofs.Common.{◌≡◌, ℕ, zero, suc, ◌+◌, ◌≤◌, ◌<◌, Bool, true, false, ◌||◌, List, [], ◌∷◌, length, drop, Some, refl, sym, ◌∙◌, ap, arith}
 use Rattle.std.proofs.lemmas.Option.{none-some, same_Some}
 use Rattle.nats_tables.specs.Numbers.{at_index, at_number, item_of}
 use Rattle.nats_tables.proofs.Numbers.{at_index_past}
 use Rattle.nats_history.specs.declared.waits.Waits.{Waits}
 use Rattle.nats_history.specs.declared.waits.Waits.TheVariants as waits
 use Rattle.nats_history.specs.Queue.{first}
-use Rattle.nats_history.specs.History.{waits_late, is_waiting_request}
+use Rattle.nats_history.specs.Tickets.{waits_late, is_waiting_request}
 use Rattle.nats_tickets.specs.Kept.{bit, pending_of, pending}
 
 pub first_there : (qs : List Waits) (next : Waits) → first qs ≡ Some next → (length qs ≡ suc (length (drop 1 qs))) × (pending qs ≡ pending_of next + pending (drop 1 qs))

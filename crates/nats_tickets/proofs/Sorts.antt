@@ -1,9 +1,9 @@
 -- Kinds of tickets, told by runs.
-use Rattle.std.proofs.Common.{◌≡◌, map, ℕ, suc, ◌+◌, ◌<◌, ◌≤◌, ◌-◌, zero, Bool, true, false, cond, nat_lt, List, [], ◌∷◌, ◌++◌, length, Option, Some, None, refl, sym, ◌∙◌, ap, subst, arith, ◌⊎◌, inl, inr}
+use Rattle.std.proofs.Common.{◌≡◌, ℕ, suc, ◌<◌, ◌≤◌, ◌-◌, zero, Bool, true, false, cond, nat_lt, List, [], ◌∷◌, ◌++◌, length, refl, sym, ◌∙◌, ap, subst, arith, inl, inr}
 use Rattle.std.proofs.lemmas.Bool.{lt-ltb, le-ltb, ltb-true}
 use Rattle.std.specs.Prelude.{slice_index_or}
 use Rattle.std.specs.List.Sorted.{IsPartitionedBy, IsPartitionPoint}
-use Rattle.nats_tables.specs.Numbers.{count_from, item_of}
+use Rattle.nats_tables.specs.Numbers.{item_of}
 use Rattle.nats_tables.proofs.Numbers.{one_more, same_up_to, item_there, item_missing}
 use Rattle.nats_history.specs.Schedule.{is_of_request}
 use Rattle.nats_tickets.specs.declared.kinds.Run.{Run}

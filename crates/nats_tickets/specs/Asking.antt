@@ -4,7 +4,7 @@ use Rattle.std.specs.Ordering.{nat_cmp}
 use Rattle.std.specs.Map.{lookup}
 use Rattle.std.specs.BTreeMap.{is_at}
 use Rattle.std.specs.Cmp.Lexicographic.{slice_cmp}
-use Rattle.nats_history.specs.History.{requests_but}
+use Rattle.nats_history.specs.Tickets.{requests_but}
 use Rattle.nats_tables.specs.Rows.{look}
 
 -- whether two subjects are one

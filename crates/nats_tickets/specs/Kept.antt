@@ -9,7 +9,8 @@ use Rattle.nats_history.specs.declared.waits.Waits.{Waits}
 use Rattle.nats_history.specs.declared.waits.Waits.TheVariants as waits
 use Rattle.nats_history.specs.Queue.{first}
 use Rattle.nats_tables.specs.Numbers.{at_number}
-use Rattle.nats_history.specs.History.{Step, Awaits, Tickets, no_tickets, flushed_by, left_by, flush_handled, flush_settled, request_handled, displaced, requests_elsewhere, request_at, requests_but, waits_late, is_unsettled, request_reply, ticket_of, ticket_in, replied, replied_if, queue_dropped, tickets_after, settles}
+use Rattle.nats_history.specs.History.{Step}
+use Rattle.nats_history.specs.Tickets.{Awaits, Tickets, no_tickets, flushed_by, left_by, flush_handled, flush_settled, request_handled, displaced, requests_elsewhere, request_at, requests_but, waits_late, is_unsettled, request_reply, ticket_of, ticket_in, replied, replied_if, queue_dropped, tickets_after, settles}
 use Rattle.nats_tickets.specs.declared.flushes.Mark.{Mark}
 
 -- the tickets, and the settled ones that were not handed out, each with its reply, in the order in which they were

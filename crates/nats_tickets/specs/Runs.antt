@@ -1,5 +1,5 @@
 -- Kinds told by number, as runs of one kind.
-use Rattle.std.specs.Prelude.{◌≡◌, ◌<◌, ◌≤◌, ℕ, Bool, true, false, ◌⊎◌, ◌++◌, nat_lt, List, [], ◌∷◌, map, if◌then◌else◌}
+use Rattle.std.specs.Prelude.{◌≡◌, ◌<◌, ◌≤◌, ℕ, Bool, false, ◌⊎◌, ◌++◌, nat_lt, List, [], ◌∷◌, map, if◌then◌else◌}
 use Rattle.nats_tables.specs.Numbers.{count_from}
 use Rattle.nats_tickets.specs.declared.kinds.Run.{Run}
 

@@ -6,7 +6,7 @@ ghost use Rattle.std.specs.Map.{keys_of, remove_entry};
 ghost use Rattle.std.specs.BTreeMap.{is_at, insert_entry};
 ghost use Rattle.std.specs.List.Sorted.{IsStrictlySortedBy};
 ghost use Rattle.nats_history.specs.Queue.{first};
-ghost use Rattle.nats_history.specs.History.{request_at, requests_elsewhere, waits_for_reply, requests_but, ticket_in};
+ghost use Rattle.nats_history.specs.Tickets.{request_at, requests_elsewhere, waits_for_reply, requests_but, ticket_in};
 ghost use Rattle.nats_tables.specs.Rows.{look, UpdatedAt};
 ghost use Rattle.nats_tickets.specs.Asking.{AllUnder, is_it, find, found_but, found_but_if, but_if, gone_at};
 

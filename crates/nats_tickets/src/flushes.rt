@@ -2,7 +2,7 @@
 ghost use Rattle.std.specs.Prelude.{◌≡◌, ◌≤◌, ◌+◌, suc, [], ◌++◌, map, OnOk, OnErr};
 ghost use Rattle.std.specs.VecDeque.{deque_len, deque_capacity};
 ghost use Rattle.nats_history.specs.declared.call.CallReply.TheVariants as replies;
-ghost use Rattle.nats_history.specs.History.{awaiting, flushed_at_once, flushed_by, left_by, replied};
+ghost use Rattle.nats_history.specs.Tickets.{awaiting, flushed_at_once, flushed_by, left_by, replied};
 ghost use Rattle.nats_tickets.specs.Kept.{awaits, tickets_of};
 
 use nats_history::{CallReply, NoMemory};

@@ -4,7 +4,7 @@ ghost use Rattle.std.specs.VecDeque.{deque_len, deque_capacity};
 ghost use Rattle.nats_tables.specs.Numbers.{item_of, at_number};
 ghost use Rattle.nats_history.specs.declared.call.CallReply.TheVariants as replies;
 ghost use Rattle.nats_history.specs.declared.waits.Waits.TheVariants as waits;
-ghost use Rattle.nats_history.specs.History.{ticket_in, replied, replied_if, waits_dropped, queue_dropped, waits_late, is_waiting_request, request_reply};
+ghost use Rattle.nats_history.specs.Tickets.{ticket_in, replied, replied_if, waits_dropped, queue_dropped, waits_late, is_waiting_request, request_reply};
 ghost use Rattle.nats_history.specs.Queue.{first};
 ghost use Rattle.nats_history.specs.Schedule.{is_of_request};
 ghost use Rattle.nats_tickets.specs.Kept.{nothing_kept, given_one, renewed, flush_one, request_one, arrived, timed_out, passed, failed, dropped, reply_in, without, one_if, bit, pending_of, pending};

@@ -34,15 +34,20 @@ fn bring_up(
     say(out, "up")
 }
 
+/// A piece of an even length is shared, and another one lent.
 fn feed(
     alloc: Global,
     handler: &mut ConnectionHandler,
     out: &mut Vec<u8>,
-    bytes: &[u8],
+    bytes: &Bytes,
 ) -> Result<(), NoMemory>
     requires { IsTrue (can_play handler.old.parts (turns.Piece bytes.now)) }
 {
-    handler.piece(alloc, bytes)?;
+    if bytes.len() % 2 == 0 {
+        handler.shared_piece(alloc, bytes)?;
+    } else {
+        handler.piece(alloc, bytes.as_slice())?;
+    }
     say(out, "fed")
 }
 
@@ -147,7 +152,7 @@ fn play_own(
 {
     match turn {
         Turn::Up(info) => bring_up(alloc, handler, out, info),
-        Turn::Piece(bytes) => feed(alloc, handler, out, bytes.as_slice()),
+        Turn::Piece(bytes) => feed(alloc, handler, out, bytes),
         Turn::Write(n) => write(handler, out, *n),
         Turn::Tick => tick(alloc, handler, out),
         Turn::Lost => lose(alloc, handler, out),

@@ -15,6 +15,8 @@ pub use through::carried_through;
 #[cfg(test)]
 mod bulk_tests;
 #[cfg(test)]
+mod call_rows;
+#[cfg(test)]
 mod core_rows;
 #[cfg(test)]
 mod json_rows;

@@ -172,3 +172,94 @@ fn a_row_that_rests_is_passed_over(rt: HostRuntime) -> Result<(), Fail> {
     assert_eq!(rt; table.next_after(3), None);
     Ok(())
 }
+
+fn give_many(table: &mut Table<Counter>, count: u64) -> Result<(), NoMemory> {
+    for _ in 0..count {
+        table.give(started())?;
+    }
+    Ok(())
+}
+
+fn stop_all(table: &mut Table<Counter>, first: u64, past: u64) {
+    for number in first..past {
+        let _ = table.alter(number, &Stop);
+    }
+}
+
+/// How many of these numbers have a row.
+fn rows_among(table: &Table<Counter>, first: u64, past: u64) -> u64 {
+    let mut count = 0u64;
+    for number in first..past {
+        if table.item(number).is_some() {
+            count = count.saturating_add(1);
+        }
+    }
+    count
+}
+
+/// Sets the rows of numbers about the ends of pages, each to its number.
+fn set_about_ends(table: &mut Table<Counter>) -> Result<(), NoMemory> {
+    for number in [1, 2, 63, 64, 65, 66, 127, 128, 129, 130] {
+        let _ = table.try_alter(number, Set { count: number })?;
+    }
+    Ok(())
+}
+
+/// 130 counters are given: those about the ends of pages are set, and each is found by its number, and no other is.
+#[test]
+fn rows_of_several_pages_are_found(rt: HostRuntime) -> Result<(), Fail> {
+    let mut table = Table::new(rt.alloc());
+    give_many(&mut table, 130)?;
+    assert_eq!(rt; table.len(), 130);
+    set_about_ends(&mut table)?;
+    assert_eq!(rt; count_of(&table, 0), None);
+    assert_eq!(rt; count_of(&table, 1), Some(1));
+    assert_eq!(rt; count_of(&table, 62), Some(7));
+    assert_eq!(rt; count_of(&table, 63), Some(63));
+    assert_eq!(rt; count_of(&table, 64), Some(64));
+    assert_eq!(rt; count_of(&table, 65), Some(65));
+    assert_eq!(rt; count_of(&table, 67), Some(7));
+    assert_eq!(rt; count_of(&table, 127), Some(127));
+    assert_eq!(rt; count_of(&table, 128), Some(128));
+    assert_eq!(rt; count_of(&table, 129), Some(129));
+    assert_eq!(rt; count_of(&table, 130), Some(130));
+    assert_eq!(rt; count_of(&table, 131), None);
+    Ok(())
+}
+
+/// 129 counters are given, and those of the second page stopped: the others stay, and so do they where another
+/// page loses all but its last row.
+#[test]
+fn a_page_without_a_row_is_given_back(rt: HostRuntime) -> Result<(), Fail> {
+    let mut table = Table::new(rt.alloc());
+    give_many(&mut table, 129)?;
+    stop_all(&mut table, 65, 129);
+    assert_eq!(rt; rows_among(&table, 1, 65), 64);
+    assert_eq!(rt; rows_among(&table, 65, 129), 0);
+    assert_eq!(rt; count_of(&table, 129), Some(7));
+    assert_eq!(rt; table.next_after(64), Some(129));
+    stop_all(&mut table, 1, 64);
+    assert_eq!(rt; rows_among(&table, 1, 130), 2);
+    assert_eq!(rt; count_of(&table, 64), Some(7));
+    assert!(rt; table.alter(65, &Stop));
+    assert!(rt; !table.alter(64, &Stop));
+    assert_eq!(rt; table.next_after(0), Some(129));
+    Ok(())
+}
+
+/// Counters are given and stopped one after another, over several pages, beside one that stays: each is found
+/// while it is there.
+#[test]
+fn rows_come_and_go(rt: HostRuntime) -> Result<(), Fail> {
+    let mut table = Table::new(rt.alloc());
+    table.give(started())?;
+    for number in 2..300u64 {
+        table.give(started())?;
+        assert_eq!(rt; rows_among(&table, 1, number.saturating_add(1)), 2);
+        assert!(rt; !table.alter(number, &Stop));
+        assert!(rt; table.item(number).is_none());
+    }
+    assert_eq!(rt; count_of(&table, 1), Some(7));
+    assert_eq!(rt; table.len(), 299);
+    Ok(())
+}

@@ -38,11 +38,12 @@ fn wait_four(flushes: &mut Tickets) -> Result<(), NoMemory> {
 }
 
 fn settle_by_bytes(alloc: Global, flushes: &mut Tickets) -> Result<bool, NoMemory> {
+    let settled = flushes.has_next();
     let at_once = tells(alloc, flushes, &[1, 1])?;
     flushes.pass(4);
-    let none = tells(alloc, flushes, &[])?;
+    let none = !flushes.has_next() && tells(alloc, flushes, &[])?;
     flushes.pass(1);
-    Ok(at_once && none && tells(alloc, flushes, &[2, 1])?)
+    Ok(settled && at_once && none && tells(alloc, flushes, &[2, 1])?)
 }
 
 fn is_failed(reply: &Option<CallReply>) -> bool {

@@ -63,6 +63,16 @@ impl Connection {
         self.unread.feed(alloc, bytes)
     }
 
+    /// Appends bytes that the server sent, whole, which came in a buffer that may be shared: they are not copied where
+    /// no byte waits to be read, and the payloads of messages are parts of them then. Own call; the crate reads into a
+    /// buffer of its own.
+    pub fn feed_shared(&mut self, alloc: Global, bytes: &Bytes) -> Result<(), NoMemory>
+        ensures ok { OnOk result (self.new ≡ with_fed bytes.now self.old) }
+        ensures err { OnErr result (self.new ≡ self.old) }
+    {
+        self.unread.feed_shared(alloc, bytes)
+    }
+
     /// What stands at the front of the unread bytes, copied; `None` where that is less than an operation. Nothing is
     /// consumed: it is for a caller that must be able to put the operation somewhere first, and then calls `consume`
     /// with the answer's `len`. Own call.

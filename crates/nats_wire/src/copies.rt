@@ -1,5 +1,5 @@
 //! Copies of what was read, which outlive the text.
-ghost use Rattle.std.specs.Prelude.{◌≡◌, ◌+◌, ◌<◌, ◌≤◌, length, IfOk, option_map};
+ghost use Rattle.std.specs.Prelude.{◌≡◌, ◌+◌, ◌<◌, ◌≤◌, length, IfOk, None, option_map};
 ghost use Rattle.nats_info.specs.Fields.{info_at};
 ghost use Rattle.nats_block.specs.Block.{block_of};
 ghost use Rattle.nats_wire.specs.Operations.{info_op, message, with_block, op_view, peeked_view, op_of, whole, sight};
@@ -29,18 +29,36 @@ fn optional(alloc: Global, text: Option<&str>) -> Result<Option<Subject>, NoMemo
     }
 }
 
-fn message(alloc: Global, text: &MessageText<'_>) -> Result<Message, NoMemory>
-    ensures { IfOk result (λ copy. copy ≡ message_view text.now) }
+// A message without headers.
+fn plain(subject: Subject, reply: Option<Subject>, payload: Bytes, length: usize) -> Message
+    ensures { result ≡ record {
+      subject = subject;
+      reply = reply;
+      payload = payload;
+      headers = None;
+      status = None;
+      description = None;
+      length = length;
+    } }
 {
-    Ok(Message {
-        subject: Subject::from_text(alloc, text.subject)?,
-        reply: optional(alloc, text.reply)?,
-        payload: Bytes::copy_from_slice(alloc, text.payload)?,
+    Message {
+        subject,
+        reply,
+        payload,
         headers: None,
         status: None,
         description: None,
-        length: text.length,
-    })
+        length,
+    }
+}
+
+fn message(alloc: Global, text: &MessageText<'_>) -> Result<Message, NoMemory>
+    ensures { IfOk result (λ copy. copy ≡ message_view text.now) }
+{
+    let subject = Subject::from_text(alloc, text.subject)?;
+    let reply = optional(alloc, text.reply)?;
+    let payload = Bytes::copy_from_slice(alloc, text.payload)?;
+    Ok(plain(subject, reply, payload, text.length))
 }
 
 // A subject with the text of `text`, which is shared where it stands at `at`, and else copied.
@@ -55,6 +73,15 @@ fn subject_in(alloc: Global, bytes: &Bytes, at: usize, text: &str) -> Result<Sub
     Subject::from_text(alloc, text)
 }
 
+// The payload of a text that takes the first `len` of some bytes, which it shares.
+fn payload_in(bytes: &Bytes, payload: &[u8], len: usize) -> Result<Bytes, NoMemory>
+    requires { EndsAt bytes.now len payload.now }
+    ensures { IfOk result (λ part. part ≡ payload.now) }
+{
+    let end = len - 2;
+    Ok(bytes.slice(end - payload.len()..end)?)
+}
+
 // The message of a text that takes the first `len` of some bytes, whose first word takes the first `at`. It shares
 // the bytes.
 fn message_in(
@@ -67,17 +94,10 @@ fn message_in(
     requires { EndsAt bytes.now len text.now.payload.now }
     ensures { IfOk result (λ copy. copy ≡ message_view text.now) }
 {
-    let end = len - 2;
-    let payload = bytes.slice(end - text.payload.len()..end)?;
-    Ok(Message {
-        subject: subject_in(alloc, bytes, at, text.subject)?,
-        reply: optional(alloc, text.reply)?,
-        payload,
-        headers: None,
-        status: None,
-        description: None,
-        length: text.length,
-    })
+    let payload = payload_in(bytes, text.payload, len)?;
+    let subject = subject_in(alloc, bytes, at, text.subject)?;
+    let reply = optional(alloc, text.reply)?;
+    Ok(plain(subject, reply, payload, text.length))
 }
 
 fn error(alloc: Global, text: &ErrorText<'_>) -> Result<ServerError, NoMemory>
@@ -223,23 +243,40 @@ pub fn operation_kept(
     }
 }
 
-// The message of a text that takes the first `len` of kept bytes, which it shares where they can be shared.
-fn message_kept(
+// `message_in` of a text without headers, put straight into its box.
+fn boxed_in(
+    alloc: Global,
+    bytes: &Bytes,
+    text: &MessageText<'_>,
+    len: usize,
+) -> Result<Box<Message>, NoMemory>
+    requires { EndsAt bytes.now len text.now.payload.now }
+    ensures { IfOk result (λ copy. copy.value ≡ message_view text.now) }
+{
+    let payload = payload_in(bytes, text.payload, len)?;
+    let subject = subject_in(alloc, bytes, PLAIN, text.subject)?;
+    let reply = optional(alloc, text.reply)?;
+    Ok(Box::new(alloc, plain(subject, reply, payload, text.length))?)
+}
+
+// The message of a text that takes the first `len` of kept bytes, which it shares where they can be shared, in its
+// box.
+fn boxed_kept(
     alloc: Global,
     buf: &InBuf,
     text: &MessageText<'_>,
     len: usize,
-) -> Result<Message, NoMemory>
+) -> Result<Box<Message>, NoMemory>
     requires { EndsAt buf.now len text.now.payload.now }
-    ensures { IfOk result (λ copy. copy ≡ message_view text.now) }
+    ensures { IfOk result (λ copy. copy.value ≡ message_view text.now) }
 {
     match buf.shared() {
-        Some(bytes) => message_in(alloc, bytes, text, len, PLAIN),
-        None => message(alloc, text),
+        Some(bytes) => boxed_in(alloc, bytes, text, len),
+        None => Ok(Box::new(alloc, message(alloc, text)?)?),
     }
 }
 
-// The same as it is handed on before it is consumed, put straight into its box.
+// The same as it is handed on before it is consumed.
 fn message_boxed(
     alloc: Global,
     buf: &InBuf,
@@ -250,7 +287,7 @@ fn message_boxed(
     requires { EndsAt buf.now len text.now.payload.now }
     ensures { IfOk result (λ op. peeked_view op ≡ message sid (message_view text.now)) }
 {
-    let message = Box::new(alloc, message_kept(alloc, buf, text, len)?)?;
+    let message = boxed_kept(alloc, buf, text, len)?;
     Ok(PeekedOp::Message { sid, message })
 }
 

@@ -1,12 +1,19 @@
 //! What the line of a message says.
 ghost use Rattle.std.specs.Prelude.{◌≡◌, ◌≤◌, IfSome, option_map};
 ghost use Rattle.std.specs.Str.Iter.{split_whitespace_rest};
+ghost use Rattle.memchr.specs.Find.{IsFirstByte, is_byte};
 ghost use Rattle.nats_wire.specs.Operations.{number_of, pieces_of, head_with, head_of_pieces, head_of, words_of, with_block_len, header_head_of_words, header_head_of};
 ghost use Rattle.nats_wire.specs.Decoder.{head_view, header_head_view, pieces_from, words_from};
 
 use memchr::memchr;
 use std::str;
 use std::str::SplitWhitespace;
+
+/// Up to this length a text is searched byte by byte. Own choice.
+const SHORT: usize = 24;
+
+/// Below this a number has room for one more digit.
+const SHORT_NUMBER: u64 = 1_000_000_000_000_000_000;
 
 /// A text cut behind its first piece that isn't empty, where pieces stand between spaces.
 #[derive(Clone, Copy)]
@@ -35,17 +42,53 @@ pub struct HeaderHead<'a> {
     pub block_len: usize,
 }
 
+// The number of a text of digits, where it fits whatever the next digit is; `None` tells nothing.
+fn short_number(text: &[u8]) -> Option<u64>
+    ensures { IfSome result (λ n. number_of text.now ≡ Some n) }
+{
+    if text.is_empty() {
+        return None;
+    }
+    let mut n = 0;
+    for i in 0..text.len() {
+        let byte = text[i];
+        if byte < b'0' || b'9' < byte || SHORT_NUMBER <= n {
+            return None;
+        }
+        n = n * 10 + (byte - b'0') as u64;
+    }
+    Some(n)
+}
+
 fn number(text: &str) -> Option<u64>
     ensures { result ≡ number_of text.now }
 {
-    text.parse().ok()
+    match short_number(text.as_bytes()) {
+        Some(n) => Some(n),
+        None => text.parse().ok(),
+    }
+}
+
+// Where the first space stands. A long text is searched many bytes at a time, a short one byte by byte.
+fn first_space(text: &[u8]) -> Option<usize>
+    ensures { IsFirstByte (is_byte 32) text.now result }
+{
+    if text.len() > SHORT {
+        return memchr(b' ', text);
+    }
+    for i in 0..text.len() {
+        if text[i] == b' ' {
+            return Some(i);
+        }
+    }
+    None
 }
 
 fn next_piece(text: &str) -> Option<Piece<'_>>
     ensures { pieces_from result ≡ pieces_of text.now }
 {
     let mut left = text;
-    while let Some(at) = memchr(b' ', left.as_bytes()) {
+    while let Some(at) = first_space(left.as_bytes()) {
         let rest = &left[at + 1..];
         if at > 0 {
             return Some(Piece {

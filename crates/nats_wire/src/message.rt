@@ -1,5 +1,5 @@
 //! Messages as they come in and as they go out.
-ghost use Rattle.std.specs.Prelude.{◌≡◌, IfOk, option_map};
+ghost use Rattle.std.specs.Prelude.{◌≡◌, IfOk, None, option_map};
 
 use nats_header::HeaderMap;
 use nats_names::{Bytes, NoMemory, StatusCode, Subject, Text};
@@ -75,6 +75,35 @@ fn copy_text(alloc: Global, text: &Option<Text>) -> Result<Option<Text>, NoMemor
 impl Message {
     /// An equal message, which shares the bytes.
     pub fn copy(&self, alloc: Global) -> Result<Message, NoMemory>
+        ensures { IfOk result (λ m. m ≡ self.now) }
+    {
+        match (&self.reply, &self.headers, &self.description) {
+            (None, None, None) => self.copy_plain(alloc),
+            _ => self.copy_whole(alloc),
+        }
+    }
+
+    // The same of a message that has no more than a subject and a payload.
+    fn copy_plain(&self, alloc: Global) -> Result<Message, NoMemory>
+        requires reply { self.now.reply ≡ None }
+        requires headers { self.now.headers ≡ None }
+        requires description { self.now.description ≡ None }
+        ensures { IfOk result (λ m. m ≡ self.now) }
+    {
+        let subject = self.subject.copy(alloc)?;
+        let payload = self.payload.clone()?;
+        Ok(Message {
+            subject,
+            reply: None,
+            payload,
+            headers: None,
+            status: self.status,
+            description: None,
+            length: self.length,
+        })
+    }
+
+    fn copy_whole(&self, alloc: Global) -> Result<Message, NoMemory>
         ensures { IfOk result (λ m. m ≡ self.now) }
     {
         Ok(Message {

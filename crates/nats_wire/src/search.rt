@@ -66,8 +66,9 @@ pub fn search<L: Ledger>(buf: &InBuf, from: usize, steps: &mut Steps<L>) -> Foun
     ensures paid { steps.new + untested result.place result.ended buf.now ≤ steps.old + (length buf.now - from) }
     ensures counts { steps.old ≤ steps.new }
 {
+    let bytes = buf.as_slice();
     let mut place = from;
-    while let Some(lf) = memchr(b'\n', &buf.as_slice()[place..]) {
+    while let Some(lf) = memchr(b'\n', &bytes[place..]) {
         let at = place + lf;
         if ends_line(buf, place, at, steps) {
             return Found {

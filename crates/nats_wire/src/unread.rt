@@ -13,7 +13,7 @@ use crate::decode::{self, Sight};
 use crate::front::{Front, front_kept};
 use crate::op::{ServerOp, WireError};
 use crate::search::{Found, NOT_LOOKED, search};
-use nats_names::NoMemory;
+use nats_names::{Bytes, NoMemory};
 use nats_outbuf::{InBuf, Steps};
 use std::alloc::Global;
 use std::marker::{Brand, Model};
@@ -99,6 +99,19 @@ impl Unread {
         Ok(())
     }
 
+    /// The same of bytes in a buffer that may be shared.
+    pub fn feed_shared(&mut self, alloc: Global, bytes: &Bytes) -> Result<(), NoMemory>
+        ensures ok { OnOk result (self.new ≡ record {
+          bytes = self.old.bytes ++ bytes.now;
+          untested = self.old.untested + length bytes.now;
+        }) }
+        ensures err { OnErr result (self.new ≡ self.old) }
+    {
+        self.buf.feed_shared(alloc, bytes)?;
+        self.fed = bytes.len();
+        Ok(())
+    }
+
     /// Takes the first `n` bytes away.
     pub fn advance(&mut self, n: usize)
         requires { n ≤ length self.old.bytes }
@@ -169,7 +182,7 @@ impl Unread {
     // next piece, which is copied then, is at most twice what the last piece had. A short text that begins with no
     // message isn't worth it.
     fn is_worth_sharing(&self) -> bool {
-        if !self.found.ended {
+        if !self.found.ended || self.buf.shared().is_some() {
             return false;
         }
         let bytes = self.buf.as_slice();
@@ -216,6 +229,9 @@ impl Unread {
         ensures same { self.new.bytes ≡ self.old.bytes }
         ensures paid { Paid steps.old self.old.untested steps.new self.new.untested }
     {
+        if self.buf.is_empty() {
+            return;
+        }
         self.search(steps);
         if self.buf.len() > self.fed {
             self.look_into();

@@ -132,3 +132,21 @@ fn the_first_bytes_are_split_off(rt: HostRuntime) -> Result<(), Fail> {
     assert_eq!(rt; left, 2);
     Ok(())
 }
+
+/// Two pieces in buffers of their own, the second behind the first, as one text.
+fn joined_pieces(alloc: Global) -> Result<Bytes, NoMemory> {
+    let mut buf = InBuf::new(alloc);
+    let first = Bytes::copy_from_slice(alloc, b"PING\r\nPO")?;
+    buf.feed_shared(alloc, &first)?;
+    let more = Bytes::copy_from_slice(alloc, b"NG\r\n")?;
+    buf.feed_shared(alloc, &more)?;
+    let len = buf.len();
+    buf.split(alloc, len)
+}
+
+#[test]
+fn pieces_that_are_shared_are_joined(rt: HostRuntime) -> Result<(), Fail> {
+    let text = joined_pieces(rt.alloc())?;
+    assert_eq!(rt; text.as_slice(), b"PING\r\nPONG\r\n".as_slice());
+    Ok(())
+}

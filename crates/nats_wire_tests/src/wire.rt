@@ -140,7 +140,10 @@ fn len_of(peeked: &Result<Option<Peeked>, WireError>) -> Option<usize> {
 // How many bytes stay once the operation at the front is taken, `None` where none stands there.
 fn left_behind_front(alloc: Global, connection: &mut Connection) -> Option<usize> {
     let len = len_of(&connection.peek_op(alloc))?;
-    connection.consume(len.min(connection.unread()));
+    if len > connection.unread() {
+        return None;
+    }
+    connection.consume(len);
     Some(connection.unread())
 }
 
@@ -153,6 +156,23 @@ fn assert_read_at_last_byte<R: Abort>(
     connection.feed(alloc, b"\n")?;
     assert_eq!(rt; left_behind_front(alloc, connection), Some(0));
     Ok(())
+}
+
+fn assert_read_where_shared<R: Abort>(
+    rt: &R,
+    alloc: Global,
+    connection: &mut Connection,
+) -> Result<(), NoMemory> {
+    let piece = Bytes::copy_from_slice(alloc, b"MSG a 1 2\r\nhi\r\n+OK\r\n")?;
+    connection.feed_shared(alloc, &piece)?;
+    assert_eq!(rt; left_behind_front(alloc, connection), Some(5));
+    Ok(())
+}
+
+#[test]
+fn a_piece_that_is_shared_is_read(rt: HostRuntime) -> Result<(), NoMemory> {
+    let mut connection = Connection::new(rt.alloc());
+    assert_read_where_shared(&rt, rt.alloc(), &mut connection)
 }
 
 #[test]

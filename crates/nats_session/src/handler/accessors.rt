@@ -11,7 +11,7 @@ ghost use Rattle.nats_subs.specs.Delivery.{youngest, first_of};
 ghost use Rattle.nats_session.specs.Handler.{can_play, HandsOut, HandsReply, end_in, state_of};
 
 use super::{ConnectionHandler, TICK_LIMIT};
-use nats_history::refusals::{has_group, has_subjects, size_of, subscribes, takes_ticket};
+use nats_history::refusals::{has_group, has_subjects, names, size_of, subscribes, takes_ticket};
 use nats_history::{
     Call, CallReply, Config, Event, LinkWord, Message, NoMemory, ServerInfo, Statistics, Turn,
 };
@@ -67,15 +67,9 @@ impl ConnectionHandler {
     fn may_name(&self, call: &Call) -> bool
         ensures { result ≡ may_name self.now.parts (names call.now) }
     {
-        match call {
-            Call::Publish(_)
-            | Call::Subscribe { .. }
-            | Call::DrainAll
-            | Call::Flush
-            | Call::Request { .. }
-            | Call::Reconnect => true,
-            Call::Unsubscribe(sid) | Call::Limit(sid, _) | Call::Drain(sid) | Call::DropSub(sid) =>
-                self.subs.has(*sid),
+        match names(call) {
+            Some(sid) => self.subs.has(sid),
+            None => true,
         }
     }
 

@@ -16,7 +16,7 @@ use nats_history::{
     Bytes, Call, CallReply, Config, Due, Event, LinkWord, NoMemory, Ping, ServerInfo, TakeReply,
     Waits,
 };
-use nats_subs::{Alteration, Subscriptions};
+use nats_subs::{Alteration, Subscriptions, Taken};
 use nats_wire::{ClientOp, Connection, PIECES_MOST};
 use std::alloc::Global;
 
@@ -110,6 +110,16 @@ impl ConnectionHandler {
         Ok(())
     }
 
+    fn feed_shared(&mut self, alloc: Global, bytes: &Bytes) -> Result<(), NoMemory>
+        requires { IsTrue self.old.parts.link.is_up }
+        ensures ok { OnOk result (self.new ≡ seen_after self.old (fed bytes.now)) }
+        ensures err { OnErr result (self.new ≡ self.old) }
+    {
+        self.connection.feed_shared(alloc, bytes)?;
+        self.connection.look();
+        Ok(())
+    }
+
     /// The link gave these bytes. Its condition is `check` of that turn; `advance` then reads what they complete.
     ///
     /// # Errors
@@ -122,6 +132,22 @@ impl ConnectionHandler {
         ensures err { OnErr result (self.new ≡ self.old) }
     {
         self.feed(alloc, bytes)
+    }
+
+    /// The link gave these bytes, in a buffer that may be shared: `piece` for whoever has one, since messages then
+    /// share it and nothing is copied where no byte waits to be read. Its condition is `check` of that turn. Own
+    /// call.
+    ///
+    /// # Errors
+    ///
+    /// `NoMemory` leaves the session unchanged, and the same call may be made again.
+    pub fn shared_piece(&mut self, alloc: Global, bytes: &Bytes) -> Result<(), NoMemory>
+        requires { IsTrue (can_play self.old.parts (turns.Piece bytes.now)) }
+        ensures ok { OnOk result (self.new ≡ seen_after self.old (fed bytes.now)) }
+        ensures stands { OnOk result (LeadTo self.old (own_steps self.old.parts (turns.Piece bytes.now)) self.new) }
+        ensures err { OnErr result (self.new ≡ self.old) }
+    {
+        self.feed_shared(alloc, bytes)
     }
 
     fn let_go(&mut self, n: u64)
@@ -332,7 +358,8 @@ impl ConnectionHandler {
         self.accept(alloc, call)
     }
 
-    fn take_oldest(&mut self, sid: u64) -> TakeReply
+    /// What `take` does, with the message in its box still.
+    pub(crate) fn take_oldest(&mut self, sid: u64) -> Taken
         ensures reply { result ≡ take_reply self.old.parts sid }
         ensures rest { self.new ≡ seen_after self.old (took sid) }
     {
@@ -348,7 +375,7 @@ impl ConnectionHandler {
         ensures rest { self.new ≡ seen_after self.old (took s) }
         ensures stands { LeadTo self.old (own_steps self.old.parts (turns.Take s)) self.new }
     {
-        self.take_oldest(s)
+        self.take_oldest(s).reply()
     }
 
     fn time_out(&mut self, ticket: u64)
@@ -374,7 +401,8 @@ impl ConnectionHandler {
         ensures wants { OnErr result (IsTrue (is_some (due self.old.parts))) }
     {
         let look = self.look(alloc)?;
-        self.advance_by(alloc, look)
+        let played = self.advance_by(alloc, look)?;
+        Ok(played.due())
     }
 
     /// Plays the one step that is due, with what follows it at once, and names it; `Nothing` exactly where none is

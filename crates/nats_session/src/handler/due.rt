@@ -14,18 +14,19 @@ ghost use Rattle.nats_history.specs.Schedule.{due, due_chain, chain, read_end, p
 ghost use Rattle.nats_history.specs.After.{written, subs_after};
 ghost use Rattle.nats_subs.specs.Delivery.{with_rows, rows_with};
 ghost use Rattle.nats_tickets.specs.Kept.{kept_after};
-ghost use Rattle.nats_session.specs.Handler.{Advances, Sees, counted, read_past, message_past, command_end, seen_handled, is_nothing, handled_first, seen_all, name_of, delivery_of, delivery_name, unwanted_seen, after_message, arrived_seen, come_seen, pong_read, end_in, push_all};
+ghost use Rattle.nats_session.specs.Handler.{Advances, is_at_rest, Sees, counted, read_past, message_past, command_end, seen_handled, is_nothing, handled_first, seen_all, name_of, coming, delivery_of, delivery_name, played_name, unwanted_seen, after_message, arrived_seen, come_seen, pong_read, end_in, push_all};
 
 use super::ConnectionHandler;
 use super::drains::{
     drain, drain_all, forget_draining, note_draining, unsubscribe, write_unsubscribe,
 };
 use super::ends::note_end;
+use super::played::Played;
 use super::requests::{ask, inbox_subject, request_ops};
 use nats_history::refusals::{drains_all, ends_link, is_requested_with};
 use nats_history::statistics::{with_call, with_message};
 use nats_history::{
-    Call, Config, Due, Event, LinkWord, Message, NoMemory, OutboundMessage, Ping, Subject,
+    Call, Config, Event, LinkWord, Message, NoMemory, OutboundMessage, Ping, Subject,
 };
 use nats_subs::{Alteration, Delivery, Pings, Subscriptions};
 use nats_tickets::Tickets;
@@ -40,8 +41,8 @@ const INBOX: u64 = 0;
 pub enum Look {
     /// None.
     Nothing,
-    /// This operation is to be read.
-    Read(Peeked),
+    /// This operation is to be read; where it is a message for a subscription, this becomes of it.
+    Read(Peeked, Delivery),
     /// The bytes at the front are no operation, so the link is to end.
     Fault,
     /// The oldest waiting call is to be handled.
@@ -158,6 +159,13 @@ fn handle_call(
 }
 
 impl ConnectionHandler {
+    /// Whether it takes no look to see that no step is due.
+    pub(crate) fn is_at_rest(&self) -> bool
+        ensures { result ≡ is_at_rest self.now.parts }
+    {
+        !self.is_up || (self.connection.unread() == 0 && self.calls.is_empty())
+    }
+
     /// Tells which step is due. Reading comes first, then the calls that wait.
     pub(crate) fn look(&self, alloc: Global) -> Result<Look, NoMemory>
         ensures sees { IfOk result (λ look. Sees self.now.parts look) }
@@ -170,10 +178,27 @@ impl ConnectionHandler {
             return Ok(self.look_at_calls());
         }
         match self.connection.peek_op(alloc) {
-            Ok(Some(peeked)) => Ok(Look::Read(peeked)),
+            Ok(Some(peeked)) => {
+                let delivery = self.coming(&peeked.op);
+                Ok(Look::Read(peeked, delivery))
+            }
             Ok(None) => Ok(self.look_at_calls()),
             Err(WireError::ReadFault) => Ok(Look::Fault),
             Err(WireError::NoMemory) => Err(NoMemory),
+        }
+    }
+
+    /// What becomes of an operation that is a message for a subscription.
+    fn coming(&self, op: &PeekedOp) -> Delivery
+        ensures { result ≡ coming self.now.parts (peeked_view op.now) }
+    {
+        match op {
+            PeekedOp::Message { sid, .. } => self.delivery(*sid),
+            PeekedOp::Ok
+            | PeekedOp::Info(_)
+            | PeekedOp::Ping
+            | PeekedOp::Pong
+            | PeekedOp::Error(_) => Delivery::Ignored,
         }
     }
 
@@ -196,7 +221,7 @@ impl ConnectionHandler {
         match look {
             Look::Fault => Some(LinkWord::Fault),
             Look::Command => self.command_end(),
-            Look::Read(peeked) => self.read_end(&peeked.op),
+            Look::Read(peeked, _) => self.read_end(&peeked.op),
             Look::Nothing => None,
         }
     }
@@ -236,44 +261,50 @@ impl ConnectionHandler {
     }
 
     /// Plays the step that `look` told of, with what follows it at once, and names it.
-    pub(crate) fn advance_by(&mut self, alloc: Global, look: Look) -> Result<Due, NoMemory>
+    pub(crate) fn advance_by(&mut self, alloc: Global, look: Look) -> Result<Played, NoMemory>
         requires { Sees self.old.parts look }
-        ensures ok { IfOk result (λ name. Advances (due self.old.parts) self.old name self.new) }
+        ensures ok { IfOk result (λ name. Advances (due self.old.parts) self.old (played_name name) self.new) }
         ensures err { OnErr result (self.new ≡ self.old) }
         ensures wants { OnErr result (IsTrue (is_some (due self.old.parts))) }
     {
         match look {
-            Look::Nothing => Ok(Due::Nothing),
-            Look::Read(peeked) => self.handle_server_op(alloc, peeked),
+            Look::Nothing => Ok(Played::Nothing),
+            Look::Read(peeked, delivery) => self.handle_server_op(alloc, peeked, delivery),
             Look::Fault => self.end_faulty(alloc),
             Look::Command => self.handle_command(alloc),
         }
     }
 
     /// Ends the link by a fault.
-    fn end_faulty(&mut self, alloc: Global) -> Result<Due, NoMemory>
+    fn end_faulty(&mut self, alloc: Global) -> Result<Played, NoMemory>
         ensures ok { OnOk result (self.new ≡ seen_all self.old (chain self.old.parts (link_end word.Fault))) }
-        ensures name { IfOk result (λ name. name ≡ due_names.Ended) }
+        ensures name { IfOk result (λ name. played_name name ≡ due_names.Ended) }
         ensures err { OnErr result (self.new ≡ self.old) }
     {
         self.end_with(alloc, LinkWord::Fault)?;
-        Ok(Due::Ended)
+        Ok(Played::Ended)
     }
 
-    fn handle_server_op(&mut self, alloc: Global, peeked: Peeked) -> Result<Due, NoMemory>
+    fn handle_server_op(
+        &mut self,
+        alloc: Global,
+        peeked: Peeked,
+        delivery: Delivery,
+    ) -> Result<Played, NoMemory>
         requires fits { peeked.len ≤ length self.old.parts.link.wire.unread }
         requires up { IsTrue self.old.parts.link.is_up }
         requires front { front self.old.parts.link.wire.unread ≡ got (peeked_view peeked.op) peeked.len }
+        requires coming { delivery ≡ coming self.old.parts (peeked_view peeked.op) }
         ensures ok { OnOk result
             (self.new ≡ seen_all self.old (chain self.old.parts (read (peeked_view peeked.op)))) }
-        ensures name { IfOk result (λ name. name ≡ name_of self.old.parts (read (peeked_view peeked.op))) }
+        ensures name { IfOk result (λ name. played_name name ≡ name_of self.old.parts (read (peeked_view peeked.op))) }
         ensures err { OnErr result (self.new ≡ self.old) }
     {
         let Peeked { op, len } = peeked;
         match op {
             PeekedOp::Message { sid, message } => {
                 let message_len = message.length;
-                let name = self.read_message(alloc, sid, message);
+                let name = self.read_message(alloc, sid, delivery, message);
                 if name.is_ok() {
                     self.message_past(len, message_len);
                 }
@@ -282,34 +313,34 @@ impl ConnectionHandler {
             PeekedOp::Ping => {
                 self.connection.enqueue_write_op(alloc, &ClientOp::Pong)?;
                 self.read_past(len);
-                Ok(Due::Read)
+                Ok(Played::Read)
             }
             PeekedOp::Error(error) => {
                 self.events.push(Event::ServerError(error))?;
                 self.read_past(len);
-                Ok(Due::Read)
+                Ok(Played::Read)
             }
             PeekedOp::Info(info) => {
                 self.note_info(info.lame_duck_mode)?;
                 self.info = Some(info);
                 self.read_past(len);
-                Ok(Due::Read)
+                Ok(Played::Read)
             }
             PeekedOp::Pong => self.read_pong(alloc, len),
             PeekedOp::Ok => {
                 self.read_past(len);
-                Ok(Due::Read)
+                Ok(Played::Read)
             }
         }
     }
 
     /// A PONG answers the oldest PING of the link that none answered.
-    fn read_pong(&mut self, alloc: Global, len: usize) -> Result<Due, NoMemory>
+    fn read_pong(&mut self, alloc: Global, len: usize) -> Result<Played, NoMemory>
         requires fits { len ≤ length self.old.parts.link.wire.unread }
         requires up { IsTrue self.old.parts.link.is_up }
         requires front { front self.old.parts.link.wire.unread ≡ got pong_op len }
         ensures ok { OnOk result (self.new ≡ seen_all self.old (chain self.old.parts (read pong_op))) }
-        ensures name { IfOk result (λ name. name ≡ name_of self.old.parts (read pong_op)) }
+        ensures name { IfOk result (λ name. played_name name ≡ name_of self.old.parts (read pong_op)) }
         ensures err { OnErr result (self.new ≡ self.old) }
     {
         match self.pong_end() {
@@ -317,7 +348,7 @@ impl ConnectionHandler {
             None => {
                 self.answer_ping();
                 self.read_past(len);
-                Ok(Due::Read)
+                Ok(Played::Read)
             }
         }
     }
@@ -333,15 +364,15 @@ impl ConnectionHandler {
     }
 
     /// The session was drained: the link ends.
-    fn end_drained(&mut self, alloc: Global, end: LinkWord) -> Result<Due, NoMemory>
+    fn end_drained(&mut self, alloc: Global, end: LinkWord) -> Result<Played, NoMemory>
         requires { pong_end (first self.old.parts.link.pings) ≡ Some end }
         ensures ok { OnOk result (self.new ≡ seen_all self.old (chain self.old.parts (read pong_op))) }
-        ensures name { IfOk result (λ name. name ≡ name_of self.old.parts (read pong_op)) }
+        ensures name { IfOk result (λ name. played_name name ≡ name_of self.old.parts (read pong_op)) }
         ensures err { OnErr result (self.new ≡ self.old) }
     {
         self.end_with(alloc, end)?;
         self.count_read();
-        Ok(Due::Ended)
+        Ok(Played::Ended)
     }
 
     fn count_read(&mut self)
@@ -385,17 +416,20 @@ impl ConnectionHandler {
         &mut self,
         alloc: Global,
         sid: u64,
+        delivery: Delivery,
         message: Box<Message>,
-    ) -> Result<Due, NoMemory>
+    ) -> Result<Played, NoMemory>
+        requires { delivery ≡ delivery_of self.old.parts sid }
         ensures ok { OnOk result (self.new ≡ come_seen sid message.value self.old) }
-        ensures name { IfOk result (λ name. name ≡ delivery_name sid message.value (delivery_of self.old.parts sid)) }
+        ensures name { IfOk result
+            (λ name. played_name name ≡ delivery_name sid message.value (delivery_of self.old.parts sid)) }
         ensures err { OnErr result (self.new ≡ self.old) }
     {
         if sid == INBOX {
             self.arrive(message);
-            return Ok(Due::Read);
+            return Ok(Played::Read);
         }
-        self.bring_message(alloc, sid, message)
+        self.bring_message(alloc, sid, delivery, message)
     }
 
     fn arrive(&mut self, message: Box<Message>)
@@ -409,29 +443,32 @@ impl ConnectionHandler {
         &mut self,
         alloc: Global,
         sid: u64,
+        delivery: Delivery,
         message: Box<Message>,
-    ) -> Result<Due, NoMemory>
+    ) -> Result<Played, NoMemory>
+        requires { delivery ≡ delivery_of self.old.parts sid }
         ensures ok { OnOk result
             (self.new ≡ after_message sid message.value (delivery_of self.old.parts sid) self.old) }
-        ensures name { IfOk result (λ name. name ≡ delivery_name sid message.value (delivery_of self.old.parts sid)) }
+        ensures name { IfOk result
+            (λ name. played_name name ≡ delivery_name sid message.value (delivery_of self.old.parts sid)) }
         ensures err { OnErr result (self.new ≡ self.old) }
     {
-        match self.delivery(sid) {
+        match delivery {
             Delivery::Put => {
                 self.subs.deliver(&self.config, sid, message)?;
-                Ok(Due::Put(sid))
+                Ok(Played::Put(sid))
             }
             Delivery::Dropped => {
                 self.events.push(Event::SlowConsumer(sid))?;
-                Ok(Due::Dropped(sid, Box::into_inner(message)))
+                Ok(Played::Dropped(sid, message))
             }
             Delivery::Unwanted => {
                 self.end_unwanted(alloc, sid)?;
-                Ok(Due::Read)
+                Ok(Played::Read)
             }
             Delivery::Ignored => {
                 self.subs.deliver(&self.config, sid, message)?;
-                Ok(Due::Read)
+                Ok(Played::Read)
             }
         }
     }
@@ -447,38 +484,40 @@ impl ConnectionHandler {
     }
 
     /// What becomes of a message that comes for the subscription of a number.
-    pub(crate) fn delivery(&self, sid: u64) -> Delivery
+    fn delivery(&self, sid: u64) -> Delivery
         ensures { result ≡ delivery_of self.now.parts sid }
     {
         self.subs.delivery(&self.config, sid)
     }
 
-    fn handle_command(&mut self, alloc: Global) -> Result<Due, NoMemory>
+    fn handle_command(&mut self, alloc: Global) -> Result<Played, NoMemory>
         requires up { IsTrue self.old.parts.link.is_up }
         requires some { IsTrue (is_some (first self.old.parts.calls)) }
-        ensures ok { IfOk result (λ name. Advances (handled_first self.old.parts) self.old name self.new) }
+        ensures ok { IfOk result
+            (λ name. Advances (handled_first self.old.parts) self.old (played_name name) self.new) }
         ensures err { OnErr result (self.new ≡ self.old) }
     {
         match self.command_end() {
             Some(end) => self.handle_last(alloc, end),
             None => {
                 self.handle_next(alloc)?;
-                Ok(Due::Handled)
+                Ok(Played::Handled)
             }
         }
     }
 
     /// Handles a call by which the link ends.
-    fn handle_last(&mut self, alloc: Global, end: LinkWord) -> Result<Due, NoMemory>
+    fn handle_last(&mut self, alloc: Global, end: LinkWord) -> Result<Played, NoMemory>
         requires { command_end (first self.old.parts.calls) ≡ Some end }
-        ensures ok { IfOk result (λ name. Advances (handled_first self.old.parts) self.old name self.new) }
+        ensures ok { IfOk result
+            (λ name. Advances (handled_first self.old.parts) self.old (played_name name) self.new) }
         ensures err { OnErr result (self.new ≡ self.old) }
     {
         let closes = self.closes(end);
         note_end(&mut self.events, end, closes)?;
         self.calls.discard();
         self.leave(alloc, closes);
-        Ok(Due::Ended)
+        Ok(Played::Ended)
     }
 
     fn handle_next(&mut self, alloc: Global) -> Result<(), NoMemory>

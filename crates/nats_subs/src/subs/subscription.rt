@@ -9,8 +9,9 @@ ghost use Rattle.nats_subs.specs.Delivery.{asked_sub, altered, deliver, take_fro
 ghost use Rattle.nats_subs.specs.Draining.{is_drained};
 ghost use Rattle.nats_subs.specs.Forgetting.{rests, over_rests, still, still_rests, rests_on};
 
-use crate::queue::Queue;
-use nats_history::{Config, Interest, Message, NoMemory, Stage, TakeReply};
+use crate::taken::{BoxedReply, Taken};
+use crate::waiting::Waiting;
+use nats_history::{Config, Interest, Message, NoMemory, Stage};
 use nats_tables::{Change, Row, TryChange};
 use nats_wire::ClientOp;
 use std::alloc::Global;
@@ -26,7 +27,7 @@ pub struct Subscription {
     is_draining: bool,
     limit: Option<u64>,
     puts: u64,
-    waiting: Queue<Message>,
+    waiting: Waiting,
 }
 
 impl Model for Subscription {
@@ -134,18 +135,18 @@ impl Change<Subscription> for Alteration {
 pub struct Take;
 
 impl Change<Subscription> for Take {
-    type Answer = TakeReply;
+    type Answer = Taken;
 
     ghost changes = { λ _. take_from };
 
     ghost answers = { λ _. sub_take };
 
-    fn change(&self, row: &mut Subscription) -> TakeReply {
+    fn change(&self, row: &mut Subscription) -> Taken {
         row.take()
     }
 
-    fn refuse(&self) -> TakeReply {
-        TakeReply::Ended
+    fn refuse(&self) -> Taken {
+        Taken::new(BoxedReply::Ended)
     }
 
     ghost leaves_forgotten = { λ c over. refl };
@@ -255,7 +256,7 @@ impl Subscription {
             is_draining: false,
             limit: None,
             puts: 0,
-            waiting: Queue::new(alloc),
+            waiting: Waiting::new(alloc),
         }
     }
 
@@ -312,22 +313,22 @@ impl Subscription {
         if !self.is_open() || self.is_shut || !self.has_room(config) {
             return Ok(());
         }
-        self.waiting.append(Box::into_inner(message))?;
+        self.waiting.push(message)?;
         self.puts = self.puts.saturating_add(1);
         self.stage = ended_if(is_reached(self.limit, self.puts), self.stage);
         Ok(())
     }
 
     /// The oldest waiting message leaves, where one waits.
-    pub fn take(&mut self) -> TakeReply
+    pub fn take(&mut self) -> Taken
         ensures reply { result ≡ sub_take self.old }
         ensures rest { self.new ≡ take_from self.old }
     {
-        match self.waiting.pop() {
-            Some(message) => TakeReply::Message(message),
-            None if self.is_shut || matches!(self.stage, Stage::Ended) => TakeReply::Ended,
-            None => TakeReply::Empty,
-        }
+        Taken::new(match self.waiting.pop() {
+            Some(message) => BoxedReply::Message(message),
+            None if self.is_shut || matches!(self.stage, Stage::Ended) => BoxedReply::Ended,
+            None => BoxedReply::Empty,
+        })
     }
 
     /// Adds the commands that are written of it.
@@ -396,7 +397,7 @@ impl Subscription {
         if self.is_gone {
             return None;
         }
-        self.waiting.back()
+        self.waiting.last()
     }
 
     /// The oldest waiting message.
@@ -406,6 +407,6 @@ impl Subscription {
         if self.is_gone {
             return None;
         }
-        self.waiting.front()
+        self.waiting.first()
     }
 }

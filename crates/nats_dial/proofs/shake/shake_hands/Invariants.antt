@@ -7,8 +7,8 @@ use Rattle.nats_dial.specs.Lines.{Looked, Line}
 use Rattle.nats_dial.specs.Taking.{HasTook}
 use Rattle.nats_dial.proofs.shake.shake_hands.Given as goal
 
-abbrev pub invariant-turns : goal.invariant-turns
-invariant-turns g l = record {
+abbrev pub invariant-exchanges : goal.invariant-exchanges
+invariant-exchanges g l = record {
   looked : Looked (g.C.Clock.clock_told l.initial.clock) (g.C.Clock.clock_told l.clock);
   beside : g.C.Clock.beside_clock l.clock ≡ g.C.Clock.beside_clock l.initial.clock;
   line : (by_scheme : Bool) (start timeout : ℕ) (text wrote : List ℕ) → IsOpen l.initial.shaking.stage

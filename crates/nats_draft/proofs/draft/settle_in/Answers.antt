@@ -1,6 +1,6 @@
 -- One ticket settles, or none where it was not given.
 use Rattle.std.proofs.Common.{sym}
-use Rattle.nats_history.specs.History.{settle_once}
+use Rattle.nats_history.specs.Tickets.{settle_once}
 use Rattle.nats_draft.proofs.Items.{set_with, number_missing}
 use Rattle.nats_draft.proofs.draft.settle_in.Goals as goal
 

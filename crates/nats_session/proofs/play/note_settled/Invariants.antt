@@ -1,6 +1,6 @@
 -- the tickets as they will stand once those that wait are written are those that will
 use Rattle.std.proofs.Common.{◌≡◌, length}
-use Rattle.nats_history.specs.History.{settle_rows}
+use Rattle.nats_history.specs.Tickets.{settle_rows}
 use Rattle.nats_session.proofs.play.note_settled.Given as goal
 
 abbrev pub invariant-ticket : goal.invariant-ticket

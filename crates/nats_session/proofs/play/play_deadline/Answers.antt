@@ -1,6 +1,6 @@
 -- The request of the ticket settled, where it was unsettled.
 use Rattle.nats_history.specs.declared.turn.Turn.TheVariants as turns
-use Rattle.nats_history.specs.History.{is_unsettled}
+use Rattle.nats_history.specs.Tickets.{is_unsettled}
 use Rattle.nats_history.specs.Schedule.{own_steps}
 use Rattle.nats_session.proofs.Handlers.{on_ok_both}
 use Rattle.nats_session.proofs.Chains.{deadline_gives_none, deadline_written, played}

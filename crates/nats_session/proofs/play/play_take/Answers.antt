@@ -5,4 +5,4 @@ use Rattle.nats_session.proofs.play.play_take.Goals as goal
 
 pub returns-clause-parts : goal.returns-clause-parts
 returns-clause-parts c =
-    on_ok_of c.note.result (c.take-reply.ensures.rest ∙ take_quiet c.args.handler.now c.args.sid c.requires.none c.requires.settled c.requires.may)
+    on_ok_of c.note_reply.result (c.take_oldest-taken.ensures.rest ∙ take_quiet c.args.handler.now c.args.sid c.requires.none c.requires.settled c.requires.may)

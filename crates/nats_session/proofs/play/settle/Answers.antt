@@ -1,6 +1,6 @@
 -- Each round plays a due step, until none is due.
 use Rattle.std.proofs.Common.{refl, sym, ◌∙◌}
-use Rattle.nats_session.proofs.Settles.{goes_by}
+use Rattle.nats_session.proofs.Settles.{goes_by, rests_here}
 use Rattle.nats_session.proofs.play.settle.Goals as goal
 
 pub due-smaller : goal.due-smaller
@@ -17,3 +17,13 @@ due-preserved c =
       same_sheet = round.same_sheet ∙ c.due.invariant.same_sheet;
       place = refl;
     }
+
+pub returns-then-is_at_rest-clause-parts : goal.returns-then-is_at_rest-clause-parts
+returns-then-is_at_rest-clause-parts c =
+    (rests_here c.args.place c.args.place c.due.handler c.args.handler.now.parts c.due.draft c.args.draft.now (sym c.is_at_rest.ensures ∙ c.if-is_at_rest.true)
+    c.due.invariant.none c.due.invariant.settled c.due.invariant.same_parts c.due.invariant.same_sheet).0
+
+pub returns-then-is_at_rest-clause-sheet : goal.returns-then-is_at_rest-clause-sheet
+returns-then-is_at_rest-clause-sheet c =
+    (rests_here c.args.place c.args.place c.due.handler c.args.handler.now.parts c.due.draft c.args.draft.now (sym c.is_at_rest.ensures ∙ c.if-is_at_rest.true)
+    c.due.invariant.none c.due.invariant.settled c.due.invariant.same_parts c.due.invariant.same_sheet).1

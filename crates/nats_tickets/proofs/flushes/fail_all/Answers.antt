@@ -1,7 +1,7 @@
 -- One mark after another.
 use Rattle.std.proofs.Common.{◌++◌, ◌∙◌, ap, arith}
 use Rattle.nats_history.specs.declared.call.CallReply.TheVariants as replies
-use Rattle.nats_history.specs.History.{replied}
+use Rattle.nats_history.specs.Tickets.{replied}
 use Rattle.nats_tickets.specs.Kept.{tickets_of}
 use Rattle.nats_tickets.proofs.Marks.{next_failed}
 use Rattle.nats_tickets.proofs.flushes.fail_all.Goals as goal

@@ -2,7 +2,7 @@
 use Rattle.std.proofs.Common.{◌≡◌, ◌≤◌, ◌+◌, ◌++◌, ℕ, length}
 use Rattle.std.specs.VecDeque.{deque_len, deque_capacity}
 use Rattle.nats_history.specs.declared.call.CallReply.TheVariants as replies
-use Rattle.nats_history.specs.History.{replied}
+use Rattle.nats_history.specs.Tickets.{replied}
 use Rattle.nats_tickets.specs.Kept.{tickets_of}
 use Rattle.nats_tickets.proofs.flushes.fail_all.Given as goal
 

@@ -2,7 +2,7 @@
 use Rattle.std.proofs.Common.{◌≡◌, ◌<◌, ◌-◌, ◌++◌, ◌∷◌, drop, length, sym, ◌∙◌, ap, arith, refl, true, false, nat_le}
 use Rattle.std.proofs.lemmas.Bool.{le-leb, lt-leb}
 use Rattle.nats_history.specs.declared.call.CallReply.TheVariants as replies
-use Rattle.nats_history.specs.History.{flushed_by, replied}
+use Rattle.nats_history.specs.Tickets.{flushed_by, replied}
 use Rattle.nats_tickets.proofs.Marks.{seen, first_is, next_left, next_ready, stop_left, stop_ready}
 use Rattle.nats_tickets.proofs.flushes.settle_reached.Goals as goal
 

@@ -2,7 +2,7 @@
 use Rattle.std.proofs.Common.{◌≡◌, ◌≤◌, ◌+◌, ◌++◌, ℕ, length}
 use Rattle.std.specs.VecDeque.{deque_len, deque_capacity}
 use Rattle.nats_history.specs.declared.call.CallReply.TheVariants as replies
-use Rattle.nats_history.specs.History.{flushed_by, left_by, replied}
+use Rattle.nats_history.specs.Tickets.{flushed_by, left_by, replied}
 use Rattle.nats_tickets.proofs.Marks.{seen}
 use Rattle.nats_tickets.proofs.flushes.settle_reached.Given as goal
 

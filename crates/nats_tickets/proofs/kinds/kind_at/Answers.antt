@@ -1,5 +1,5 @@
 -- The runs that begin before the ticket come first.
-use Rattle.std.proofs.Common.{rules, nat_lt, arith}
+use Rattle.std.proofs.Common.{rules, nat_lt}
 use Rattle.std.proofs.lemmas.List.Sorted.{IsPartitionPoint-from_clause}
 use Rattle.nats_tickets.proofs.Sorts.{parted, point_first, point_later}
 use Rattle.nats_tickets.proofs.kinds.kind_at.Goals as goal

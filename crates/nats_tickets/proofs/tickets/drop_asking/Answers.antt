@@ -1,7 +1,7 @@
 -- One request after another.
 use Rattle.std.proofs.Common.{◌++◌, length, map, ◌∙◌, ap, sym, arith}
 use Rattle.nats_history.specs.declared.call.CallReply.TheVariants as replies
-use Rattle.nats_history.specs.History.{replied, ticket_in}
+use Rattle.nats_history.specs.Tickets.{replied, ticket_in}
 use Rattle.nats_tickets.proofs.Asks.{first_asked}
 use Rattle.nats_tickets.proofs.Marks.{next_asked}
 use Rattle.nats_tickets.proofs.tickets.drop_asking.Goals as goal

@@ -2,7 +2,7 @@
 use Rattle.std.proofs.Common.{◌≡◌, ◌≤◌, ◌+◌, ◌++◌, ℕ, length, map}
 use Rattle.std.specs.VecDeque.{deque_len, deque_capacity}
 use Rattle.nats_history.specs.declared.call.CallReply.TheVariants as replies
-use Rattle.nats_history.specs.History.{replied, ticket_in}
+use Rattle.nats_history.specs.Tickets.{replied, ticket_in}
 use Rattle.nats_tickets.proofs.tickets.drop_asking.Given as goal
 
 abbrev pub invariant-asking : goal.invariant-asking

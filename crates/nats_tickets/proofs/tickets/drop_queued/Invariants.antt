@@ -1,7 +1,7 @@
 -- the tickets that are left settle behind those that were settled so far
 use Rattle.std.proofs.Common.{◌≡◌, ◌≤◌, ◌+◌, ◌++◌, suc, ℕ, length}
 use Rattle.std.specs.VecDeque.{deque_len, deque_capacity}
-use Rattle.nats_history.specs.History.{queue_dropped}
+use Rattle.nats_history.specs.Tickets.{queue_dropped}
 use Rattle.nats_tickets.specs.Kept.{pending}
 use Rattle.nats_tickets.proofs.tickets.drop_queued.Given as goal
 

@@ -1,5 +1,5 @@
 -- The call of the place is marked, if there is one.
-use Rattle.std.proofs.Common.{◌≡◌, suc, ◌-◌, ◌∙◌, arith}
+use Rattle.std.proofs.Common.{◌-◌, ◌∙◌, arith}
 use Rattle.nats_tickets.proofs.Rooms.{late_past, late_set, late_asked, asked_past}
 use Rattle.nats_tickets.proofs.tickets.time_out_at.Goals as goal
 

@@ -15,7 +15,7 @@ loop-lf-preserved g c =
     let buf = c.args.buf.now in
     let place = c.loop-lf.place in
     let lf = c.in-Some.lf in
-    let found : IsFirstByte (is_byte 10) (drop place buf) (Some lf) = rw (take_rest c.as_slice.result.now place, c.as_slice.ensures) at c.in-Some.ensures in
+    let found : IsFirstByte (is_byte 10) (drop place buf) (Some lf) = rw (take_rest c.as_slice-bytes.result.now place, c.as_slice-bytes.ensures) at c.in-Some.ensures in
     let fits = lf_fits place lf buf found in (
       omega (arith, fits),
       clear_past place (place + lf) lf buf refl c.if-ends_line.ensures.none found (omega (arith, fits, c.if-at-len.false, c.len.ensures.value)),
@@ -27,16 +27,16 @@ pub returns-clause-looked : goal.returns-clause-looked
 returns-clause-looked g c =
     let buf = c.args.buf.now in
     let place = c.loop-lf.place in
-    let raw : IsFirstByte (is_byte 10) (take (length c.as_slice.result.now - place) (drop place c.as_slice.result.now)) None = c.in_default.ensures in
-    let none = uncut place buf c.loop-lf.invariant.1 (rw (take_rest c.as_slice.result.now place, c.as_slice.ensures) at raw) in
+    let raw : IsFirstByte (is_byte 10) (take (length c.as_slice-bytes.result.now - place) (drop place c.as_slice-bytes.result.now)) None = c.in_default.ensures in
+    let none = uncut place buf c.loop-lf.invariant.1 (rw (take_rest c.as_slice-bytes.result.now place, c.as_slice-bytes.ensures) at raw) in
     let is : c.saturating_sub.result ≡ length buf - 1 = c.saturating_sub.ensures ∙ ap (λ n. n - 1) c.len-2.ensures.value in
     rw is (omega arith, clear_short buf none, tt)
 
 pub returns-clause-none : goal.returns-clause-none
 returns-clause-none g c =
     let place = c.loop-lf.place in
-    let raw : IsFirstByte (is_byte 10) (take (length c.as_slice.result.now - place) (drop place c.as_slice.result.now)) None = c.in_default.ensures in
-    uncut place c.args.buf.now c.loop-lf.invariant.1 (rw (take_rest c.as_slice.result.now place, c.as_slice.ensures) at raw)
+    let raw : IsFirstByte (is_byte 10) (take (length c.as_slice-bytes.result.now - place) (drop place c.as_slice-bytes.result.now)) None = c.in_default.ensures in
+    uncut place c.args.buf.now c.loop-lf.invariant.1 (rw (take_rest c.as_slice-bytes.result.now place, c.as_slice-bytes.ensures) at raw)
 
 pub returns-clause-paid : goal.returns-clause-paid
 returns-clause-paid g c =

@@ -6,13 +6,13 @@ use Rattle.nats_session.proofs.handler.ConnectionHandler.bring_message.Goals as 
 
 pub returns-in_ok-deliver-in-Put-clause-ok : goal.returns-in_ok-deliver-in-Put-clause-ok
 returns-in_ok-deliver-in-Put-clause-ok c =
-    delivered _ c.args.self.now c.args.sid c.args.message.value c.deliver.new.self Put c.self.view_is c.in_ok-deliver-in-Put.ensures.ok (sym c.delivery.ensures ∙ c.in-Put.is) refl
+    delivered _ c.args.self.now c.args.sid c.args.message.value c.deliver.new.self Put c.self.view_is c.in_ok-deliver-in-Put.ensures.ok (sym c.requires ∙ c.in-Put.is) refl
 
 pub returns-in_ok-deliver-in-Ignored-clause-ok : goal.returns-in_ok-deliver-in-Ignored-clause-ok
 returns-in_ok-deliver-in-Ignored-clause-ok c =
-    delivered _ c.args.self.now c.args.sid c.args.message.value c.deliver-in-Ignored.new.self Ignored c.self.view_is c.in_ok-deliver-in-Ignored.ensures.ok (sym c.delivery.ensures ∙ c.in-Ignored.is) refl
+    delivered _ c.args.self.now c.args.sid c.args.message.value c.deliver-in-Ignored.new.self Ignored c.self-in-Ignored.view_is c.in_ok-deliver-in-Ignored.ensures.ok (sym c.requires ∙ c.in-Ignored.is) refl
 
 pub returns-in_ok-push-in-Dropped-clause-ok : goal.returns-in_ok-push-in-Dropped-clause-ok
 returns-in_ok-push-in-Dropped-clause-ok c =
-    dropped_one _ c.args.self.now c.args.sid c.args.message.value c.push.new.self c.self.view_is
-    (sym c.delivery.ensures ∙ c.in-Dropped.is) c.in_ok-push-in-Dropped.ensures.ok
+    dropped_one _ c.args.self.now c.args.sid c.args.message.value c.push.new.self c.self-in-Dropped.view_is
+    (sym c.requires ∙ c.in-Dropped.is) c.in_ok-push-in-Dropped.ensures.ok

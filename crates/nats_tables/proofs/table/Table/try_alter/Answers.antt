@@ -1,8 +1,10 @@
 -- One that is not kept stays so, and one that is kept was changed.
-use Rattle.std.proofs.Common.{rules, ◌≡◌, sym, ◌∙◌, ap, Some, None}
+use Rattle.std.proofs.Common.{◌≡◌, true, sym, ◌∙◌, ap, Some, None}
 use Rattle.std.specs.Option.{option_copied_mut}
 use Rattle.nats_tables.specs.Numbers.{at_number}
-use Rattle.nats_tables.specs.Rows.{look, rows_in, row_at, tidied}
+use Rattle.nats_tables.specs.Rows.{rows_in, row_at, tidied}
+use Rattle.nats_tables.specs.Pages.{row_of}
+use Rattle.nats_tables.proofs.Changes.{on_some, on_err, keeps_changed, index_changed, put_again, keeps_same, index_same, rows_same}
 use Rattle.nats_tables.proofs.Tables.{rows_missing, rows_altered, row_missing, row_kept}
 use Rattle.nats_tables.proofs.table.Table.try_alter.Goals as goal
 
@@ -10,23 +12,66 @@ pub returns-in_default-clause-ok : goal.returns-in_default-clause-ok
 returns-in_default-clause-ok g c =
     let gone = g.T.Row.forgotten in
     let f = λ (row : g.row.T.Denot). tidied g.T.Row.over gone (g.C.TryChange.changes c.args.change row) in
-    let none : look c.args.number c.self.inside.kept.entries ≡ None = sym c.get_mut.ensures.value ∙ ap option_copied_mut c.in_default.is in
-    ap (λ m. rows_in gone c.self.inside.given m.entries) c.get_mut.follows.holds-at-none ∙ (rows_missing g.T.Row.over gone c.self.inside.given c.args.number c.self.inside.kept.entries f c.self.invariant.0.1 none (g.met.C.TryChange.leaves_forgotten c.args.change) ∙ ap (at_number c.args.number f) c.self.view_is)
+    let none : row_of c.self.inside.kept c.args.number ≡ None = sym c.get_mut.ensures.value ∙ ap option_copied_mut c.in_default.is in
+    ap (λ m. rows_in gone c.self.inside.given (row_of m)) c.get_mut.follows.holds-at-none ∙ (rows_missing g.T.Row.over gone c.self.inside.given c.args.number (row_of c.self.inside.kept) f c.self.invariant.0.1 none (g.met.C.TryChange.leaves_forgotten c.args.change) ∙ ap (at_number c.args.number f) c.self.view_is)
 
 pub returns-in_default-clause-answer : goal.returns-in_default-clause-answer
 returns-in_default-clause-answer g c =
-    let none : look c.args.number c.self.inside.kept.entries ≡ None = sym c.get_mut.ensures.value ∙ ap option_copied_mut c.in_default.is in
-    c.refuse.ensures ∙ ap (g.C.TryChange.answers c.args.change) (sym (row_missing g.T.Row.over g.T.Row.forgotten c.self.inside.given c.self.inside.kept.entries c.args.number none) ∙ ap (row_at g.T.Row.forgotten c.args.number) c.self.view_is)
+    let none : row_of c.self.inside.kept c.args.number ≡ None = sym c.get_mut.ensures.value ∙ ap option_copied_mut c.in_default.is in
+    c.refuse.ensures ∙ ap (g.C.TryChange.answers c.args.change) (sym (row_missing g.T.Row.over g.T.Row.forgotten c.self.inside.given (row_of c.self.inside.kept) c.args.number none) ∙ ap (row_at g.T.Row.forgotten c.args.number) c.self.view_is)
 
 pub returns-clause-ok : goal.returns-clause-ok
 returns-clause-ok g c =
     let gone = g.T.Row.forgotten in
     let f = λ (row : g.row.T.Denot). tidied g.T.Row.over gone (g.C.TryChange.changes c.args.change row) in
     let new = c.try_change.new.row in
-    let there : look c.args.number c.self.inside.kept.entries ≡ Some c.in-Some.row.now = sym c.get_mut.ensures.value ∙ ap option_copied_mut c.in-Some.is in
-    rows_altered g.T.Row.over gone c.self.inside.given c.args.number c.self.inside.kept.entries (c.get_mut.follows.lender new).entries c.forget_if-2.new.map.entries c.in-Some.row.now new (g.C.TryChange.changes c.args.change) c.is_over-over.result there ((c.get_mut.follows.holds new).3 (search rules)).0 c.forget_if-2.ensures c.in_ok-answer.ensures.ok c.is_over-over.ensures ∙ ap (at_number c.args.number f) c.self.view_is
+    let there : row_of c.self.inside.kept c.args.number ≡ Some c.in-Some.row.now = sym c.get_mut.ensures.value ∙ ap option_copied_mut c.in-Some.is in
+    rows_altered g.T.Row.over gone c.self.inside.given c.args.number (row_of c.self.inside.kept) (row_of (c.get_mut.follows.lender new)) (row_of c.forget_if.new.kept) c.in-Some.row.now new (g.C.TryChange.changes c.args.change) c.is_over-over.result there (on_some _ _ _ c.in-Some.is (c.get_mut.follows.holds new)).0 c.forget_if.ensures.rows c.in_ok-answer.ensures.ok c.is_over-over.ensures ∙ ap (at_number c.args.number f) c.self.view_is
 
 pub returns-clause-answer : goal.returns-clause-answer
 returns-clause-answer g c =
-    let there : look c.args.number c.self.inside.kept.entries ≡ Some c.in-Some.row.now = sym c.get_mut.ensures.value ∙ ap option_copied_mut c.in-Some.is in
-    c.in_ok-answer.ensures.answer ∙ ap (g.C.TryChange.answers c.args.change) (sym (row_kept g.T.Row.over g.T.Row.forgotten c.self.inside.given c.self.inside.kept.entries c.self.invariant.0.0 c.args.number c.in-Some.row.now there) ∙ ap (row_at g.T.Row.forgotten c.args.number) c.self.view_is)
+    let there : row_of c.self.inside.kept c.args.number ≡ Some c.in-Some.row.now = sym c.get_mut.ensures.value ∙ ap option_copied_mut c.in-Some.is in
+    c.in_ok-answer.ensures.answer ∙ ap (g.C.TryChange.answers c.args.change) (sym (row_kept g.T.Row.over g.T.Row.forgotten c.self.inside.given (row_of c.self.inside.kept) c.self.invariant.0.0 c.args.number c.in-Some.row.now there) ∙ ap (row_at g.T.Row.forgotten c.args.number) c.self.view_is)
+
+pub invariant_of-self-2 : goal.invariant_of-self-2
+invariant_of-self-2 g c =
+    let over = g.T.Row.over in
+    let rests = g.T.Row.rests in
+    let inside = c.self.inside in
+    let row = c.in-Some.row.now in
+    let new = c.try_change.new.row in
+    let there : row_of inside.kept c.args.number ≡ Some row = sym c.get_mut.ensures.value ∙ ap option_copied_mut c.in-Some.is in
+    let rewritten = on_some _ _ _ c.in-Some.is (c.get_mut.follows.holds new) in
+    let mid = c.get_mut.follows.lender new in
+    let fs = c.forget_if.new.kept in
+    let ends = c.is_over-over.ensures in
+    let still : rests row ≡ true → rests new ≡ true = λ is. ap rests c.in_ok-answer.ensures.ok ∙ g.met.C.TryChange.leaves_resting c.args.change row is in (
+      keeps_changed over rests g.T.Row.forgotten inside.given c.args.number (row_of inside.kept) (row_of mid) (row_of fs) row new c.is_over-over.result there rewritten.0 c.forget_if.ensures.rows ends (g.T.Row.forgotten_is_over new) c.self.invariant.0,
+      index_changed over rests g.T.Row.forgotten inside.given c.args.number (row_of inside.kept) (row_of mid) (row_of fs) row new c.is_over-over.result there rewritten.0 c.forget_if.ensures.rows ends inside.awake.entries c.rest_if.new.awake.entries c.is_resting-rests.result c.rest_if.ensures c.is_resting-rests.ensures (g.met.T.Row.over_rests new) still c.self.invariant.1,
+      c.forget_if.ensures.given ∙ (rewritten.1 ∙ c.self.invariant.2),
+    )
+
+pub invariant_of-self-in_err-answer : goal.invariant_of-self-in_err-answer
+invariant_of-self-in_err-answer g c =
+    let inside = c.self.inside in
+    let row = c.in-Some.row.now in
+    let new = c.try_change.new.row in
+    let there : row_of inside.kept c.args.number ≡ Some row = sym c.get_mut.ensures.value ∙ ap option_copied_mut c.in-Some.is in
+    let rewritten = on_some _ _ _ c.in-Some.is (c.get_mut.follows.holds new) in
+    let fs = c.get_mut.follows.lender new in
+    let same = put_again c.args.number row new (row_of inside.kept) (row_of fs) there c.in_err-answer.ensures.err rewritten.0 in (
+      keeps_same g.T.Row.over g.T.Row.rests g.T.Row.forgotten inside.given (row_of inside.kept) (row_of fs) same c.self.invariant.0,
+      index_same g.T.Row.over g.T.Row.rests g.T.Row.forgotten inside.given (row_of inside.kept) (row_of fs) same inside.awake.entries c.self.invariant.1,
+      rewritten.1 ∙ c.self.invariant.2,
+    )
+
+pub returns-in_err-answer-clause-err : goal.returns-in_err-answer-clause-err
+returns-in_err-answer-clause-err g c =
+    let inside = c.self.inside in
+    let row = c.in-Some.row.now in
+    let new = c.try_change.new.row in
+    let there : row_of inside.kept c.args.number ≡ Some row = sym c.get_mut.ensures.value ∙ ap option_copied_mut c.in-Some.is in
+    let rewritten = on_some _ _ _ c.in-Some.is (c.get_mut.follows.holds new) in
+    let fs = c.get_mut.follows.lender new in
+    let same = put_again c.args.number row new (row_of inside.kept) (row_of fs) there c.in_err-answer.ensures.err rewritten.0 in
+    on_err _ _ (rows_same g.T.Row.over g.T.Row.rests g.T.Row.forgotten inside.given (row_of inside.kept) (row_of fs) same ∙ c.self.view_is)

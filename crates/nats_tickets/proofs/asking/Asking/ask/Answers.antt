@@ -1,7 +1,7 @@
 -- The latest comes last, and the one that waited for the same subject goes.
 use Rattle.std.proofs.Common.{◌≡◌, ◌++◌, ◌∷◌, [], ℕ, ◌∙◌, ap, sym, subst}
 use Rattle.nats_tables.specs.Rows.{look}
-use Rattle.nats_history.specs.History.{request_at, requests_elsewhere, requests_but}
+use Rattle.nats_history.specs.Tickets.{request_at, requests_elsewhere, requests_but}
 use Rattle.nats_tickets.specs.Asking.{AllUnder, but_if, gone_at, Indexed}
 use Rattle.nats_tickets.proofs.Asks.{found_is, asked_is, indexed_more, inserted, last_but}
 use Rattle.nats_tickets.proofs.asking.Asking.ask.Goals as goal

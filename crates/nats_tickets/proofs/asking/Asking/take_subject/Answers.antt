@@ -1,6 +1,6 @@
 -- What the index finds is the one that waits for the subject.
-use Rattle.std.proofs.Common.{◌∙◌, ap, sym}
-use Rattle.nats_history.specs.History.{request_at, requests_elsewhere}
+use Rattle.std.proofs.Common.{◌∙◌, ap}
+use Rattle.nats_history.specs.Tickets.{request_at, requests_elsewhere}
 use Rattle.nats_tickets.specs.Asking.{but_if}
 use Rattle.nats_tickets.proofs.Asks.{found_is, indexed_gone}
 use Rattle.nats_tickets.proofs.asking.Asking.take_subject.Goals as goal

@@ -1,6 +1,6 @@
 -- The request of the ticket goes from both.
 use Rattle.std.proofs.Common.{◌∙◌, ap, sym, is_some}
-use Rattle.nats_history.specs.History.{waits_for_reply, requests_but}
+use Rattle.nats_history.specs.Tickets.{waits_for_reply, requests_but}
 use Rattle.nats_tickets.proofs.Asks.{but_is, waits_is, indexed_without}
 use Rattle.nats_tickets.proofs.asking.Asking.take_ticket.Goals as goal
 

@@ -1,5 +1,5 @@
 -- The last run goes on, or one begins.
-use Rattle.std.proofs.Common.{◌∙◌, ◌++◌, ◌∷◌, [], ap, sym, arith, suc, ◌≡◌}
+use Rattle.std.proofs.Common.{◌∙◌, ◌++◌, ◌∷◌, [], ap, arith}
 use Rattle.nats_tickets.proofs.Sorts.{pushed_kind, runs_more}
 use Rattle.nats_tickets.proofs.kinds.Kinds.push.Goals as goal
 

@@ -1,9 +1,9 @@
 -- One request more waits for its reply, and another may be dropped.
-use Rattle.std.proofs.Common.{◌≡◌, ◌+◌, ◌∷◌, [], ◌++◌, Some, length, drop, ◌∙◌, ap, sym, subst, arith}
+use Rattle.std.proofs.Common.{◌+◌, ◌∷◌, [], length, ◌∙◌, ap, sym, subst, arith}
 use Rattle.std.proofs.lemmas.List.{length-append}
 use Rattle.nats_history.specs.Queue.{first}
 use Rattle.nats_history.specs.declared.waits.Waits.TheVariants as waits
-use Rattle.nats_history.specs.History.{requests_elsewhere}
+use Rattle.nats_history.specs.Tickets.{requests_elsewhere}
 use Rattle.nats_tickets.specs.Asking.{AllBelow}
 use Rattle.nats_tickets.specs.Kept.{Kept, one_if, pending}
 use Rattle.nats_tickets.proofs.Asks.{under_of, below_more, below_elsewhere, fewer_elsewhere}

@@ -1,8 +1,7 @@
 -- A flush settles, or awaits bytes.
-use Rattle.std.proofs.Common.{◌≡◌, ◌+◌, length, Some, ◌∙◌, ap, sym, subst, arith}
+use Rattle.std.proofs.Common.{◌+◌, ◌∙◌, ap, arith}
 use Rattle.nats_history.specs.Queue.{first}
 use Rattle.nats_history.specs.declared.waits.Waits.TheVariants as waits
-use Rattle.nats_tickets.specs.Asking.{AllBelow}
 use Rattle.nats_tickets.specs.Kept.{Kept, pending}
 use Rattle.nats_tickets.proofs.Asks.{below_up}
 use Rattle.nats_tickets.proofs.Rooms.{first_there}

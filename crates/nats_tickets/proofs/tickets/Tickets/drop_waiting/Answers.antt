@@ -1,7 +1,7 @@
 -- No ticket waits any more, and each has its reply.
-use Rattle.std.proofs.Common.{◌≤◌, ◌+◌, [], length, ◌∙◌, ap, sym, arith, subst}
-use Rattle.std.specs.VecDeque.{deque_len, deque_capacity}
-use Rattle.nats_history.specs.History.{Tickets}
+use Rattle.std.proofs.Common.{◌+◌, [], length, ◌∙◌, ap, sym, arith, subst}
+use Rattle.std.specs.VecDeque.{deque_len}
+use Rattle.nats_history.specs.Tickets.{Tickets}
 use Rattle.nats_tickets.specs.Asking.{AllBelow}
 use Rattle.nats_tickets.specs.Kept.{dropped, pending}
 use Rattle.nats_tickets.proofs.Marks.{dropped_kept}

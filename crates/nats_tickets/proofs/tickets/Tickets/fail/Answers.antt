@@ -1,6 +1,6 @@
 -- No flush awaits bytes any more, and each has its reply.
 use Rattle.std.proofs.Common.{[], ◌∙◌, ap}
-use Rattle.nats_history.specs.History.{Tickets}
+use Rattle.nats_history.specs.Tickets.{Tickets}
 use Rattle.nats_tickets.specs.Kept.{failed}
 use Rattle.nats_tickets.proofs.Marks.{failed_kept}
 use Rattle.nats_tickets.proofs.tickets.Tickets.fail.Goals as goal

@@ -1,6 +1,6 @@
 -- Each unsettled ticket keeps its room.
 use Rattle.std.proofs.Common.{[], ◌∙◌, ap}
-use Rattle.nats_history.specs.History.{Tickets}
+use Rattle.nats_history.specs.Tickets.{Tickets}
 use Rattle.nats_tickets.specs.Kept.{passed}
 use Rattle.nats_tickets.proofs.Marks.{passed_kept}
 use Rattle.nats_tickets.proofs.tickets.Tickets.pass.Goals as goal

@@ -1,5 +1,5 @@
 -- The request of the ticket settles, if it is unsettled.
-use Rattle.std.proofs.Common.{◌≡◌, ◌≤◌, ◌+◌, length, ap, sym, subst, arith, ◌∙◌}
+use Rattle.std.proofs.Common.{length, ap, sym, subst, arith}
 use Rattle.nats_tickets.specs.Asking.{AllBelow}
 use Rattle.nats_tickets.specs.Kept.{bit, pending}
 use Rattle.nats_tickets.proofs.Asks.{below_less, fewer_but}

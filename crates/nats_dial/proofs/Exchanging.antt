@@ -22,7 +22,7 @@ use Rattle.nats_handshake.specs.Heard.{IsOpen}
 use Rattle.nats_handshake.specs.Opened.{opened, opened_in}
 use Rattle.nats_handshake.proofs.Hearing.{heard_next, refuses_next}
 use Rattle.nats_handshake.proofs.Opening.{opened_more, more_unopened}
-use Rattle.nats_dial.specs.Lines.{Line, IsAt, Turned, Refused, wrote_all}
+use Rattle.nats_dial.specs.Lines.{Line, IsAt, Exchanged, Refused, wrote_all}
 
 -- ---- what a handshake keeps of its link
 
@@ -135,7 +135,7 @@ module _ {P : Type 0} (Takes : P → P → List (List ℕ) → Result (Unit {0})
         → next ≡ read_of {E = Unit {0}} (Ok n) buf left r → 0 < n
         → FedAt (Takes p q) (q ≡ p) Offers by_option name no_echo t.stage t (take n buf) (Ok s) new
         → after ≡ record new { out = [] } → done ≡ wrote_all new.out w
-        → Turned Takes Offers by_option name no_echo by_scheme start timeout (Ok s) after next done c
+        → Exchanged Takes Offers by_option name no_echo by_scheme start timeout (Ok s) after next done c
     line_fed p q s t new after r next w done c n buf text wrote left going line read some fed out written =
         let bytes = take n buf in
         let h = fed_heeds (Takes p q) (q ≡ p) Offers by_option name no_echo t.stage t new bytes s going fed in

@@ -3,8 +3,8 @@ ghost use Rattle.std.specs.Prelude.{◌≡◌, ℕ, Bool, List};
 ghost use Rattle.nats_pool.specs.Auths.{auth_value};
 ghost use Rattle.nats_handshake.specs.Credentials.{SignerAnswers, AuthAnswers, Offers};
 ghost use Rattle.nats_handshake.specs.Heard.{IsOpen};
-ghost use Rattle.nats_dial.specs.Lines.{Looked, Line, Turned};
-ghost use Rattle.nats_dial.specs.Taking.{HasTook, TookTurn};
+ghost use Rattle.nats_dial.specs.Lines.{Looked, Line, Exchanged};
+ghost use Rattle.nats_dial.specs.Taking.{HasTook, TookExchange};
 
 use crate::link::{read_in_time, write_out};
 use nats_handshake::{ConnectError, ConnectOptions, Handshake, Shake};
@@ -16,7 +16,7 @@ use std::alloc::Global;
 pub const READ_SIZE: usize = 4_096;
 
 // One read, what it comes to, and the answer written.
-pub(crate) fn turn<R: LinkRead, T: LinkWrite, C: Clock, P: ServerList>(
+pub(crate) fn exchange<R: LinkRead, T: LinkWrite, C: Clock, P: ServerList>(
     alloc: Global,
     shaking: &mut Handshake,
     options: &ConnectOptions,
@@ -27,17 +27,17 @@ pub(crate) fn turn<R: LinkRead, T: LinkWrite, C: Clock, P: ServerList>(
 ) -> Result<Shake, ConnectError>
     ensures looked { Looked (C.clock_told clock.old) (C.clock_told clock.new) }
     ensures beside { C.beside_clock clock.new ≡ C.beside_clock clock.old }
-    ensures turned { (by_scheme : Bool) (start timeout : ℕ) (text wrote : List ℕ) → IsOpen shaking.old.stage
+    ensures exchanged { (by_scheme : Bool) (start timeout : ℕ) (text wrote : List ℕ) → IsOpen shaking.old.stage
         → Line (Offers SignerAnswers AuthAnswers options.now.signer options.now.auth_callback
         (auth_value options.now.auth))
         options.now.name options.now.no_echo by_scheme start timeout text wrote
         shaking.old (R.read_told read.old) (T.write_told write.old)
-        → Turned P.Takes
+        → Exchanged P.Takes
         (Offers SignerAnswers AuthAnswers options.now.signer options.now.auth_callback (auth_value options.now.auth))
         options.now.tls_required options.now.name options.now.no_echo by_scheme start timeout
         result shaking.new (R.read_told read.new) (T.write_told write.new) (C.clock_told clock.new) }
     ensures took { (p : P) → IsOpen shaking.old.stage → HasTook P.Takes shaking.old.stage p pool.old
-        → TookTurn P.Takes p result shaking.new.stage pool.new }
+        → TookExchange P.Takes p result shaking.new.stage pool.new }
 {
     let mut buf = [0u8; READ_SIZE];
     let count = read_in_time(shaking, read, clock, &mut buf)?;

@@ -4,11 +4,11 @@ use Rattle.nats_pool.specs.Auths.{auth_value}
 use Rattle.nats_handshake.specs.Credentials.{SignerAnswers, AuthAnswers, Offers}
 use Rattle.nats_handshake.specs.Shaking.{Talk, Feeds}
 use Rattle.nats_dial.proofs.Taking.{fed_took, fed_refused_took, took_in}
-use Rattle.nats_dial.proofs.Turning.{line_fed, line_refused}
-use Rattle.nats_dial.proofs.turn.turn.Goals as goal
+use Rattle.nats_dial.proofs.Exchanging.{line_fed, line_refused}
+use Rattle.nats_dial.proofs.exchange.exchange.Goals as goal
 
-pub returns-in-Err-clause-turned : goal.returns-in-Err-clause-turned
-returns-in-Err-clause-turned g c = λ by_scheme start timeout text wrote going line.
+pub returns-in-Err-clause-exchanged : goal.returns-in-Err-clause-exchanged
+returns-in-Err-clause-exchanged g c = λ by_scheme start timeout text wrote going line.
     let reads = c.in_ok-count.ensures.reads in
     let next = g.R.LinkRead.read_told c.read_in_time.new.read in
     inr (inr (inr (inr (line_refused g.P.ServerList.Takes
@@ -22,8 +22,8 @@ returns-in-Err-clause-turned g c = λ by_scheme start timeout text wrote going l
     c.args.options.now.tls_required c.args.options.now.name c.args.options.now.no_echo
     u (take c.in_ok-count.count c.read_in_time.new.buf) (Err c.in-Err.error) c.feed.new.self) reads.0 c.in-Err.ensures)))))
 
-pub returns-in_ok-write_out-in-Ok-clause-turned : goal.returns-in_ok-write_out-in-Ok-clause-turned
-returns-in_ok-write_out-in-Ok-clause-turned g c = λ by_scheme start timeout text wrote going line.
+pub returns-in_ok-write_out-in-Ok-clause-exchanged : goal.returns-in_ok-write_out-in-Ok-clause-exchanged
+returns-in_ok-write_out-in-Ok-clause-exchanged g c = λ by_scheme start timeout text wrote going line.
     let reads = c.in_ok-count.ensures.reads in
     let next = g.R.LinkRead.read_told c.read_in_time.new.read in
     line_fed g.P.ServerList.Takes
