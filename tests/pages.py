@@ -9,6 +9,7 @@ where there is one.
 import re
 import sys
 
+sys.dont_write_bytecode = True
 from sources import TOP, crates, definitions, edits, functions, groups, imported
 
 README_WORDS, SENTENCE_WORDS = 800, 40
