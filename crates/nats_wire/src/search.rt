@@ -26,6 +26,7 @@ pub struct Found {
 
 impl Found {
     /// What is known once the first `n` bytes are gone.
+    #[inline(always)]
     pub fn behind(self, n: usize) -> Found
         ensures { Behind n self.place self.ended result.place result.ended }
     {
@@ -41,6 +42,7 @@ impl Found {
 
 // Whether the first LF behind a place, which stands at `at`, ends a line. It is one step, or none where the LF
 // stands at the place: that it ends no line is known then.
+#[inline(always)]
 fn ends_line<L: Ledger>(buf: &InBuf, place: usize, at: usize, steps: &mut Steps<L>) -> bool
     requires within { (place ≤ at) × (at < length buf.now) }
     requires clear { IsTrue (clear_to place buf.now) }
@@ -58,6 +60,7 @@ fn ends_line<L: Ledger>(buf: &InBuf, place: usize, at: usize, steps: &mut Steps<
 
 /// Looks for the end of the first line from a place on, where none stands before it. No byte is tested twice, so
 /// that the steps are at most as many as the bytes that were not tested before and are now.
+#[inline(always)]
 pub fn search<L: Ledger>(buf: &InBuf, from: usize, steps: &mut Steps<L>) -> Found
     requires within { from ≤ length buf.now }
     requires clear { IsTrue (clear_to from buf.now) }

@@ -1,16 +1,17 @@
 //! The bytes that came over a link and that no operation took yet, with what is remembered of them: no byte is
 //! tested twice for the end of a line, and a line that announces a body isn't read again while the body comes.
-ghost use Rattle.std.specs.Prelude.{◌≡◌, ◌++◌, ◌+◌, ◌-◌, ◌<◌, ◌≤◌, [], length, drop, option_map, true, None, IsTrue, IfOk, OnOk, OnErr};
+ghost use Rattle.std.specs.Prelude.{◌≡◌, ◌++◌, ◌+◌, ◌-◌, ◌<◌, ◌≤◌, [], length, drop, option_map, true, None, IsTrue, IfOk, IfSome, OnOk, OnErr};
 ghost use Rattle.std.specs.Bool.{OnFalse};
-ghost use Rattle.nats_wire.specs.Operations.{cut_line, sight, front, takes_memory, is_unfinished, got_or_fault, size_of, op_view};
+ghost use Rattle.nats_wire.specs.Operations.{cut_line, sight, front, takes_memory, is_unfinished, got, message, got_or_fault, size_of, op_view};
 ghost use Rattle.nats_wire.specs.Decoder.{sight_view, front_view, taken_by};
 ghost use Rattle.nats_wire.specs.Scan.{Looked, untested, Needs};
 ghost use Rattle.nats_wire.specs.Wire.{Paid};
 ghost use Rattle.nats_wire.specs.Connection.{Reads};
 
 use crate::copies;
-use crate::decode::{self, Sight};
+use crate::decode::{self, OpText, Sight};
 use crate::front::{Front, front_kept};
+use crate::message::Message;
 use crate::op::{ServerOp, WireError};
 use crate::search::{Found, NOT_LOOKED, search};
 use nats_names::{Bytes, NoMemory};
@@ -34,6 +35,14 @@ pub struct Unread {
     ready: bool,
     /// How many bytes came last.
     fed: usize,
+}
+
+// A message without headers that stands whole at the front of bytes, and how many of them it takes.
+#[derive(Drop)]
+struct Plain {
+    sid: u64,
+    message: Message,
+    len: usize,
 }
 
 impl Model for Unread {
@@ -113,6 +122,7 @@ impl Unread {
     }
 
     /// Takes the first `n` bytes away.
+    #[inline(always)]
     pub fn advance(&mut self, n: usize)
         requires { n ≤ length self.old.bytes }
         ensures bytes { self.new.bytes ≡ drop n self.old.bytes }
@@ -125,6 +135,7 @@ impl Unread {
     }
 
     // Looks on for the end of the first line.
+    #[inline(always)]
     fn search_on<L: Ledger>(&self, steps: &mut Steps<L>) -> Found
         ensures looked { Looked result.place result.ended self.now.bytes }
         ensures none { OnFalse result.ended (cut_line self.now.bytes ≡ None) }
@@ -137,6 +148,7 @@ impl Unread {
         }
     }
 
+    #[inline(always)]
     fn sight_counted<L: Ledger>(&self, blank: Blank) -> Sight<'_>
         requires name { blank.name ≡ L.name }
         requires parts { (blank.parts ≡ L.parts) × (0 < L.parts) }
@@ -151,6 +163,7 @@ impl Unread {
     }
 
     /// What stands at their front, where it is told without memory.
+    #[inline(always)]
     pub fn sight(&self) -> Sight<'_>
         ensures { sight_view result ≡ sight self.now.bytes }
     {
@@ -170,6 +183,7 @@ impl Unread {
 
     // What stands at the front is less than an operation: how many bytes it needs is remembered, where its line
     // tells that.
+    #[inline(never)]
     fn await_body(&mut self)
         ensures { self.new ≡ self.old }
     {
@@ -203,6 +217,7 @@ impl Unread {
 
     // Looks on for the end of the first line, and remembers how far. Messages share the bytes from now on where that
     // is worth it.
+    #[inline(always)]
     fn search<L: Ledger>(&mut self, steps: &mut Steps<L>)
         ensures same { self.new.bytes ≡ self.old.bytes }
         ensures paid { Paid steps.old self.old.untested steps.new self.new.untested }
@@ -247,7 +262,31 @@ impl Unread {
         front_kept(alloc, &self.buf, self.sight())
     }
 
+    // The message without headers at their front, where one stands there whole and can share the bytes: what is most
+    // of what comes, so that it is read before anything else is thought of.
+    #[inline(always)]
+    fn plain(&self, alloc: Global) -> Result<Option<Plain>, NoMemory>
+        ensures plain { IfOk result (λ r. IfSome r (λ p. front self.now.bytes ≡ got (message p.sid p.message) p.len)) }
+        ensures fits { IfOk result (λ r. IfSome r (λ p. p.len ≤ length self.now.bytes)) }
+        ensures memory { OnErr result (IsTrue (takes_memory self.now.bytes)) }
+    {
+        let Some(bytes) = self.buf.shared() else {
+            return Ok(None);
+        };
+        if !bytes.as_slice().starts_with(b"MSG ") {
+            return Ok(None);
+        }
+        match self.sight() {
+            Sight::Whole(OpText::Message { sid, message }, len) => {
+                let message = copies::message_in(alloc, bytes, &message, len, copies::PLAIN)?;
+                Ok(Some(Plain { sid, message, len }))
+            }
+            _ => Ok(None),
+        }
+    }
+
     /// Takes the operation at their front, `None` where that is less than an operation.
+    #[inline(always)]
     pub fn read<L: Ledger>(
         &mut self,
         alloc: Global,
@@ -258,6 +297,22 @@ impl Unread {
         ensures paid { Paid steps.old self.old.untested steps.new self.new.untested }
     {
         self.search(steps);
+        match self.plain(alloc)? {
+            Some(Plain { sid, message, len }) => {
+                self.advance(len);
+                Ok(Some(ServerOp::Message { sid, message }))
+            }
+            None => self.read_any(alloc),
+        }
+    }
+
+    // The same of any operation, once the end of its line was looked for.
+    #[inline(never)]
+    fn read_any(&mut self, alloc: Global) -> Result<Option<ServerOp>, WireError>
+        ensures reads { Reads (front self.old.bytes) (takes_memory self.old.bytes)
+            self.old.bytes result self.new.bytes }
+        ensures untested { self.new.untested ≤ self.old.untested }
+    {
         match self.sight() {
             Sight::Unfinished => {
                 self.await_body();
@@ -276,6 +331,7 @@ impl Unread {
     }
 
     // Takes an operation that was read, with its bytes, or those of a text that turned out to be none.
+    #[inline(never)]
     fn take(
         &mut self,
         found: Option<ServerOp>,
