@@ -30,9 +30,9 @@ fn optional(alloc: Global, text: Option<&str>) -> Result<Option<Subject>, NoMemo
     }
 }
 
-// A message without headers.
+/// A message without headers.
 #[inline(always)]
-fn plain(subject: Subject, reply: Option<Subject>, payload: Bytes, length: usize) -> Message
+pub fn plain(subject: Subject, reply: Option<Subject>, payload: Bytes, length: usize) -> Message
     ensures { result ≡ record {
       subject = subject;
       reply = reply;

@@ -44,7 +44,7 @@ pub struct HeaderHead<'a> {
 
 // The number of a text of digits, where it fits whatever the next digit is; `None` tells nothing.
 #[inline(always)]
-fn short_number(text: &[u8]) -> Option<u64>
+pub fn short_number(text: &[u8]) -> Option<u64>
     ensures { IfSome result (λ n. number_of text.now ≡ Some n) }
 {
     if text.is_empty() {

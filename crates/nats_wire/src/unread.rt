@@ -9,10 +9,10 @@ ghost use Rattle.nats_wire.specs.Wire.{Paid};
 ghost use Rattle.nats_wire.specs.Connection.{Reads};
 
 use crate::copies;
-use crate::decode::{self, OpText, Sight};
+use crate::decode::{self, Sight};
 use crate::front::{Front, front_kept};
-use crate::message::Message;
 use crate::op::{ServerOp, WireError};
+use crate::plain::{Plain, read_plain};
 use crate::search::{Found, NOT_LOOKED, search};
 use nats_names::{Bytes, NoMemory};
 use nats_outbuf::{InBuf, Steps};
@@ -35,14 +35,6 @@ pub struct Unread {
     ready: bool,
     /// How many bytes came last.
     fed: usize,
-}
-
-// A message without headers that stands whole at the front of bytes, and how many of them it takes.
-#[derive(Drop)]
-struct Plain {
-    sid: u64,
-    message: Message,
-    len: usize,
 }
 
 impl Model for Unread {
@@ -262,27 +254,21 @@ impl Unread {
         front_kept(alloc, &self.buf, self.sight())
     }
 
-    // The message without headers at their front, where one stands there whole and can share the bytes: what is most
-    // of what comes, so that it is read before anything else is thought of.
+    // The message without headers at their front, where it is such as nearly all come, stands there whole and can
+    // share the bytes: it is read before anything else is thought of. Else it is remembered how far the end of the
+    // first line was looked for.
     #[inline(always)]
-    fn plain(&self, alloc: Global) -> Result<Option<Plain>, NoMemory>
-        ensures plain { IfOk result (λ r. IfSome r (λ p. front self.now.bytes ≡ got (message p.sid p.message) p.len)) }
-        ensures fits { IfOk result (λ r. IfSome r (λ p. p.len ≤ length self.now.bytes)) }
-        ensures memory { OnErr result (IsTrue (takes_memory self.now.bytes)) }
+    fn plain<L: Ledger>(&mut self, steps: &mut Steps<L>) -> Result<Option<Plain>, NoMemory>
+        ensures same { self.new.bytes ≡ self.old.bytes }
+        ensures paid { Paid steps.old self.old.untested steps.new self.new.untested }
+        ensures plain { IfOk result (λ r. IfSome r (λ p. front self.old.bytes ≡ got (message p.sid p.message) p.len)) }
+        ensures fits { IfOk result (λ r. IfSome r (λ p. p.len ≤ length self.old.bytes)) }
+        ensures memory { OnErr result (IsTrue (takes_memory self.old.bytes)) }
     {
-        let Some(bytes) = self.buf.shared() else {
-            return Ok(None);
-        };
-        if !bytes.as_slice().starts_with(b"MSG ") {
+        if self.found.ended || self.found.place > 0 {
             return Ok(None);
         }
-        match self.sight() {
-            Sight::Whole(OpText::Message { sid, message }, len) => {
-                let message = copies::message_in(alloc, bytes, &message, len, copies::PLAIN)?;
-                Ok(Some(Plain { sid, message, len }))
-            }
-            _ => Ok(None),
-        }
+        read_plain(&self.buf, &mut self.found, steps)
     }
 
     /// Takes the operation at their front, `None` where that is less than an operation.
@@ -296,18 +282,31 @@ impl Unread {
             self.old.bytes result self.new.bytes }
         ensures paid { Paid steps.old self.old.untested steps.new self.new.untested }
     {
-        self.search(steps);
-        match self.plain(alloc)? {
+        match self.plain(steps)? {
             Some(Plain { sid, message, len }) => {
                 self.advance(len);
                 Ok(Some(ServerOp::Message { sid, message }))
             }
-            None => self.read_any(alloc),
+            None => self.read_other(alloc, steps),
         }
     }
 
-    // The same of any operation, once the end of its line was looked for.
+    // The same of any operation.
     #[inline(never)]
+    fn read_other<L: Ledger>(
+        &mut self,
+        alloc: Global,
+        steps: &mut Steps<L>,
+    ) -> Result<Option<ServerOp>, WireError>
+        ensures reads { Reads (front self.old.bytes) (takes_memory self.old.bytes)
+            self.old.bytes result self.new.bytes }
+        ensures paid { Paid steps.old self.old.untested steps.new self.new.untested }
+    {
+        self.search(steps);
+        self.read_any(alloc)
+    }
+
+    // The same, once the end of the first line was looked for.
     fn read_any(&mut self, alloc: Global) -> Result<Option<ServerOp>, WireError>
         ensures reads { Reads (front self.old.bytes) (takes_memory self.old.bytes)
             self.old.bytes result self.new.bytes }
