@@ -16,7 +16,7 @@ use nats_outbuf::InBuf;
 use std::alloc::Global;
 
 /// The bytes of the word of a message, and of one with headers, with the space behind it.
-pub const PLAIN: usize = 4;
+const PLAIN: usize = 4;
 
 const HEADED: usize = 5;
 
@@ -89,7 +89,7 @@ fn payload_in(bytes: &Bytes, payload: &[u8], len: usize) -> Result<Bytes, NoMemo
 // The message of a text that takes the first `len` of some bytes, whose first word takes the first `at`. It shares
 // the bytes.
 #[inline(always)]
-pub fn message_in(
+fn message_in(
     alloc: Global,
     bytes: &Bytes,
     text: &MessageText<'_>,
