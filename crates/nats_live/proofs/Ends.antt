@@ -21,7 +21,7 @@ use Rattle.nats_live.specs.declared.error.LiveError.{LiveError}
 use Rattle.nats_live.specs.declared.error.LiveError.TheVariants as refused
 use Rattle.nats_live.specs.Back.{IsBack}
 use Rattle.nats_live.specs.Causes.{OffersNothing, LinkBrokeOrEnded, FaultLater, WhyNotPublished, WhyNotReceived}
-use Rattle.nats_live.specs.Ended.{LastLink, messages, ends_in_fault, WasPublished, WasReceived}
+use Rattle.nats_live.specs.Ended.{LastLink, messages, limit_with, ends_in_fault, WasPublished, WasReceived}
 use Rattle.nats_live.specs.Steps.{ReadsWhole}
 use Rattle.nats_live.specs.Flow.{HasBegun, Accepts, FlushEnds, Publishes, PublishedOver, Receives, Subscribes, IsReceiving, IsOver, IsWritten, TakesAll, ReceiveEnds, ReceivesAll, ReceivedOver, CameSoFar, GaveLater, published_text, subscribed_text}
 use Rattle.nats_live.proofs.Handing.{gave_nothing, ends_last, broke, broke_or_ended, link_ended, was_published, fault_in_rest, too_large, was_received, fewer_came, fault_later}
@@ -392,7 +392,7 @@ published_over limit joined head subject payload old w (Err refused.NoMemory) b 
 pub published_last : (info : ServerInfo) (rest subject payload : List ℕ) (r : ReadTold) (w0 w : WriteTold)
     (m b : World)
     → (up : IsUp OffersNothing None false info rest r w0) → IsBack r w m b
-    → PublishedOver info.max_payload rest up.wrote subject payload (Ok tt) w
+    → PublishedOver (limit_with info.max_payload rest) rest up.wrote subject payload (Ok tt) w
     → IfSome b.dialer.ended (LastLink (WasPublished subject payload))
 published_last info rest subject payload r w0 w m b up back is =
     ends_last (WasPublished subject payload) r w m b back
@@ -401,7 +401,7 @@ published_last info rest subject payload r w0 w m b up back is =
 pub why_not_published : (addr : List ℕ) (info : ServerInfo) (rest subject payload : List ℕ) (r : ReadTold)
     (w0 w : WriteTold) (a m b : World)
     (e : LiveError) → (up : IsUp OffersNothing None false info rest r w0) → Onward a m → IsBack r w m b
-    → PublishedOver info.max_payload rest up.wrote subject payload (Err e) w
+    → PublishedOver (limit_with info.max_payload rest) rest up.wrote subject payload (Err e) w
     → WhyNotPublished addr subject payload a e b
 why_not_published addr info rest subject payload r w0 w a m b
     (refused.Publish (publishing.InvalidSubject, source)) up onward back is = is
@@ -517,7 +517,7 @@ why_not_received addr info rest subject n r0 r w0 w a m b refused.NoMemory some 
 pub published_clause : (info : ServerInfo) (rest subject payload : List ℕ) (r : ReadTold) (w0 w : WriteTold)
     (m b : World)
     (result : Result (Unit {0}) LiveError) → (up : IsUp OffersNothing None false info rest r w0) → IsBack r w m b
-    → PublishedOver info.max_payload rest up.wrote subject payload result w
+    → PublishedOver (limit_with info.max_payload rest) rest up.wrote subject payload result w
     → OnOk result (IfSome b.dialer.ended (LastLink (WasPublished subject payload)))
 published_clause info rest subject payload r w0 w m b (Ok done) up back is =
     published_last info rest subject payload r w0 w m b up back is
@@ -527,7 +527,7 @@ pub not_published_clause : (addr : List ℕ) (info : ServerInfo) (rest subject p
     (w0 w : WriteTold) (a m b : World)
     (result : Result (Unit {0}) LiveError) → (up : IsUp OffersNothing None false info rest r w0) → Onward a m
     → IsBack r w m b
-    → PublishedOver info.max_payload rest up.wrote subject payload result w
+    → PublishedOver (limit_with info.max_payload rest) rest up.wrote subject payload result w
     → IfErr result (λ e. WhyNotPublished addr subject payload a e b)
 not_published_clause addr info rest subject payload r w0 w a m b (Ok done) up onward back is = tt
 not_published_clause addr info rest subject payload r w0 w a m b (Err e) up onward back is =
