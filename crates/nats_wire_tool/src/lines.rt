@@ -1,6 +1,6 @@
 //! An operation as a line.
-use crate::spell::{push_bytes, push_text, push_word};
-use nats_wire::{HeaderMap, Message, ServerError, ServerInfo, ServerOp};
+use nats_rows::{push_bytes, push_optional, push_word};
+use nats_wire::{HeaderMap, Message, ServerError, ServerInfo, ServerOp, Text};
 use std::alloc::{AllocError, Global};
 
 /// Appends a space, the name of a field and `=`.
@@ -8,6 +8,11 @@ fn push_key(out: &mut String, key: &str) -> Result<(), AllocError> {
     out.push(' ')?;
     out.push_str(key)?;
     out.push('=')
+}
+
+/// Appends a text as a word, where it is there.
+fn push_text(out: &mut String, text: &Option<Text>) -> Result<(), AllocError> {
+    push_optional(out, text.as_ref().map(|text| text.as_str()))
 }
 
 /// Appends fields that are texts.
@@ -91,10 +96,8 @@ fn push_message(
     let start = format!(in alloc; "msg {sid}")?;
     out.push_str(start.as_str())?;
     push_word(out, message.subject.as_str().as_bytes())?;
-    match &message.reply {
-        Some(reply) => push_word(out, reply.as_str().as_bytes())?,
-        None => out.push_str(" ~")?,
-    }
+    out.push(' ')?;
+    push_optional(out, message.reply.as_ref().map(|reply| reply.as_str()))?;
     push_word(out, message.payload.as_slice())?;
     match &message.status {
         Some(status) => {

@@ -1,12 +1,22 @@
 //! A line as an operation.
 use crate::connect::connect_of;
-use crate::spell::{
-    no_memory, optional_subject_of, out_of_form, payload_of, spelled_bytes, spelled_number,
-    subject_of,
-};
-use nats_wire::{ClientOp, HeaderMap};
+use nats_rows::{Bad, number_of, payload_of, string_of};
+use nats_wire::{ClientOp, HeaderError, HeaderMap, Subject};
 use std::alloc::Global;
-use std::io;
+
+/// The subject of a word.
+fn subject_of(alloc: Global, word: &str) -> Result<Subject, Bad> {
+    let text = string_of(alloc, word)?;
+    Ok(Subject::from_text(alloc, text.as_str())?)
+}
+
+/// The subject of a word, or none.
+fn optional_subject_of(alloc: Global, word: &str) -> Result<Option<Subject>, Bad> {
+    match word {
+        "~" => Ok(None),
+        word => Ok(Some(subject_of(alloc, word)?)),
+    }
+}
 
 /// Appends a header by its two words.
 fn append_header(
@@ -14,29 +24,30 @@ fn append_header(
     headers: &mut HeaderMap,
     name: &str,
     value: &str,
-) -> io::Result<()> {
-    let name = spelled_bytes(alloc, name)?;
-    let value = spelled_bytes(alloc, value)?;
-    let name = str::from_utf8(name.as_slice()).map_err(|_| out_of_form())?;
-    let value = str::from_utf8(value.as_slice()).map_err(|_| out_of_form())?;
+) -> Result<(), Bad> {
+    let name = string_of(alloc, name)?;
+    let value = string_of(alloc, value)?;
     headers
-        .append(alloc, name, value)
-        .map_err(|_| out_of_form())
+        .append(alloc, name.as_str(), value.as_str())
+        .map_err(|error| match error {
+            HeaderError::NoMemory => Bad::NoMemory,
+            HeaderError::Name | HeaderError::Value => Bad::Form,
+        })
 }
 
 /// The headers of a line's last words, a name and a value by turns.
-fn headers_of(alloc: Global, words: &[&str]) -> io::Result<HeaderMap> {
+fn headers_of(alloc: Global, words: &[&str]) -> Result<HeaderMap, Bad> {
     let mut headers = HeaderMap::new(alloc);
     for pair in words.chunks(2) {
         match pair {
             [name, value] => append_header(alloc, &mut headers, name, value)?,
-            _ => return Err(out_of_form()),
+            _ => return Err(Bad::Form),
         }
     }
     Ok(headers)
 }
 
-fn publish(alloc: Global, words: [&str; 3], headers: Option<HeaderMap>) -> io::Result<ClientOp> {
+fn publish(alloc: Global, words: [&str; 3], headers: Option<HeaderMap>) -> Result<ClientOp, Bad> {
     let [subject, respond, payload] = words;
     Ok(ClientOp::Publish {
         subject: subject_of(alloc, subject)?,
@@ -46,27 +57,27 @@ fn publish(alloc: Global, words: [&str; 3], headers: Option<HeaderMap>) -> io::R
     })
 }
 
-fn subscribe(alloc: Global, words: [&str; 3]) -> io::Result<ClientOp> {
+fn subscribe(alloc: Global, words: [&str; 3]) -> Result<ClientOp, Bad> {
     let [sid, subject, group] = words;
     Ok(ClientOp::Subscribe {
-        sid: spelled_number(sid)?,
+        sid: number_of(sid)?,
         subject: subject_of(alloc, subject)?,
         queue_group: optional_subject_of(alloc, group)?,
     })
 }
 
-fn unsubscribe(sid: &str, max: &str) -> io::Result<ClientOp> {
+fn unsubscribe(sid: &str, max: &str) -> Result<ClientOp, Bad> {
     Ok(ClientOp::Unsubscribe {
-        sid: spelled_number(sid)?,
+        sid: number_of(sid)?,
         max: match max {
             "~" => None,
-            max => Some(spelled_number(max)?),
+            max => Some(number_of(max)?),
         },
     })
 }
 
 /// The operation of a line's words.
-fn op_of_words(alloc: Global, words: &[&str]) -> io::Result<ClientOp> {
+fn op_of_words(alloc: Global, words: &[&str]) -> Result<ClientOp, Bad> {
     match words {
         ["ping"] => Ok(ClientOp::Ping),
         ["pong"] => Ok(ClientOp::Pong),
@@ -77,12 +88,12 @@ fn op_of_words(alloc: Global, words: &[&str]) -> io::Result<ClientOp> {
         }
         ["sub", sid, subject, group] => subscribe(alloc, [sid, subject, group]),
         ["unsub", sid, max] => unsubscribe(sid, max),
-        _ => Err(out_of_form()),
+        _ => Err(Bad::Form),
     }
 }
 
 /// The operation of a line.
-pub fn op_of(alloc: Global, line: &str) -> io::Result<ClientOp> {
+pub fn op_of(alloc: Global, line: &str) -> Result<ClientOp, Bad> {
     if line == "connect" {
         return Ok(ClientOp::Connect(connect_of(alloc, "")?));
     }
