@@ -2,11 +2,11 @@
 ghost use Rattle.std.specs.Prelude.{◌≡◌, ◌<◌, ◌≤◌, length};
 
 use nats_outbuf::Steps;
+use nats_rows::Bad;
 use nats_wire::{Connection, WireError};
 use std::alloc::Global;
 use std::marker::Brand;
 use std::sync::ledger::{Blank, Ledger};
-use std::test::Fail;
 
 /// The bytes of the message that comes byte by byte.
 const PAYLOAD: usize = 1_000;
@@ -39,17 +39,14 @@ fn count_by_bytes<L: Ledger>(alloc: Global, blank: Blank, bytes: &[u8]) -> Resul
     read_by_bytes(alloc, bytes, &mut Steps::<L>::new(blank))
 }
 
-#[test]
-fn a_message_that_comes_byte_by_byte_costs_a_step_a_byte_at_most(
-    rt: HostRuntime,
-) -> Result<(), Fail> {
-    let alloc = rt.alloc();
+/// Appends how many operations are read of a long message that comes byte by byte and of a PING behind it.
+pub fn push_count(alloc: Global, out: &mut String) -> Result<(), Bad> {
     let mut bytes = Vec::from_slice(alloc, b"MSG a 1 1000\r\n")?;
     for _ in 0..PAYLOAD {
         bytes.push(b'\n')?;
     }
     bytes.extend_from_slice(b"\r\nPING\r\n")?;
-    let count = count_by_bytes::<Brand>(alloc, Blank::new(1), bytes.as_slice())?;
-    assert_eq!(rt; count, 2);
-    Ok(())
+    let count = count_by_bytes::<Brand>(alloc, Blank::new(1), bytes.as_slice());
+    let count = count.map_err(|_| Bad::NoMemory)?;
+    Ok(out.push_str(format!(in alloc; "{count}")?.as_str())?)
 }
