@@ -1,7 +1,7 @@
+//! Tickets of flushes and requests by their calls.
 use nats_history::{Bytes, CallReply, Message, NoMemory, Subject, Waits};
 use nats_tickets::Tickets;
 use std::alloc::Global;
-use std::test::Fail;
 
 /// The next ticket that waits to be handed out, with a 1 where it was flushed.
 fn next_told(flushes: &mut Tickets) -> Option<(u64, u64)> {
@@ -80,14 +80,12 @@ fn settle(alloc: Global, flushes: &mut Tickets) -> Result<bool, NoMemory> {
     Ok(settle_by_bytes(alloc, flushes)? && fail_at_the_end(alloc, flushes)?)
 }
 
-#[test]
-fn flushes_settle_in_order(rt: HostRuntime) -> Result<(), Fail> {
-    let alloc = rt.alloc();
+/// Whether flushes settle in order.
+pub fn flushes_settle(alloc: Global) -> Result<bool, NoMemory> {
     let mut flushes = Tickets::new(alloc);
     let settled = settle(alloc, &mut flushes);
     drop(flushes);
-    assert!(rt; settled?);
-    Ok(())
+    settled
 }
 
 fn reply_at(alloc: Global, subject: &str) -> Result<Message, NoMemory> {
@@ -205,12 +203,10 @@ fn settle_requests(alloc: Global, tickets: &mut Tickets) -> Result<bool, NoMemor
     )
 }
 
-#[test]
-fn requests_settle_by_their_subjects(rt: HostRuntime) -> Result<(), Fail> {
-    let alloc = rt.alloc();
+/// Whether requests settle by their subjects.
+pub fn requests_settle(alloc: Global) -> Result<bool, NoMemory> {
     let mut tickets = Tickets::new(alloc);
     let settled = settle_requests(alloc, &mut tickets);
     drop(tickets);
-    assert!(rt; settled?);
-    Ok(())
+    settled
 }

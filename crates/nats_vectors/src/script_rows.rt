@@ -1,3 +1,5 @@
+//! Scripts that are read, and a transcript with a row of every kind that is printed.
+use crate::words::agrees;
 use nats_header::HeaderMap;
 use nats_history::{
     Call, CallReply, Event, LinkRow, LinkWord, Message, SubRow, TakeReply, Transcript,
@@ -5,7 +7,6 @@ use nats_history::{
 use nats_names::{Bytes, StatusCode, Subject, Text};
 use nats_script::{NoMemory, Script, Seq, Turn, print_transcript, read_script};
 use std::alloc::Global;
-use std::test::Fail;
 
 /// The number of the first line that cannot be read, 0 where each can.
 fn bad_line_of(script: &Script) -> u64 {
@@ -72,12 +73,15 @@ const TEXTS: [(&str, u64); 26] = [
     ("config 1 1 check P X\nhpub a ~ x K: v\n", 2),
 ];
 
-#[test]
-fn the_first_line_in_no_form_is_found(rt: HostRuntime) -> Result<(), Fail> {
+/// Whether the first line in no form is found in each.
+pub fn are_found(alloc: Global, out: &mut Vec<u8>) -> Result<bool, NoMemory> {
+    let mut holds = true;
     for (text, want) in TEXTS {
-        assert_eq!(rt; bad_line(rt.alloc(), text)?, want, "{text:?}");
+        let found = format!(in alloc; "{}", bad_line(alloc, text)?)?;
+        let wanted = format!(in alloc; "{want}")?;
+        holds = agrees(out, text, found.as_bytes(), wanted.as_bytes())? && holds;
     }
-    Ok(())
+    Ok(holds)
 }
 
 /// How many values some headers have under `K`.
@@ -104,15 +108,17 @@ fn values_under_k(alloc: Global, line: &str) -> Result<Option<usize>, NoMemory> 
     Ok(under_k_of(only_turn(&script)))
 }
 
-#[test]
-fn headers_are_read_in_pairs(rt: HostRuntime) -> Result<(), Fail> {
-    assert_eq!(rt;
-        values_under_k(rt.alloc(), "hpub a r x K v L w K %20")?,
-        Some(2)
-    );
-    assert_eq!(rt; values_under_k(rt.alloc(), "hpub a ~ x")?, Some(0));
-    assert_eq!(rt; values_under_k(rt.alloc(), "pub a ~ x")?, None);
-    Ok(())
+/// Whether headers are read in pairs.
+fn are_paired(alloc: Global) -> Result<bool, NoMemory> {
+    let mut holds = true;
+    for (line, count) in [
+        ("hpub a r x K v L w K %20", Some(2)),
+        ("hpub a ~ x", Some(0)),
+        ("pub a ~ x", None),
+    ] {
+        holds = values_under_k(alloc, line)? == count && holds;
+    }
+    Ok(holds)
 }
 
 fn is_limit(alloc: Global, line: &str) -> Result<bool, NoMemory> {
@@ -134,15 +140,13 @@ fn max_payload(alloc: Global, line: &str) -> Result<Option<u64>, NoMemory> {
     Ok(max_payload_of(only_turn(&script)))
 }
 
-#[test]
-fn turns_are_read(rt: HostRuntime) -> Result<(), Fail> {
-    assert!(rt; is_limit(rt.alloc(), "limit 3 5")?);
-    assert_eq!(rt; max_payload(rt.alloc(), "up 33")?, Some(33));
-    assert_eq!(rt;
-        max_payload(rt.alloc(), "open {\"max_payload\":34}")?,
-        Some(34)
-    );
-    Ok(())
+/// Whether lines are read as their turns.
+pub fn are_read(alloc: Global) -> Result<bool, NoMemory> {
+    let mut holds = is_limit(alloc, "limit 3 5")? && are_paired(alloc)?;
+    for (line, most) in [("up 33", 33), ("open {\"max_payload\":34}", 34)] {
+        holds = max_payload(alloc, line)? == Some(most) && holds;
+    }
+    Ok(holds)
 }
 
 fn only<T: Drop>(alloc: Global, item: T) -> Result<Seq<T>, NoMemory> {
@@ -242,12 +246,10 @@ fn printed_rows(alloc: Global) -> Result<Vec<u8>, NoMemory> {
     print_transcript(alloc, &rows)
 }
 
-#[test]
-fn rows_of_every_kind_are_printed(rt: HostRuntime) -> Result<(), Fail> {
+/// Whether rows of every kind are printed.
+pub fn are_printed(alloc: Global) -> Result<bool, NoMemory> {
     let want = "link 1 fault\nout %\nleft %0A\nsub 1\n\
 drop 5 a r%C3%A9%20 %00%25%7E} 404 No%20Messages 9 2 K v%20w K %\ntake 6 empty\n\
 event 5 slow%20consumers%20for%20subscription%201\ncall 2 full\nticket 1 7 flush-failed\n";
-    let text = printed_rows(rt.alloc())?;
-    assert_eq!(rt; text.as_slice(), want.as_bytes());
-    Ok(())
+    Ok(printed_rows(alloc)?.as_slice() == want.as_bytes())
 }

@@ -1,5 +1,11 @@
-use crate::{answers, carried, carried_through, transcript};
-use std::test::Fail;
+//! Rows of scripts with what a session answers.
+use crate::driven::{answers, transcript};
+use crate::sent::carried;
+use crate::through::carried_through;
+use crate::words::agrees;
+use nats_names::NoMemory;
+use std::alloc::Global;
+use std::sync::Wait;
 
 /// Scripts, and what a session answers to each, behind a `=`.
 const SESSIONS: &str = "config 1 65536 check _INBOX MUX1
@@ -221,17 +227,19 @@ given up (closed) ticket 4 flush-failed
 closed
 link 1 down closed most 1048576 said 1048576 reads 0 in 0 0 out 2 5 links 1 pending 0 none";
 
-#[test]
-fn sessions_answer_as_their_rows_say(rt: HostRuntime) -> Result<(), Fail> {
+fn is_answered(alloc: Global, out: &mut Vec<u8>, row: &str) -> Result<bool, NoMemory> {
+    let (script, want) = row.split_once('=').unwrap_or((row, ""));
+    let answer = answers(alloc, script)?;
+    agrees(out, script, answer.as_slice(), want.as_bytes())
+}
+
+/// Whether sessions answer as their rows say.
+pub fn are_answered(alloc: Global, out: &mut Vec<u8>) -> Result<bool, NoMemory> {
+    let mut holds = true;
     for row in SESSIONS.split('|') {
-        let (script, want) = row.split_once('=').ok_or("no answers")?;
-        assert_eq!(rt;
-            answers(rt.alloc(), script)?.as_slice(),
-            want.as_bytes(),
-            "{script}"
-        );
+        holds = is_answered(alloc, out, row)? && holds;
     }
-    Ok(())
+    Ok(holds)
 }
 
 /// Lists of turns, and the transcript of each or why there is none, behind a `=`.
@@ -399,17 +407,19 @@ up 1048576
 up 1048576
 =turn 2 may not come there";
 
-#[test]
-fn lists_are_played_to_their_transcripts(rt: HostRuntime) -> Result<(), Fail> {
+fn is_played(alloc: Global, out: &mut Vec<u8>, row: &str) -> Result<bool, NoMemory> {
+    let (script, want) = row.split_once('=').unwrap_or((row, ""));
+    let printed = transcript(alloc, script)?;
+    agrees(out, script, printed.as_slice(), want.as_bytes())
+}
+
+/// Whether lists of turns are played to their transcripts.
+pub fn are_played(alloc: Global, out: &mut Vec<u8>) -> Result<bool, NoMemory> {
+    let mut holds = true;
     for row in LISTS.split('|') {
-        let (script, want) = row.split_once('=').ok_or("no transcript")?;
-        assert_eq!(rt;
-            transcript(rt.alloc(), script)?.as_slice(),
-            want.as_bytes(),
-            "{script}"
-        );
+        holds = is_played(alloc, out, row)? && holds;
     }
-    Ok(())
+    Ok(holds)
 }
 
 /// Scripts of calls that would carry other commands, and behind a `=` what is answered and what the links carry,
@@ -542,20 +552,24 @@ pub <svc> <_INBOX.MUX1.T3> - <hi>
 whole
 ";
 
-#[test]
-fn links_carry_the_accepted_commands_alone(rt: HostRuntime) -> Result<(), Fail> {
+fn is_carried<R: Wait>(
+    rt: &R,
+    alloc: Global,
+    out: &mut Vec<u8>,
+    row: &str,
+) -> Result<bool, NoMemory> {
+    let (script, want) = row.split_once('=').unwrap_or((row, ""));
+    let inside = carried(alloc, script)?;
+    let holds = agrees(out, script, inside.as_slice(), want.as_bytes())?;
+    let outside = carried_through(rt, alloc, script)?;
+    Ok(agrees(out, script, outside.as_slice(), want.as_bytes())? && holds)
+}
+
+/// Whether links carry the accepted commands alone.
+pub fn are_carried<R: Wait>(rt: &R, alloc: Global, out: &mut Vec<u8>) -> Result<bool, NoMemory> {
+    let mut holds = true;
     for row in HOSTILE.split('|') {
-        let (script, want) = row.split_once('=').ok_or("no commands")?;
-        assert_eq!(rt;
-            carried(rt.alloc(), script)?.as_slice(),
-            want.as_bytes(),
-            "{script}"
-        );
-        assert_eq!(rt;
-            carried_through(&rt, rt.alloc(), script)?.as_slice(),
-            want.as_bytes(),
-            "{script}"
-        );
+        holds = is_carried(rt, alloc, out, row)? && holds;
     }
-    Ok(())
+    Ok(holds)
 }

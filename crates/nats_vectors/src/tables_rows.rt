@@ -4,7 +4,7 @@ ghost use Rattle.std.proofs.lemmas.Bool.{or_left, or_right};
 ghost use Rattle.std.proofs.Common.{refl};
 
 use nats_tables::{Change, NoMemory, Row, Table, TryChange};
-use std::test::Fail;
+use std::alloc::Global;
 
 #[derive(Clone, Copy, PartialEq, Eq, Debug, Drop)]
 struct Counter {
@@ -142,35 +142,33 @@ fn is_second_gone(table: &mut Table<Counter>) -> Result<bool, NoMemory> {
 }
 
 /// Two counters are given, one is set and stopped: its number stays given, and its row is gone.
-#[test]
-fn a_row_that_is_over_is_forgotten(rt: HostRuntime) -> Result<(), Fail> {
-    let mut table = Table::new(rt.alloc());
-    give_two(&mut table)?;
-    assert_eq!(rt; table.try_alter(2, Set { count: 9 })?, 7);
-    assert_eq!(rt; count_of(&table, 2), Some(9));
-    assert!(rt; !table.alter(2, &Stop));
-    assert!(rt; is_second_gone(&mut table)?);
-    assert_eq!(rt; table.len(), 2);
-    assert_eq!(rt; table.next_after(0), Some(1));
-    assert_eq!(rt; table.next_after(1), None);
-    Ok(())
+fn a_row_that_is_over_is_forgotten(table: &mut Table<Counter>) -> Result<bool, NoMemory> {
+    let mut holds = true;
+    give_two(table)?;
+    holds = holds && table.try_alter(2, Set { count: 9 })? == 7;
+    holds = holds && count_of(table, 2) == Some(9);
+    holds = holds && !table.alter(2, &Stop);
+    holds = holds && is_second_gone(table)?;
+    holds = holds && table.len() == 2;
+    holds = holds && table.next_after(0) == Some(1);
+    holds = holds && table.next_after(1).is_none();
+    Ok(holds)
 }
 
 /// Three counters are given, and the second one rests: going through them passes over it, and it is still there.
-#[test]
-fn a_row_that_rests_is_passed_over(rt: HostRuntime) -> Result<(), Fail> {
-    let mut table = Table::new(rt.alloc());
+fn a_row_that_rests_is_passed_over(table: &mut Table<Counter>) -> Result<bool, NoMemory> {
+    let mut holds = true;
     table.give(started())?;
     table.give(started())?;
     table.give(started())?;
-    assert!(rt; !table.alter(2, &Finish));
-    assert_eq!(rt; table.next_after(1), Some(3));
-    assert_eq!(rt; table.try_alter(2, Set { count: 9 })?, 7);
-    assert_eq!(rt; table.item(2).map(|row| row.count), Some(9));
-    assert!(rt; !table.alter(2, &Stop));
-    assert!(rt; table.item(2).is_none());
-    assert_eq!(rt; table.next_after(3), None);
-    Ok(())
+    holds = holds && !table.alter(2, &Finish);
+    holds = holds && table.next_after(1) == Some(3);
+    holds = holds && table.try_alter(2, Set { count: 9 })? == 7;
+    holds = holds && table.item(2).map(|row| row.count) == Some(9);
+    holds = holds && !table.alter(2, &Stop);
+    holds = holds && table.item(2).is_none();
+    holds = holds && table.next_after(3).is_none();
+    Ok(holds)
 }
 
 fn give_many(table: &mut Table<Counter>, count: u64) -> Result<(), NoMemory> {
@@ -206,60 +204,82 @@ fn set_about_ends(table: &mut Table<Counter>) -> Result<(), NoMemory> {
 }
 
 /// 130 counters are given: those about the ends of pages are set, and each is found by its number, and no other is.
-#[test]
-fn rows_of_several_pages_are_found(rt: HostRuntime) -> Result<(), Fail> {
-    let mut table = Table::new(rt.alloc());
-    give_many(&mut table, 130)?;
-    assert_eq!(rt; table.len(), 130);
-    set_about_ends(&mut table)?;
-    assert_eq!(rt; count_of(&table, 0), None);
-    assert_eq!(rt; count_of(&table, 1), Some(1));
-    assert_eq!(rt; count_of(&table, 62), Some(7));
-    assert_eq!(rt; count_of(&table, 63), Some(63));
-    assert_eq!(rt; count_of(&table, 64), Some(64));
-    assert_eq!(rt; count_of(&table, 65), Some(65));
-    assert_eq!(rt; count_of(&table, 67), Some(7));
-    assert_eq!(rt; count_of(&table, 127), Some(127));
-    assert_eq!(rt; count_of(&table, 128), Some(128));
-    assert_eq!(rt; count_of(&table, 129), Some(129));
-    assert_eq!(rt; count_of(&table, 130), Some(130));
-    assert_eq!(rt; count_of(&table, 131), None);
-    Ok(())
+fn rows_of_several_pages_are_found(table: &mut Table<Counter>) -> Result<bool, NoMemory> {
+    let mut holds = true;
+    give_many(table, 130)?;
+    holds = holds && table.len() == 130;
+    set_about_ends(table)?;
+    for (number, count) in [
+        (0, None),
+        (1, Some(1)),
+        (62, Some(7)),
+        (63, Some(63)),
+        (64, Some(64)),
+        (65, Some(65)),
+        (67, Some(7)),
+        (127, Some(127)),
+        (128, Some(128)),
+        (129, Some(129)),
+        (130, Some(130)),
+        (131, None),
+    ] {
+        holds = holds && count_of(table, number) == count;
+    }
+    Ok(holds)
 }
 
 /// 129 counters are given, and those of the second page stopped: the others stay, and so do they where another
 /// page loses all but its last row.
-#[test]
-fn a_page_without_a_row_is_given_back(rt: HostRuntime) -> Result<(), Fail> {
-    let mut table = Table::new(rt.alloc());
-    give_many(&mut table, 129)?;
-    stop_all(&mut table, 65, 129);
-    assert_eq!(rt; rows_among(&table, 1, 65), 64);
-    assert_eq!(rt; rows_among(&table, 65, 129), 0);
-    assert_eq!(rt; count_of(&table, 129), Some(7));
-    assert_eq!(rt; table.next_after(64), Some(129));
-    stop_all(&mut table, 1, 64);
-    assert_eq!(rt; rows_among(&table, 1, 130), 2);
-    assert_eq!(rt; count_of(&table, 64), Some(7));
-    assert!(rt; table.alter(65, &Stop));
-    assert!(rt; !table.alter(64, &Stop));
-    assert_eq!(rt; table.next_after(0), Some(129));
-    Ok(())
+fn a_page_without_a_row_is_given_back(table: &mut Table<Counter>) -> Result<bool, NoMemory> {
+    let mut holds = true;
+    give_many(table, 129)?;
+    stop_all(table, 65, 129);
+    holds = holds && rows_among(table, 1, 65) == 64;
+    holds = holds && rows_among(table, 65, 129) == 0;
+    holds = holds && count_of(table, 129) == Some(7);
+    holds = holds && table.next_after(64) == Some(129);
+    stop_all(table, 1, 64);
+    holds = holds && rows_among(table, 1, 130) == 2;
+    holds = holds && count_of(table, 64) == Some(7);
+    holds = holds && table.alter(65, &Stop);
+    holds = holds && !table.alter(64, &Stop);
+    holds = holds && table.next_after(0) == Some(129);
+    Ok(holds)
 }
 
 /// Counters are given and stopped one after another, over several pages, beside one that stays: each is found
 /// while it is there.
-#[test]
-fn rows_come_and_go(rt: HostRuntime) -> Result<(), Fail> {
-    let mut table = Table::new(rt.alloc());
+fn rows_come_and_go(table: &mut Table<Counter>) -> Result<bool, NoMemory> {
+    let mut holds = true;
     table.give(started())?;
     for number in 2..300u64 {
         table.give(started())?;
-        assert_eq!(rt; rows_among(&table, 1, number.saturating_add(1)), 2);
-        assert!(rt; !table.alter(number, &Stop));
-        assert!(rt; table.item(number).is_none());
+        holds = holds && rows_among(table, 1, number.saturating_add(1)) == 2;
+        holds = holds && !table.alter(number, &Stop);
+        holds = holds && table.item(number).is_none();
     }
-    assert_eq!(rt; count_of(&table, 1), Some(7));
-    assert_eq!(rt; table.len(), 299);
-    Ok(())
+    holds = holds && count_of(table, 1) == Some(7);
+    holds = holds && table.len() == 299;
+    Ok(holds)
+}
+
+/// Whether a new table does what is asked for by a number below 5.
+fn plays(alloc: Global, which: u8) -> Result<bool, NoMemory> {
+    let mut table = Table::new(alloc);
+    match which {
+        0 => a_row_that_is_over_is_forgotten(&mut table),
+        1 => a_row_that_rests_is_passed_over(&mut table),
+        2 => rows_of_several_pages_are_found(&mut table),
+        3 => a_page_without_a_row_is_given_back(&mut table),
+        _ => rows_come_and_go(&mut table),
+    }
+}
+
+/// Whether tables keep, forget and find their rows.
+pub fn hold(alloc: Global) -> Result<bool, NoMemory> {
+    let mut holds = true;
+    for which in 0..5u8 {
+        holds = plays(alloc, which)? && holds;
+    }
+    Ok(holds)
 }
