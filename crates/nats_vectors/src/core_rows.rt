@@ -9,7 +9,6 @@ use nats_outside::{Dialer, FakeDialer, FakeLink, FakeRead, FakeWrite};
 use nats_script::{Script, read_script};
 use std::alloc::Global;
 use std::net::{IpAddr, Ipv4Addr, SocketAddr};
-use std::test::Fail;
 
 // A link that is never up in these rows.
 const OTHER_LINK: u64 = 9;
@@ -172,17 +171,12 @@ const STEPS: &str = "done\nnumbered 1\ndone\nmessage hi\nout of turn\ngone 1\nnu
 
 const KEPT: &str = "journal done numbered 1 done message hi numbered 1 (connected) unsettled";
 
-#[test]
-fn each_turn_is_noted_with_its_reply(rt: HostRuntime) -> Result<(), Fail> {
-    let alloc = rt.alloc();
+/// Whether each turn is noted with its reply, and played so without a journal.
+pub fn are_noted(alloc: Global) -> Result<bool, NoMemory> {
     let kept = steps_of(alloc, SCRIPT, true)?;
-    assert_eq!(rt;
-        kept.as_slice(),
-        format!(in alloc; "{STEPS}{KEPT}")?.as_bytes()
-    );
+    let want = format!(in alloc; "{STEPS}{KEPT}")?;
     let bare = steps_of(alloc, SCRIPT, false)?;
-    assert!(rt; bare.as_slice().starts_with(STEPS.as_bytes()));
-    Ok(())
+    Ok(kept.as_slice() == want.as_bytes() && bare.as_slice().starts_with(STEPS.as_bytes()))
 }
 
 // ---- a link that is lent
@@ -201,13 +195,12 @@ fn bring_up(alloc: Global, core: &mut Core) -> Result<(), NoMemory> {
 }
 
 // The halves of a link in memory that gives this text and takes 4 bytes at a write.
-fn halves(alloc: Global, text: &str) -> Result<(FakeRead, FakeWrite), &'static str> {
-    let bytes = Bytes::copy_from_slice(alloc, text.as_bytes());
-    let link = FakeLink::new(alloc, bytes.ok().ok_or("memory")?, 4);
-    let links = vec![in alloc; link.ok().ok_or("memory")?];
+fn halves(alloc: Global, text: &str) -> Result<(FakeRead, FakeWrite), NoMemory> {
+    let bytes = Bytes::copy_from_slice(alloc, text.as_bytes())?;
+    let links = vec![in alloc; FakeLink::new(alloc, bytes, 4)?]?;
     let home = SocketAddr::new(IpAddr::V4(Ipv4Addr::LOCALHOST), 4222);
-    let mut dialer = FakeDialer::told(alloc, links.ok().ok_or("memory")?);
-    dialer.dial(&home).ok().ok_or("no link")
+    let mut dialer = FakeDialer::told(alloc, links);
+    dialer.dial(&home).map_err(|_| NoMemory)
 }
 
 fn reads<L: LinkRead>(core: &mut Core, alloc: Global, link: &mut L) -> Option<ReadOnce> {
@@ -257,18 +250,16 @@ fn answers_and_loses(
     Ok(answers && write.taken() == b"PONG\r\n".as_slice() && is_lost(alloc, core, read))
 }
 
-fn lends_a_link(alloc: Global, core: &mut Core) -> Result<bool, &'static str> {
-    bring_up(alloc, core).map_err(|_| "memory")?;
+fn lends_a_link(alloc: Global, core: &mut Core) -> Result<bool, NoMemory> {
+    bring_up(alloc, core)?;
     let (mut read, mut write) = halves(alloc, "PING\r\n")?;
-    answers_and_loses(alloc, core, &mut read, &mut write).map_err(|_| "memory")
+    answers_and_loses(alloc, core, &mut read, &mut write)
 }
 
-#[test]
-fn a_link_is_read_and_written(rt: HostRuntime) -> Result<(), Fail> {
-    let alloc = rt.alloc();
+/// Whether a link that is lent is read and written.
+pub fn is_lent(alloc: Global) -> Result<bool, NoMemory> {
     let mut core = new_core(alloc, &settings(alloc)?, true)?;
     let is_lent = lends_a_link(alloc, &mut core);
     drop(core);
-    assert!(rt; is_lent?);
-    Ok(())
+    is_lent
 }
