@@ -475,6 +475,13 @@ impl Handshake {
         now >= self.start && now - self.start >= self.timeout
     }
 
+    /// How many milliseconds are left at `now` of the time that it may take; none where that is over.
+    pub fn left(&self, now: u64) -> u64
+        ensures { result ≡ left_at self.now now }
+    {
+        self.timeout.saturating_sub(now.saturating_sub(self.start))
+    }
+
     /// What is to be written.
     pub fn out(&self) -> &[u8]
         ensures { result.now ≡ self.now.out }

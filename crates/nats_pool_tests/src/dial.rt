@@ -1,6 +1,6 @@
 use crate::machine::begun;
 use bytes::Bytes;
-use nats_dial::{ConnectOptions, Handshake, NoMemory, ServerList, shake_hands};
+use nats_dial::{ConnectErrorKind, ConnectOptions, Handshake, NoMemory, ServerList, shake_hands};
 use nats_names::{AddrError, Text};
 use nats_outside::{Dialer, FakeClock, FakeDialer, FakeLink, FakeRead, FakeWrite};
 use nats_pool::ServerInfo;
@@ -38,7 +38,7 @@ fn dialer(alloc: Global, text: &str) -> Result<FakeDialer, NoMemory> {
 // Its halves.
 fn halves(alloc: Global, text: &str) -> Result<(FakeRead, FakeWrite), &'static str> {
     let mut dialer = dialer(alloc, text).ok().ok_or("memory")?;
-    let halves = dialer.dial(&home()).ok().ok_or("no link");
+    let halves = dialer.dial(&home(), 5_000).ok().ok_or("no link");
     drop(dialer);
     halves
 }
@@ -90,6 +90,29 @@ fn leaves(shaking: Handshake, rest: &[u8]) -> bool {
     is_left
 }
 
+// Whether a handshake whose first read fails is timed out, where the clock comes to `last` by then.
+fn is_timed_out(alloc: Global, shaking: &mut Handshake, last: u64) -> Result<bool, NoMemory> {
+    let failing = FakeLink::failing(alloc, Bytes::new(), 7, vec![in alloc; 1]?, Vec::new(alloc))?;
+    let mut dialer = FakeDialer::told(alloc, vec![in alloc; failing]?);
+    let Ok((mut read, mut write)) = dialer.dial(&home(), 5_000) else {
+        return Err(NoMemory);
+    };
+    let options = ConnectOptions::new();
+    let mut clock = clock(alloc, last)?;
+    let shaken = shake_hands(
+        alloc,
+        shaking,
+        &options,
+        &mut NoServers,
+        &mut read,
+        &mut write,
+        &mut clock,
+    );
+    drop(options);
+    let kind = shaken.err().map(|error| error.kind());
+    Ok(kind == Some(ConnectErrorKind::TimedOut))
+}
+
 #[test]
 fn a_link_comes_up_in_time(rt: HostRuntime) -> Result<(), Fail> {
     let alloc = rt.alloc();
@@ -98,5 +121,8 @@ fn a_link_comes_up_in_time(rt: HostRuntime) -> Result<(), Fail> {
     let has_rest = leaves(shaking, b"rest");
     assert!(rt; is_up?);
     assert!(rt; has_rest);
+    let is_late = is_timed_out(alloc, &mut begun(alloc, "a", 0)?, 5_000);
+    let is_early = is_timed_out(alloc, &mut begun(alloc, "a", 0)?, 4_999);
+    assert!(rt; is_late? && !is_early?);
     Ok(())
 }

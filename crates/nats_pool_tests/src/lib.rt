@@ -6,6 +6,8 @@
 #[cfg(test)]
 mod addr;
 #[cfg(test)]
+mod asked;
+#[cfg(test)]
 mod dial;
 #[cfg(test)]
 mod handshake;

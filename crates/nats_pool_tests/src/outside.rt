@@ -77,7 +77,7 @@ fn is_used(alloc: Global, read: &mut FakeRead, write: &mut FakeWrite) -> Result<
 
 // One that is dialed, used and handed back.
 fn links(alloc: Global, world: &mut Memory) -> Result<bool, NoMemory> {
-    match seen::dial(world, &home()) {
+    match seen::dial(world, &home(), 5_000) {
         Ok((dialed_read, dialed_write)) => {
             let mut read = dialed_read;
             let mut write = dialed_write;
@@ -92,7 +92,7 @@ fn links(alloc: Global, world: &mut Memory) -> Result<bool, NoMemory> {
 fn goes(alloc: Global, world: &mut Memory) -> Result<bool, NoMemory> {
     let is_told = plays(world) && resolves(alloc, world);
     let is_linked = links(alloc, world)?;
-    Ok(is_told && is_linked && seen::dial(world, &home()).is_err())
+    Ok(is_told && is_linked && seen::dial(world, &home(), 5_000).is_err())
 }
 
 #[test]

@@ -188,6 +188,10 @@ const VIOLATES: &str = "INFO {}\r\n-ERR 'Authorization Violation'\r\n";
 
 const VIOLATION: &str = "authorization violation: nats: authorization violation";
 
+const BROKE: &str = "IO error: broken pipe";
+
+const WANTS_TLS: &str = "INFO {\"tls_required\":true}\r\nPONG\r\n";
+
 const UP: &str = "INFO {}\r\nPONG\r\n";
 
 #[test]
@@ -196,6 +200,12 @@ fn rounds_that_give_no_link(rt: HostRuntime) -> Result<(), Fail> {
         a_round(&[], &[], "IO error: all connection attempts failed", 0),
         // Both addresses are dialed, and each link ends.
         a_round(&["a"], &["", ""], NO_INFO, 2),
+        // A link that ends in the midst of its INFO told of none; one that ends behind it broke.
+        a_round(&["a"], &["INFO {\"a", "INFO {\"a"], NO_INFO, 2),
+        a_round(&["a"], &["INFO {}\r\n", "INFO {}\r\nPIN"], BROKE, 2),
+        // TLS is wanted by the scheme, or by the INFO.
+        a_round(&["tls://a"], &[UP, UP], "TLS error", 2),
+        a_round(&["a"], &[WANTS_TLS, WANTS_TLS], "TLS error", 2),
         // What is not dialed counts as no failure.
         Round {
             asking: 1,

@@ -207,7 +207,7 @@ fn halves(alloc: Global, text: &str) -> Result<(FakeRead, FakeWrite), &'static s
     let links = vec![in alloc; link.ok().ok_or("memory")?];
     let home = SocketAddr::new(IpAddr::V4(Ipv4Addr::LOCALHOST), 4222);
     let mut dialer = FakeDialer::told(alloc, links.ok().ok_or("memory")?);
-    dialer.dial(&home).ok().ok_or("no link")
+    dialer.dial(&home, 5_000).ok().ok_or("no link")
 }
 
 fn reads<L: LinkRead>(core: &mut Core, alloc: Global, link: &mut L) -> Option<ReadOnce> {
