@@ -1,5 +1,5 @@
 -- A bounded read between two looks at the clock.
-use Rattle.std.proofs.Common.{◌≡◌, refl, ◌∙◌, sym, ap, subst, inl, inr, ℕ, zero, suc, ◌<◌, ◌≤◌, arith, Bool, true, false, List, [], ◌∷◌, length, Option, Some, None, Result, Ok, Err, leb-false, leb-true}
+use Rattle.std.proofs.Common.{◌≡◌, refl, ◌∙◌, sym, ap, subst, inl, inr, ℕ, zero, suc, ◌+◌, ◌<◌, ◌≤◌, arith, Bool, true, false, List, [], ◌∷◌, length, Option, Some, None, Result, Ok, Err, leb-false, leb-true}
 use Rattle.std.specs.Io.{ReadsAtMost}
 use Rattle.nats_names.specs.declared.failed.Failed.{Failed}
 use Rattle.nats_addr.specs.Resolving.{risen}
@@ -85,7 +85,7 @@ heard_in_time buf old first second new (Ok (suc n)) result r after ms left c d r
     (stays, less, over) (is, kept) =
     rw is (
       kept ∙ (stays ∙ same),
-      bound,
+      bound.0,
       omega arith,
       λ going. subst (λ (t : Talk). InTime t.start t.timeout d) same
           (over (subst (λ (t : Talk). IsOpen t.stage) (sym same) going)),

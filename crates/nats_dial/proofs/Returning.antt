@@ -1,5 +1,5 @@
 -- How many links came and were handed back in a round, and a round that gave a link.
-use Rattle.std.proofs.Common.{◌≡◌, refl, ◌∙◌, sym, ap, inl, inr, ℕ, zero, suc, ◌+◌, ◌<◌, Bool, true, false, List, [], ◌∷◌, ◌++◌, drop, append_assoc, append-nil, Option, Some, None, Result, Ok, Err}
+use Rattle.std.proofs.Common.{◌≡◌, refl, ◌∙◌, sym, ap, arith, inl, inr, ℕ, zero, suc, ◌+◌, ◌<◌, Bool, true, false, List, [], ◌∷◌, ◌++◌, drop, append_assoc, append-nil, Option, Some, None, Result, Ok, Err}
 use Rattle.std.specs.declared.net.socket_addr.SocketAddr.{SocketAddr}
 use Rattle.url.specs.Parts.{Parts}
 use Rattle.nats_names.specs.declared.addr_error.AddrError.{AddrError}
@@ -29,8 +29,10 @@ use Rattle.nats_dial.proofs.Causing.{up_onward, asked, asked_onward, rested_onwa
 -- ---- counts that rise so many times, and lists that grow
 
 raised_twice : (m n a : ℕ) → raised m (raised n a) ≡ raised (m + n) a
-raised_twice zero n a = refl
-raised_twice (suc m) n a = ap (risen 1) (raised_twice m n a)
+raised_twice zero n a = let same : n ≡ 0 + n = omega arith in ap (λ (k : ℕ). raised k a) same
+raised_twice (suc m) n a =
+    let same : suc (m + n) ≡ suc m + n = omega arith in
+    ap (risen 1) (raised_twice m n a) ∙ ap (λ (k : ℕ). raised k a) same
 
 grew_same : {L : Type 0} (known : Option (List L)) → Grew known known
 grew_same None = tt
@@ -73,7 +75,7 @@ back_on a b c x y = record {
 pub out_on : (a b c : Seen) → AllBack a b → OneOut b c → OneOut a c
 out_on a b c x y = record {
   number = y.number + x.number;
-  links = y.links ∙ (ap (raised (suc y.number)) x.links ∙ raised_twice (suc y.number) x.number a.dialer.links);
+  links = y.links ∙ (ap (raised (suc y.number)) x.links ∙ ap (risen 1) (raised_twice y.number x.number a.dialer.links));
   backs = y.backs ∙ (ap (raised y.number) x.backs ∙ raised_twice y.number x.number a.dialer.backs);
   ended = grew_on a.dialer.ended b.dialer.ended c.dialer.ended x.ended y.ended;
 }
