@@ -1,5 +1,6 @@
 -- A round of connecting on default options, whose pool has one server: what it says of texts and of what is offered.
 use Rattle.std.proofs.Common.{◌≡◌, refl, ◌∙◌, sym, ap, subst, inl, inr, ◌⊎◌, ℕ, arith, Bool, true, false, true≢false, if◌then◌else◌, List, [], ◌∷◌, ◌++◌, map, length, All, Option, Some, None, Result, Ok, Err, IfOk, IfErr}
+use Rattle.std.specs.Prelude.{OnErr}
 use Rattle.std.specs.Global.{Vec}
 use Rattle.std.proofs.lemmas.List.Elements.{All-nil, All-cons, All-head}
 use Rattle.std.proofs.lemmas.List.Sorted.{All-permutation, length_permutation}
@@ -313,6 +314,10 @@ not_dialed addr server a b (refused.Publish e) spelled why = absurd why
 not_dialed addr server a b (refused.Subscribe e) spelled why = absurd why
 not_dialed addr server a b refused.LinkEnded spelled why = absurd why
 not_dialed addr server a b refused.NoMemory spelled why = tt
+
+pub on_err : {L E : Type 0} (P : Type 0) (r : Result L E) → P → OnErr r P
+on_err P (Ok l) p = tt
+on_err P (Err e) p = p
 
 pub if_ok_to : {L E : Type 0} (P Q : L → Type 0) (r : Result L E) → IfOk r P → ((l : L) → P l → Q l) → IfOk r Q
 if_ok_to P Q (Ok l) p f = f l p

@@ -1,10 +1,11 @@
 -- A link came of the address, or a round with its server alone gave none.
-use Rattle.std.proofs.Common.{subst}
+use Rattle.std.proofs.Common.{refl, subst}
 use Rattle.std.specs.Prelude.{IfErr, OnErr}
 use Rattle.nats_outside.specs.Told.{Seen}
 use Rattle.nats_dial.specs.Causes.{AllBack, Onward}
 use Rattle.nats_live.specs.Causes.{LinkedTo, WhyNotDialed}
-use Rattle.nats_live.proofs.Dialing.{if_err_to, if_ok_to, not_dialed}
+use Rattle.nats_dial.proofs.Returning.{back_kept}
+use Rattle.nats_live.proofs.Dialing.{if_err_to, if_ok_to, on_err, not_dialed}
 use Rattle.nats_live.proofs.dial.dial.Goals as goal
 
 pub returns-clause-onward : goal.returns-clause-onward
@@ -35,3 +36,8 @@ pub returns-clause-back : goal.returns-clause-back
 returns-clause-back g c =
     subst (λ (a : Seen). OnErr c.link_to.result (AllBack a (g.W.Reach.seen c.link_to.new.world)))
     c.draw-start.ensures.told c.link_to.ensures.back
+
+-- nothing was dialed
+pub returns-in_err-server-clause-back : goal.returns-in_err-server-clause-back
+returns-in_err-server-clause-back g c = on_err _ c.from_residual.result
+    (back_kept (g.W.Reach.seen c.args.world.now) (g.W.Reach.seen c.args.world.now) refl)

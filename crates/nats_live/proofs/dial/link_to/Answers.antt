@@ -1,11 +1,12 @@
 -- A round on default options is one of a client that offers nothing, and of the pool's server alone.
-use Rattle.std.proofs.Common.{◌∙◌, ap, map}
+use Rattle.std.proofs.Common.{◌∙◌, ap, map, refl}
 use Rattle.nats_pool.specs.Auths.{auth_value}
 use Rattle.nats_pool.specs.Discovery.{Discovers}
 use Rattle.nats_pool.specs.Handing.{pool_told}
 use Rattle.nats_pool.specs.Servers.{new_server}
 use Rattle.nats_handshake.specs.Credentials.{SignerAnswers, AuthAnswers, Offers}
-use Rattle.nats_live.proofs.Dialing.{began_alone, began_well, begun_alone, failed_default, not_linked, offers_default, linked_default, refuses_texts}
+use Rattle.nats_dial.proofs.Returning.{back_kept}
+use Rattle.nats_live.proofs.Dialing.{began_alone, began_well, begun_alone, failed_default, not_linked, offers_default, linked_default, on_err, refuses_texts}
 use Rattle.nats_live.proofs.dial.link_to.Goals as goal
 
 pub returns-in-Ok-clause-up : goal.returns-in-Ok-clause-up
@@ -65,3 +66,12 @@ returns-clause-refused g c =
     at began.names)
     began.plan began.options round limit)
     c.in-Err.ensures.began))
+
+-- nothing was dialed
+pub returns-in_err-addrs-clause-back : goal.returns-in_err-addrs-clause-back
+returns-in_err-addrs-clause-back g c = on_err _ c.from_residual.result
+    (back_kept (g.W.Reach.seen c.args.world.now) (g.W.Reach.seen c.args.world.now) refl)
+
+pub returns-in_err-pool-clause-back : goal.returns-in_err-pool-clause-back
+returns-in_err-pool-clause-back g c = on_err _ c.from_residual-in_err-pool.result
+    (back_kept (g.W.Reach.seen c.args.world.now) (g.W.Reach.seen c.args.world.now) refl)
