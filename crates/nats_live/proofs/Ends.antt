@@ -21,7 +21,7 @@ use Rattle.nats_live.specs.declared.error.LiveError.{LiveError}
 use Rattle.nats_live.specs.declared.error.LiveError.TheVariants as refused
 use Rattle.nats_live.specs.Back.{IsBack}
 use Rattle.nats_live.specs.Causes.{OffersNothing, DialedTo, Shows, LinkBrokeOrEnded, FaultLater, WhyNotPublished, WhyNotReceived}
-use Rattle.nats_live.specs.Ended.{messages, ends_in_fault, WasPublished, WasReceived}
+use Rattle.nats_live.specs.Ended.{messages, limit_with, ends_in_fault, WasPublished, WasReceived}
 use Rattle.nats_live.specs.Steps.{ReadsWhole}
 use Rattle.nats_live.specs.Flow.{HasBegun, Accepts, FlushEnds, Publishes, PublishedOver, Receives, Subscribes, IsReceiving, IsOver, IsWritten, TakesAll, ReceiveEnds, ReceivesAll, ReceivedOver, CameSoFar, GaveLater, published_text, subscribed_text}
 use Rattle.nats_live.proofs.Handing.{gave_nothing, ends_shown, broke, broke_or_ended, link_ended, was_published, fault_in_rest, too_large, was_received, fewer_came, fault_later}
@@ -391,7 +391,7 @@ published_over limit joined head subject payload old w (Err refused.NoMemory) b 
 
 pub published_last : (addr : List ℕ) (info : ServerInfo) (rest subject payload : List ℕ) (r : ReadTold) (w0 w : WriteTold)
     (a m b : World) → (to : DialedTo addr info rest r w0 a m) → IsBack r w m b
-    → PublishedOver info.max_payload rest to.2.up.wrote subject payload (Ok tt) w
+    → PublishedOver (limit_with info.max_payload rest) rest to.2.up.wrote subject payload (Ok tt) w
     → Shows addr (WasPublished subject payload) a b
 published_last addr info rest subject payload r w0 w a m b to back is =
     ends_shown addr (WasPublished subject payload) info rest r r w0 w a m b to back
@@ -400,7 +400,7 @@ published_last addr info rest subject payload r w0 w a m b to back is =
 pub why_not_published : (addr : List ℕ) (info : ServerInfo) (rest subject payload : List ℕ) (r : ReadTold)
     (w0 w : WriteTold) (a m b : World)
     (e : LiveError) → (up : IsUp OffersNothing false false None false info rest r w0) → Onward a m → IsBack r w m b
-    → PublishedOver info.max_payload rest up.wrote subject payload (Err e) w
+    → PublishedOver (limit_with info.max_payload rest) rest up.wrote subject payload (Err e) w
     → WhyNotPublished addr subject payload a e b
 why_not_published addr info rest subject payload r w0 w a m b
     (refused.Publish (publishing.InvalidSubject, source)) up onward back is = is
@@ -515,7 +515,7 @@ why_not_received addr info rest subject n r0 r w0 w a m b refused.NoMemory some 
 pub published_clause : (addr : List ℕ) (info : ServerInfo) (rest subject payload : List ℕ) (r : ReadTold) (w0 w : WriteTold)
     (a m b : World)
     (result : Result (Unit {0}) LiveError) → (to : DialedTo addr info rest r w0 a m) → IsBack r w m b
-    → PublishedOver info.max_payload rest to.2.up.wrote subject payload result w
+    → PublishedOver (limit_with info.max_payload rest) rest to.2.up.wrote subject payload result w
     → OnOk result (Shows addr (WasPublished subject payload) a b)
 published_clause addr info rest subject payload r w0 w a m b (Ok done) to back is =
     published_last addr info rest subject payload r w0 w a m b to back is
@@ -525,7 +525,7 @@ pub not_published_clause : (addr : List ℕ) (info : ServerInfo) (rest subject p
     (w0 w : WriteTold) (a m b : World)
     (result : Result (Unit {0}) LiveError) → (up : IsUp OffersNothing false false None false info rest r w0) → Onward a m
     → IsBack r w m b
-    → PublishedOver info.max_payload rest up.wrote subject payload result w
+    → PublishedOver (limit_with info.max_payload rest) rest up.wrote subject payload result w
     → IfErr result (λ e. WhyNotPublished addr subject payload a e b)
 not_published_clause addr info rest subject payload r w0 w a m b (Ok done) up onward back is = tt
 not_published_clause addr info rest subject payload r w0 w a m b (Err e) up onward back is =

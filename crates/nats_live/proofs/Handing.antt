@@ -20,7 +20,7 @@ use Rattle.nats_dial.specs.Tries.{IsUp}
 use Rattle.nats_script.specs.Printed.{message_line}
 use Rattle.nats_live.specs.Back.{IsBack}
 use Rattle.nats_live.specs.Causes.{OffersNothing, LinkedTo, DialedTo, Shows, LinkBroke, LinkBrokeOrEnded, FaultInRest, FaultLater, FewerCame, TooLarge}
-use Rattle.nats_live.specs.Ended.{EndedLink, LastLink, LastSince, IsOpenedBy, after, before, behind_handshake, messages, pongs, ends_in_fault, nothing, handshake_text, WasPublished, WasReceived}
+use Rattle.nats_live.specs.Ended.{EndedLink, LastLink, LastSince, IsOpenedBy, after, before, behind_handshake, messages, pongs, limit_with, limit_of, ends_in_fault, nothing, handshake_text, WasPublished, WasReceived}
 use Rattle.nats_live.specs.Flow.{GaveLater, CameSoFar, published_text, sub_text, subscribed_text}
 
 -- ---- the link as it opened
@@ -241,16 +241,20 @@ fault_in_rest info rest r0 w0 w a b up back fault =
 -- the payload is larger than the server takes
 pub too_large : (info : ServerInfo) (rest payload : List ℕ) (most size : ℕ) (r0 : ReadTold) (w0 w : WriteTold)
     (a b : Seen)
-    → IsUp OffersNothing false false None false info rest r0 w0 → IsBack r0 w a b → most ≡ info.max_payload
+    → IsUp OffersNothing false false None false info rest r0 w0 → IsBack r0 w a b → most ≡ limit_with info.max_payload rest
     → size ≡ length payload → most < size
     → TooLarge most size payload b
 too_large info rest payload most size r0 w0 w a b up back most_is size_is less = (
   size_is,
   less,
-  ends_last (λ (link : EndedLink). (o : Opened) × IsOpenedBy link o × (o.info.max_payload ≡ most)) r0 w a b back
+  ends_last (λ (link : EndedLink). (o : Opened) × IsOpenedBy link o × (limit_of o ≡ most)) r0 w a b back
       (λ pieces bytes gave wrote.
-      let o = opened_as info rest [] r0 r0 w0 up (gave_nothing r0) pieces gave in
-      (o.shaken, (o.opens, o.plain), ap (λ (i : ServerInfo). i.max_payload) o.info_is ∙ sym most_is)),
+      let o = opened_as info rest [] r0 r0 w0 up (gave_nothing r0) pieces gave in (
+        o.shaken,
+        (o.opens, o.plain),
+        ap (λ (i : ServerInfo). limit_with i.max_payload o.shaken.rest) o.info_is
+            ∙ (ap (limit_with info.max_payload) o.rest_is ∙ sym most_is),
+      )),
 )
 
 -- ---- messages that were received

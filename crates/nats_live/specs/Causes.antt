@@ -25,7 +25,7 @@ use Rattle.nats_client.specs.declared.errors.SubscribeErrorKind.TheVariants as s
 use Rattle.nats_client.specs.Errors.{publish_kind_text, subscribe_kind_text}
 use Rattle.nats_live.specs.declared.error.LiveError.{LiveError}
 use Rattle.nats_live.specs.declared.error.LiveError.TheVariants as refused
-use Rattle.nats_live.specs.Ended.{EndedLink, LastLink, LastSince, IsOpenedBy, behind_handshake, after, messages, ends_in_fault, nothing}
+use Rattle.nats_live.specs.Ended.{EndedLink, LastLink, LastSince, IsOpenedBy, behind_handshake, after, messages, limit_of, ends_in_fault, nothing}
 
 -- what an error prints
 abbrev pub live_error_text : LiveError → List ℕ
@@ -155,10 +155,10 @@ FaultLater b = LastOpened (λ o. ends_in_fault (behind_handshake o) ≡ true) b
 abbrev pub FewerCame : ℕ → Seen → Type 0
 FewerCame n b = LastOpened (λ o. length (messages 1 (after o)) < n) b
 
--- the payload is larger than the server takes by its INFO
+-- the payload is larger than the server takes by what it said last
 abbrev pub TooLarge : ℕ → ℕ → List ℕ → Seen → Type 0
 TooLarge limit size payload b =
-    (size ≡ length payload) × (limit < size) × LastOpened (λ o. o.info.max_payload ≡ limit) b
+    (size ≡ length payload) × (limit < size) × LastOpened (λ o. limit_of o ≡ limit) b
 
 -- why a message was not published
 abbrev pub WhyNotPublished : List ℕ → List ℕ → List ℕ → Seen → LiveError → Seen → Type 0

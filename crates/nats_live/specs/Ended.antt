@@ -6,6 +6,7 @@ use Rattle.nats_wire.specs.declared.message.Message.{Message}
 use Rattle.nats_wire.specs.declared.op.ClientOp.TheVariants as client
 use Rattle.nats_wire.specs.Commands.{command_text}
 use Rattle.nats_wire.specs.Operations.{Operation, message, ping_op, Front, unfinished, got, fault, front, behind, operations}
+use Rattle.nats_history.specs.History.{read, max_payload_after}
 use Rattle.nats_handshake.specs.Opened.{Opened, opened}
 use Rattle.nats_handshake.specs.Shaking.{opening, wants_tls}
 use Rattle.nats_script.specs.Printed.{message_line}
@@ -54,6 +55,19 @@ abbrev pub messages : ℕ → List Operation → List Message
 messages s [] = []
 messages s (message sid m ∷ more) = if sid == s then m ∷ messages s more else messages s more
 messages s (op ∷ more) = messages s more
+
+-- the limit of payloads after some operations, where this one held before them
+abbrev pub limit_behind : List Operation → ℕ → ℕ
+limit_behind [] limit = limit
+limit_behind (op ∷ more) limit = limit_behind more (max_payload_after (read op) limit)
+
+-- the same after those of some bytes
+abbrev pub limit_with : ℕ → List ℕ → ℕ
+limit_with limit bytes = limit_behind (operations bytes) limit
+
+-- the limit of a link's server as a command begins: that of its INFO, or the last one told with the handshake's pieces
+abbrev pub limit_of : Opened → ℕ
+limit_of o = limit_with o.info.max_payload o.rest
 
 abbrev pub is_fault : Front → Bool
 is_fault (fault n) = true

@@ -3,7 +3,7 @@ ghost use Rattle.std.specs.Prelude.{◌≡◌, ◌≤◌, IfErr, IfOk, OnOk};
 ghost use Rattle.nats_dial.specs.Causes.{AllBack, Onward};
 ghost use Rattle.nats_dial.specs.Lines.{Took};
 ghost use Rattle.nats_live.specs.Causes.{Shows, WhyNotPublished, WhyNotReceived};
-ghost use Rattle.nats_live.specs.Ended.{WasPublished, WasReceived};
+ghost use Rattle.nats_live.specs.Ended.{WasPublished, WasReceived, limit_with};
 ghost use Rattle.nats_live.specs.Flow.{PublishedOver, ReceivedOver};
 
 use crate::begin::begin;
@@ -31,7 +31,7 @@ fn publish_over<R: Wait, T: LinkWrite>(
     write: &mut T,
 ) -> Result<(), LiveError>
     ensures { (head : _) → Took head (T.write_told write.old)
-        → PublishedOver info.max_payload rest.items head subject.now
+        → PublishedOver (limit_with info.max_payload rest.items) rest.items head subject.now
         payload.now result (T.write_told write.new) }
 {
     let mut core = begin(alloc, info, rest, seed)?;

@@ -37,6 +37,26 @@ request svc T1 hi
 numbered 1
 link 0 none yet most 1048576 unsaid reads 0 in 0 0 out 0 0 links 0 pending 0 none\
 |config 2048 65536 check _INBOX MUX1
+up 5
+piece INFO%20{\"max_payload\":2}%0D%0A
+pub a ~ abc
+piece INFO%20{}%0D%0A
+pub a ~ abc
+pub a ~ ab
+lost
+up 5
+pub a ~ abc
+=up (connected)
+fed read
+max-payload 2 3
+fed read
+max-payload 2 3
+accepted handled
+lost (disconnected)
+up (connected)
+accepted handled
+link 2 up most 5 said 5 infos 2 reads 2 in 0 0 out 2 7 links 2 pending 14 none PUB a 3\r\nabc\r\n\
+|config 2048 65536 check _INBOX MUX1
 up 1048576
 hpub a r hi X y
 request svc T1 hi
@@ -95,7 +115,7 @@ fed put 1 read
 fed read read (lame duck mode detected) (server error: nats: x)
 fed ended (disconnected)
 out of turn
-link 1 down most 1048576 said 0 reads 4 in 2 4 out 0 0 links 1 pending 0 last 1\
+link 1 down most 1048576 said 0 infos 1 reads 4 in 2 4 out 0 0 links 1 pending 0 last 1\
 |config 1 65536 check _INBOX MUX1
 sub a ~
 pub a ~ hi
