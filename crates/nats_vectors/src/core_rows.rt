@@ -3,7 +3,7 @@
 use crate::words::{say, say_event, say_number, say_reply, say_take};
 use nats_core::{
     Bytes, Call, CallReply, Config, Core, Entry, LinkRead, LinkWrite, NoMemory, ReadOnce,
-    ServerInfo, StepError, StepReply, Turn, WriteOnce,
+    StepError, StepReply, Turn, WriteOnce, usual_server,
 };
 use nats_outside::{Dialer, FakeDialer, FakeLink, FakeRead, FakeWrite};
 use nats_script::{Script, read_script};
@@ -181,16 +181,9 @@ pub fn are_noted(alloc: Global) -> Result<bool, NoMemory> {
 
 // ---- a link that is lent
 
-fn settings(alloc: Global) -> Result<Config, NoMemory> {
-    match read_script(alloc, b"config 10 10 check _INBOX MUX1\n")? {
-        Script::Good { config, .. } => Ok(config),
-        Script::Bad(_) => Err(NoMemory),
-    }
-}
-
 fn bring_up(alloc: Global, core: &mut Core) -> Result<(), NoMemory> {
     let mut out = Vec::new(alloc);
-    let up = Turn::Up(ServerInfo::default(alloc));
+    let up = Turn::Up(usual_server(alloc));
     step(alloc, core, &mut out, up)
 }
 
@@ -227,17 +220,25 @@ fn answers_a_ping(
     Ok(
         writes(core, alloc, write) == Some(WriteOnce::Idle)
             && reads(core, alloc, read) == Some(ReadOnce::Played(4))
-            && reads(core, alloc, read) == Some(ReadOnce::Played(2))
+            && reads(core, alloc, read) == Some(ReadOnce::Played(4))
             && writes(core, alloc, write) == Some(WriteOnce::Wrote(4))
             && core.pending_pieces(alloc)?.len() == 1
             && writes(core, alloc, write) == Some(WriteOnce::Wrote(2)),
     )
 }
 
+fn tells_of_an_info(alloc: Global, core: &mut Core, read: &mut FakeRead) -> Result<bool, NoMemory> {
+    let is_none = core.news(alloc, 0)?.is_none();
+    let is_read = reads(core, alloc, read) == Some(ReadOnce::Played(4))
+        && reads(core, alloc, read) == Some(ReadOnce::Played(3));
+    let is_news = matches!(core.news(alloc, 0)?, Some((1, _)));
+    Ok(is_none && is_read && is_news && core.news(alloc, 1)?.is_none())
+}
+
 fn is_lost(alloc: Global, core: &mut Core, read: &mut FakeRead) -> bool {
     reads(core, alloc, read) == Some(ReadOnce::Lost)
         && !core.handler().is_up()
-        && core.journal().len() == 6
+        && core.journal().len() == 8
 }
 
 fn answers_and_loses(
@@ -246,19 +247,19 @@ fn answers_and_loses(
     read: &mut FakeRead,
     write: &mut FakeWrite,
 ) -> Result<bool, NoMemory> {
-    let answers = answers_a_ping(alloc, core, read, write)?;
+    let answers = answers_a_ping(alloc, core, read, write)? && tells_of_an_info(alloc, core, read)?;
     Ok(answers && write.taken() == b"PONG\r\n".as_slice() && is_lost(alloc, core, read))
 }
 
 fn lends_a_link(alloc: Global, core: &mut Core) -> Result<bool, NoMemory> {
     bring_up(alloc, core)?;
-    let (mut read, mut write) = halves(alloc, "PING\r\n")?;
+    let (mut read, mut write) = halves(alloc, "PING\r\nINFO {}\r\n")?;
     answers_and_loses(alloc, core, &mut read, &mut write)
 }
 
 /// Whether a link that is lent is read and written.
 pub fn is_lent(alloc: Global) -> Result<bool, NoMemory> {
-    let mut core = new_core(alloc, &settings(alloc)?, true)?;
+    let mut core = Core::new(alloc, Config::new(alloc)?, true)?;
     let is_lent = lends_a_link(alloc, &mut core);
     drop(core);
     is_lent

@@ -1,6 +1,6 @@
 //! Shows what the bytes of the protocol say, and writes them: `decode` and `decodes` read a server's bytes, `encode`
 //! writes a client's operations, `json` reads JSON of header maps and messages, `addr` reads addresses of servers.
-//! docs/DECODED.md and docs/ENCODED.md say how cases and lines are spelled.
+//! docs/SCRIPTS.md says how cases and lines are spelled.
 #![tactic(auto)]
 
 mod addr;
