@@ -100,10 +100,10 @@ fn connect<P: Rounds, W: Reach>(
 }
 
 /// Makes one round of connecting over `world`: begins a round of `pool`, whose last INFO was `last`, and tries its
-/// servers in order, each once its delay was slept: asks for its addresses and dials each in order, until the
-/// handshake of a link succeeds, with TLS wanted by nothing and before its time is over. A link whose handshake fails is handed back. The pool is told of each address that
-/// was dialed, and takes in the servers that an INFO tells of. A refusal of what the client authenticates by ends
-/// the round. Times are milliseconds. The crate's steps.
+/// servers in order, each once its delay was slept: asks for its addresses and dials each in order, until the handshake
+/// of a link succeeds, with TLS wanted by nothing and before its time is over. A link whose handshake fails is handed
+/// back. The pool is told of each address that was dialed, and takes in the servers that an INFO tells of. A refusal of
+/// what the client authenticates by ends the round. Times are milliseconds. The crate's steps.
 ///
 /// # Errors
 ///

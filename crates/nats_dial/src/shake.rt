@@ -14,11 +14,12 @@ use nats_pool::ServerList;
 use std::alloc::Global;
 
 /// Shakes hands over the two halves of a link, with a look at the clock before each read and after it, failed or not,
-/// and no read that waits for longer than what is left: reads, feeds the handshake, and writes all that it has to say, until it succeeds. What the link gave is then one text, cut
-/// anywhere, that the handshake takes as `Handshake::feed` says, and what it took is CONNECT, PING and the answers.
-/// TLS was then wanted neither by an option nor by the address nor by the INFO, the time was not over, and reads wait
-/// again for as long as it takes. `pool` takes in the servers that the INFO tells of. It is for a handshake that was just made, or one that is
-/// still open. Own call: the crate does this on its socket.
+/// and no read that waits for longer than what is left: reads, feeds the handshake, and writes all that it has to say,
+/// until it succeeds. What the link gave is then one text, cut anywhere, that the handshake takes as `Handshake::feed`
+/// says, and what it took is CONNECT, PING and the answers. TLS was then wanted neither by an option nor by the address
+/// nor by the INFO, the time was not over, and reads wait again for as long as it takes. `pool` takes in the servers
+/// that the INFO tells of. It is for a handshake that was just made, or one that is still open. Own call: the crate
+/// does this on its socket.
 ///
 /// # Errors
 ///

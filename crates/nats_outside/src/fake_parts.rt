@@ -16,8 +16,8 @@ pub struct Past {
     pub(crate) before: Option<Box<Past>>,
 }
 
-/// A link in memory that waits to be dialed: what it will give, at most how much at a call, how much at its first reads, and which
-/// calls fail.
+/// A link in memory that waits to be dialed: what it will give, at most how much at a call, how much at its first
+/// reads, and which calls fail.
 #[derive(Drop)]
 pub struct FakeLink {
     pub(crate) bytes: Bytes,
