@@ -193,7 +193,7 @@ fn halves(alloc: Global, text: &str) -> Result<(FakeRead, FakeWrite), NoMemory> 
     let links = vec![in alloc; FakeLink::new(alloc, bytes, 4)?]?;
     let home = SocketAddr::new(IpAddr::V4(Ipv4Addr::LOCALHOST), 4222);
     let mut dialer = FakeDialer::told(alloc, links);
-    dialer.dial(&home).map_err(|_| NoMemory)
+    dialer.dial(&home, 5_000).map_err(|_| NoMemory)
 }
 
 fn reads<L: LinkRead>(core: &mut Core, alloc: Global, link: &mut L) -> Option<ReadOnce> {
