@@ -40,6 +40,7 @@ fn answer_link(alloc: Global, word: &str, rest: &str, out: &mut String) -> Resul
         "options" => options::push_all(alloc, out)?,
         "outside" => outside::push_all(alloc, out)?,
         "shake" => shake::push_shaken(alloc, rest, out)?,
+        "unread" => shake::push_unread(alloc, rest, out)?,
         "round" => round::push_round(alloc, rest, out)?,
         "takes" => round::push_taken_in(alloc, rest, out)?,
         _ => return Ok(false),
