@@ -1,5 +1,5 @@
 -- What the last ended link shows, once a link is handed back.
-use Rattle.std.proofs.Common.{◌≡◌, refl, ◌∙◌, sym, ap, subst, inl, inr, ◌⊎◌, ℕ, zero, suc, ◌+◌, ◌<◌, ◌≤◌, arith, true, false, List, [], ◌++◌, length, drop, append_assoc, append-nil, drop_of_length-le, Option, Some, None, IfSome, option_map, flat_map, take, Result, Ok}
+use Rattle.std.proofs.Common.{◌≡◌, refl, ◌∙◌, sym, ap, subst, inl, inr, ◌⊎◌, ℕ, zero, suc, ◌+◌, ◌<◌, ◌≤◌, arith, true, false, List, [], ◌∷◌, ◌++◌, length, drop, append_assoc, append-nil, drop_of_length-le, Option, Some, None, IfSome, option_map, flat_map, take, Result, Ok}
 use Rattle.std.proofs.lemmas.List.{drop-append-le}
 use Rattle.std.specs.List.{concat}
 use Rattle.nats_info.specs.declared.info.ServerInfo.{ServerInfo}
@@ -13,13 +13,13 @@ use Rattle.nats_wire.specs.Operations.{Operation, operations}
 use Rattle.nats_handshake.specs.Opened.{Opened, opened, opened_in}
 use Rattle.nats_handshake.specs.Shaking.{opening, wants_tls}
 use Rattle.nats_handshake.proofs.Opening.{with_later, opened_later, succeeds_opened}
-use Rattle.nats_dial.specs.Causes.{Onward, Grew, AllBack, OneOut}
+use Rattle.nats_dial.specs.Causes.{Onward, Grew, AllBack}
 use Rattle.nats_dial.specs.Lines.{Took}
 use Rattle.nats_dial.proofs.Returning.{out_back}
 use Rattle.nats_dial.specs.Tries.{IsUp}
 use Rattle.nats_script.specs.Printed.{message_line}
 use Rattle.nats_live.specs.Back.{IsBack}
-use Rattle.nats_live.specs.Causes.{OffersNothing, LinkedTo, DialedTo, Shows, LinkBroke, LinkBrokeOrEnded, FaultInRest, FaultLater, FewerCame, TooLarge}
+use Rattle.nats_live.specs.Causes.{OffersNothing, DialedTo, Shows, LinkBroke, LinkBrokeOrEnded, FaultInRest, FaultLater, FewerCame, TooLarge}
 use Rattle.nats_live.specs.Ended.{EndedLink, LastLink, LastSince, IsOpenedBy, after, before, behind_handshake, messages, pongs, limit_with, limit_of, ends_in_fault, nothing, handshake_text, WasPublished, WasReceived}
 use Rattle.nats_live.specs.Flow.{GaveLater, CameSoFar, published_text, sub_text, subscribed_text}
 

@@ -42,7 +42,8 @@ fn publish_over<R: Wait, T: LinkWrite>(
 
 /// Publishes a message of this subject and payload to the server of an address: connects by one round on
 /// default options, publishes, waits until the link took all of it, hangs up, shuts the link and hands it back,
-/// whatever came of it, all on the caller's thread. The steps are those of a client of the crate that publishes, flushes and is dropped.
+/// whatever came of it, all on the caller's thread. The steps are those of a client of the crate that publishes,
+/// flushes and is dropped.
 ///
 /// # Errors
 ///
@@ -102,8 +103,8 @@ fn receive_over<R: Wait, L: LinkRead, T: LinkWrite>(
 
 /// Receives `count` messages of a subject, at least one, from the server of an address: connects by one round
 /// on default options, subscribes, takes the messages, hangs up, shuts the link and hands it back, whatever came of
-/// it, all on the caller's thread. It answers the messages as printed, a line each. The steps are those of a client of the crate that
-/// subscribes, takes messages and is dropped.
+/// it, all on the caller's thread. It answers the messages as printed, a line each. The steps are those of a client
+/// of the crate that subscribes, takes messages and is dropped.
 ///
 /// # Errors
 ///

@@ -8,6 +8,9 @@ use nats_rows::{Bad, push_word};
 use std::alloc::Global;
 use std::net::{IpAddr, Ipv4Addr, SocketAddr};
 
+/// The milliseconds that a dial may take.
+pub const DIAL_TIMEOUT: u64 = 5_000;
+
 /// The four parts in memory.
 pub type Memory = Joined<FakeDialer, FakeResolver, FakeClock, FakeDraw>;
 
@@ -111,7 +114,7 @@ fn push_used(
 
 /// Dials a link, uses it and hands it back.
 fn push_link(alloc: Global, world: &mut Memory, out: &mut String) -> Result<(), Bad> {
-    match seen::dial(world, &home()) {
+    match seen::dial(world, &home(), DIAL_TIMEOUT) {
         Ok((dialed_read, dialed_write)) => {
             let mut read = dialed_read;
             let mut write = dialed_write;
@@ -127,7 +130,7 @@ fn push_world(alloc: Global, world: &mut Memory, out: &mut String) -> Result<(),
     push_times(alloc, world, out)?;
     push_resolved(alloc, world, out)?;
     push_link(alloc, world, out)?;
-    let is_dialed = seen::dial(world, &home()).is_ok();
+    let is_dialed = seen::dial(world, &home(), DIAL_TIMEOUT).is_ok();
     Ok(out.push_str(if is_dialed { " a-link" } else { " no-link" })?)
 }
 
