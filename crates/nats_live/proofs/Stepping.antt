@@ -17,7 +17,7 @@ use Rattle.nats_core.specs.Journal.{Logged, all_due, with_session, caught_up, pl
 use Rattle.nats_core.specs.Calls.{parts_in, PlaysDue, Steps}
 use Rattle.nats_core.specs.Links.{Reads, Writes}
 use Rattle.nats_core.proofs.Dues.{none_played, none_after_all, rounds_on_the_way}
-use Rattle.nats_live.specs.Steps.{PlaysWhole, HangsUp, HangsUpWhere, WritesWhole, ReadsWhole}
+use Rattle.nats_live.specs.Steps.{PlaysWhole, WritesWhole, ReadsWhole}
 
 -- due steps that were played make no difference once all are
 pub caught_due : (old new : Logged) → PlaysDue old new → caught_up new ≡ caught_up old
@@ -36,18 +36,6 @@ plays_err old new t Wanting steps = tt
 -- nothing is due of a core that caught up
 pub caught_twice : (c : Logged) → caught_up (caught_up c) ≡ caught_up c
 caught_twice c = ap (λ (s : Seen). with_session s c) (none_played (all_due c.session) (none_after_all c.session))
-
--- ---- hanging up
-
--- a core whose link is up played it
-pub hangs_up : (old new : Logged) (up : Bool) (result : Result StepReply StepError) → up ≡ (parts_in old).link.is_up
-    → up ≡ true → PlaysWhole old turns.Hangup result new → HangsUp old new
-hangs_up old new up result told is plays =
-    subst (λ (b : Bool). HangsUpWhere b old new) (sym is ∙ told) (result, plays)
-
--- one whose link is down stays as it is
-pub stays_down : (old : Logged) (up : Bool) → up ≡ (parts_in old).link.is_up → up ≡ false → HangsUp old old
-stays_down old up told is = subst (λ (b : Bool). HangsUpWhere b old old) (sym is ∙ told) refl
 
 -- ---- the link
 
