@@ -7,7 +7,7 @@ from pathlib import Path
 
 TOP = Path(__file__).resolve().parent.parent
 CLAUSE = re.compile(r"\b(ensures|requires)\*?\s+(\w+\s+)?\{")
-FUNCTION = re.compile(r"^(\s*)(pub (?:\([^)]*\) )?)?(?:final )?(?:const )?(?:unsafe )?fn (\w+)")
+FUNCTION = re.compile(r"^(\s*)(pub(?:\([^)]*\))? )?(?:final )?(?:const )?(?:unsafe )?fn (\w+)")
 GHOST_USE = re.compile(r"ghost use Rattle\.(\w+)\.specs\.([\w.]+)\.\{([^}]*)\}")
 
 
