@@ -68,7 +68,8 @@ fn word_and_space(word: &Option<Subject>) -> (&[u8], &[u8])
     }
 }
 
-fn append_subscription<'a>(
+/// Appends what the client writes to subscribe, of parts that are lent, whole or not at all.
+pub fn append_subscription<'a>(
     alloc: Global,
     sid: u64,
     subject: &'a Subject,
@@ -108,7 +109,8 @@ fn append_unsubscription(
     append_all(alloc, &[b"UNSUB ", sid, b" ", max, b"\r\n"], out)
 }
 
-fn append_publication(
+/// Appends what the client writes to publish, of parts that are lent, whole or not at all.
+pub fn append_publication(
     alloc: Global,
     subject: &Subject,
     respond: &Option<Subject>,
