@@ -51,8 +51,9 @@ def definitions_page():
                 rows += ["", f"## `{crate}`", "", "| name | what it is | file in specs/ |", "|---|---|---|", *part]
     return "\n".join([
         "# Definitions", "", MADE, "",
-        "What the contracts of public calls cite, crate by crate, lowest first. Where one row has several names, they say one thing",
-        "together, or the later ones help the first. What these definitions cite in turn stands beside them in the same folder.",
+        "What the contracts of public calls cite, crate by crate, lowest first. The text of a row is the comment of its first name; other",
+        "names in it stand right below that one in the file, without a comment of their own. What these definitions cite in turn stands beside",
+        "them in the same folder.",
         *rows, ""])
 
 
@@ -82,7 +83,7 @@ def pages():
 
 
 def wrong_paths(page):
-    text = page.read_text()
+    text = page.read_text(encoding="utf-8")
     for target in re.findall(r"\]\(([^)#\s]+)(?:#[^)]*)?\)", text):
         if "://" not in target and not (page.parent / target).exists():
             yield f"{page.name}: the link to {target} leads nowhere"
@@ -96,9 +97,9 @@ def wrong_names(page):
     known = set()
     for file in [*TOP.glob("crates/*/src/**/*.rt"), *TOP.glob("crates/*/specs/**/*.antt"), *TOP.glob("crates/*/must-fail/*.edit")]:
         known.add(file.stem)
-        known |= set(re.findall(r"[\w-]+", file.read_text()))
+        known |= set(re.findall(r"[\w-]+", file.read_text(encoding="utf-8")))
     known |= set(crates())
-    for name in re.findall(r"`([a-zA-Z_][\w:]*)`", page.read_text()):
+    for name in re.findall(r"`([a-zA-Z_][\w:]*)`", page.read_text(encoding="utf-8")):
         for word in name.split("::"):
             if word and word not in known:
                 yield f"{page.name}: nothing in the sources is named {name}"
@@ -111,10 +112,10 @@ def prose(text):
 
 
 def wrong_size(page):
-    words = len(page.read_text().split())
+    words = len(page.read_text(encoding="utf-8").split())
     if words > README_WORDS:
         yield f"{page.name}: {words} words, and {README_WORDS} at most are meant"
-    for sentence in re.split(r"(?<=[.:?!])\s+|\n\s*\n|\n- ", prose(page.read_text())):
+    for sentence in re.split(r"(?<=[.:?!])\s+|\n\s*\n|\n- ", prose(page.read_text(encoding="utf-8"))):
         if len(sentence.split()) > SENTENCE_WORDS:
             yield f"{page.name}: a sentence of {len(sentence.split())} words: {' '.join(sentence.split()[:8])} .."
 
@@ -124,8 +125,8 @@ def main():
     for name, made in (("DEFINITIONS.md", definitions_page()), ("CALLS.md", calls_page())):
         page = TOP / "docs" / name
         if "--write" in sys.argv:
-            page.write_text(made)
-        elif not page.is_file() or page.read_text() != made:
+            page.write_text(made, encoding="utf-8")
+        elif not page.is_file() or page.read_text(encoding="utf-8") != made:
             faults.append(f"docs/{name} is not what the sources say: run tests/pages.py --write")
     for page in pages():
         faults += wrong_paths(page)

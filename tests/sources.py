@@ -14,7 +14,7 @@ GHOST_USE = re.compile(r"ghost use Rattle\.(\w+)\.specs\.([\w.]+)\.\{([^}]*)\}")
 def groups():
     """Yields (title, crates) in the order of crates.txt, whose `#` lines are the titles."""
     title, names, found = "", [], []
-    for line in (TOP / "crates.txt").read_text().splitlines():
+    for line in (TOP / "crates.txt").read_text(encoding="utf-8").splitlines():
         if line.startswith("# "):
             if names:
                 found.append((title, names))
@@ -60,7 +60,7 @@ def owner_of(line):
 def functions(crate):
     """Yields the functions of a crate but for those of its tests."""
     for file in sorted((TOP / "crates" / crate / "src").rglob("*.rt")):
-        lines = file.read_text().splitlines()
+        lines = file.read_text(encoding="utf-8").splitlines()
         owner, in_trait, skip = "", False, False
         for at, line in enumerate(lines):
             if line.startswith("#[cfg(test)]") or line.startswith("#[test]"):
@@ -87,7 +87,7 @@ def functions(crate):
 def imported(file):
     """Returns, for each name that a file's clauses may cite, the crate and the file of specs/ that has it."""
     found = {}
-    for crate, path, names in GHOST_USE.findall(file.read_text()):
+    for crate, path, names in GHOST_USE.findall(file.read_text(encoding="utf-8")):
         for name in names.split(","):
             found[name.strip()] = (crate, path)
     return found
@@ -97,7 +97,7 @@ def definitions(crate):
     """Yields (file, names, comment) for each commented group of definitions of a crate's specs/."""
     for file in sorted((TOP / "crates" / crate / "specs").rglob("*.antt")):
         comment, fresh, names = [], [], []
-        for line in file.read_text().splitlines():
+        for line in file.read_text(encoding="utf-8").splitlines():
             m = re.match(r"^(?:unfoldable |abbrev )?(?:unfoldable )?pub (?:data |record )?([^\s:(]+)(?:[\s:(]|$)", line)
             if line.startswith("-- "):
                 if not line.startswith("-- --"):
@@ -120,12 +120,12 @@ def edits(crate):
     """Returns, for each function of a crate's sources that a wrong edit changes, the names of the edits."""
     found = {}
     for edit in sorted((TOP / "crates" / crate / "must-fail").glob("*.edit")):
-        rows = [line.split(": ", 1) for line in edit.read_text().splitlines() if ": " in line]
+        rows = [line.split(": ", 1) for line in edit.read_text(encoding="utf-8").splitlines() if ": " in line]
         file = next((text for word, text in rows if word == "file"), None)
         old = next((text for word, text in rows if word == "old"), None)
         if not file or old is None:
             continue
-        body = (TOP / "crates" / crate / file).read_text()
+        body = (TOP / "crates" / crate / file).read_text(encoding="utf-8")
         place = body[:body.find(old)].count("\n") + 1
         best = None
         for function in functions(crate):
