@@ -160,6 +160,7 @@ pub fn server_stream(alloc: Global, mix: Mix, count: usize) -> Result<Vec<u8>, N
 
 // ---- what a client sends
 
+#[inline(never)]
 fn headers(alloc: Global, id: &str) -> Result<HeaderMap> {
     let mut headers = HeaderMap::new(alloc);
     headers.append(alloc, "Nats-Msg-Id", id)?;
@@ -168,6 +169,7 @@ fn headers(alloc: Global, id: &str) -> Result<HeaderMap> {
     Ok(headers)
 }
 
+#[inline(always)]
 fn reply_subject(alloc: Global, has_reply: bool) -> Result<Option<Subject>, NoMemory> {
     if has_reply {
         Ok(Some(Subject::from_text(alloc, REPLY)?))
@@ -199,6 +201,7 @@ impl Parts {
         })
     }
 
+    #[inline(always)]
     fn publish(
         &self,
         alloc: Global,
@@ -214,6 +217,7 @@ impl Parts {
     }
 
     /// The operation, its texts copied.
+    #[inline(always)]
     pub fn made(&self, alloc: Global) -> Result<ClientOp> {
         match self.shape {
             Shape::Msg { has_reply, .. } => Ok(self.publish(alloc, has_reply, None)?),

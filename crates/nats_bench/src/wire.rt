@@ -184,6 +184,7 @@ fn decode(alloc: Global, stream: &[u8]) -> Result<Tally> {
 // ---- encoding
 
 /// Takes all that waits: how many bytes that were.
+#[inline(never)]
 fn take_all(alloc: Global, connection: &mut Connection) -> Result<u64, NoMemory> {
     let mut bytes = 0u64;
     for _ in 0..connection.pending() {
@@ -201,6 +202,7 @@ fn take_all(alloc: Global, connection: &mut Connection) -> Result<u64, NoMemory>
     Ok(bytes)
 }
 
+#[inline(always)]
 fn put(alloc: Global, connection: &mut Connection, op: &ClientOp) -> Result<u64, NoMemory> {
     connection.enqueue_write_op(alloc, op)?;
     if connection.is_write_buf_full() {
@@ -231,6 +233,7 @@ fn encode(alloc: Global, ops: &[ClientOp], count: usize) -> Result<u64, NoMemory
 }
 
 /// Makes an operation and writes it: how many bytes were taken then.
+#[inline(always)]
 fn put_made(alloc: Global, connection: &mut Connection, parts: &Parts) -> Result<u64> {
     let taken = {
         let op = parts.made(alloc)?;

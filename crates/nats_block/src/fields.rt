@@ -12,6 +12,7 @@ use nats_header::{HeaderError, HeaderMap};
 use std::alloc::Global;
 
 // Puts a field last among those of its name.
+#[inline(always)]
 fn put(headers: &mut HeaderMap, alloc: Global, name: &str, value: &str) -> Result<(), BlockError>
     ensures { Puts (option_map (with_field headers.old) (tested (name.now, value.now))) result headers.new }
 {
@@ -23,6 +24,7 @@ fn put(headers: &mut HeaderMap, alloc: Global, name: &str, value: &str) -> Resul
 }
 
 // Puts the field that begins in a line last among those of its name, and answers what follows the field's lines.
+#[inline(always)]
 fn put_field<'a>(
     headers: &mut HeaderMap,
     alloc: Global,
@@ -32,7 +34,7 @@ fn put_field<'a>(
         (field_of line.now.text.now (joined (lines line.now.rest.now))))
         (past_joined (lines line.now.rest.now)) result headers.new }
 {
-    let Some((name, value)) = cut_at(line.text, ':') else {
+    let Some((name, value)) = cut_at(line.text, b':') else {
         return Err(BlockError::Malformed);
     };
     let value = value.trim_start();
@@ -46,6 +48,7 @@ fn put_field<'a>(
 }
 
 /// The headers of the lines behind the first.
+#[inline(always)]
 pub fn read_fields(alloc: Global, text: &str) -> Result<HeaderMap, BlockError>
     ensures { Gives (headers_of (lines text.now)) result }
 {

@@ -44,7 +44,7 @@ fn head_with(alloc: Global, status: &str, description: &str) -> Result<Head, Blo
 fn read_text(alloc: Global, text: &str) -> Result<Head, BlockError>
     ensures { Gives (head_of_text text.now) result }
 {
-    match cut_at(text, ' ') {
+    match cut_at(text, b' ') {
         Some((status, description)) => head_with(alloc, status.trim(), description.trim()),
         None => head_with(alloc, text, ""),
     }

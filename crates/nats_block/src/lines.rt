@@ -4,6 +4,7 @@ ghost use Rattle.std.specs.Str.Lines.{lines, strip_carriage_return};
 ghost use Rattle.nats_block.specs.Lines.{cut_at, goes_on, joined};
 ghost use Rattle.nats_block.specs.Code.{lines_from, past_joined, JoinedFrom};
 
+use memchr::memchr;
 use nats_names::NoMemory;
 use std::alloc::Global;
 
@@ -27,13 +28,18 @@ pub struct Joined<'a> {
 }
 
 /// A text cut at its first `mark`, which is in neither part, `None` where it has none.
-pub fn cut_at(text: &str, mark: char) -> Option<(&str, &str)>
+#[inline(always)]
+pub fn cut_at(text: &str, mark: u8) -> Option<(&str, &str)>
     requires { mark < 128 }
     ensures { option_map (λ cut. (cut.0.now, cut.1.now)) result ≡ cut_at mark text.now }
 {
-    text.split_once(mark)
+    match memchr(mark, text.as_bytes()) {
+        Some(at) => Some((&text[..at], &text[at + 1..])),
+        None => None,
+    }
 }
 
+#[inline(always)]
 fn without_cr(line: &str) -> &str
     ensures { result.now ≡ strip_carriage_return line.now }
 {
@@ -44,13 +50,14 @@ fn without_cr(line: &str) -> &str
 }
 
 /// The first line of a text and what follows it, `None` where the text is empty.
+#[inline(always)]
 pub fn next_line(text: &str) -> Option<Line<'_>>
     ensures { lines_from result ≡ lines text.now }
 {
-    match text.split_once('\n') {
-        Some((line, rest)) => Some(Line {
-            text: without_cr(line),
-            rest,
+    match memchr(b'\n', text.as_bytes()) {
+        Some(at) => Some(Line {
+            text: without_cr(&text[..at]),
+            rest: &text[at + 1..],
         }),
         None if text.is_empty() => None,
         None => Some(Line { text, rest: "" }),
@@ -58,6 +65,7 @@ pub fn next_line(text: &str) -> Option<Line<'_>>
 }
 
 /// Whether a line goes on with the value before it.
+#[inline(always)]
 fn goes_on(line: &str) -> bool
     ensures { result ≡ goes_on line.now }
 {
@@ -68,6 +76,7 @@ fn goes_on(line: &str) -> bool
 }
 
 /// The first line of a text and what follows it, where that line goes on with the value before it.
+#[inline(always)]
 pub fn next_joined(text: &str) -> Option<Line<'_>>
     ensures { JoinedFrom result (lines text.now) }
 {
@@ -76,6 +85,7 @@ pub fn next_joined(text: &str) -> Option<Line<'_>>
 }
 
 /// The text `start` and the lines at the front of `text` that go on with it.
+#[inline(never)]
 pub fn join<'a>(alloc: Global, start: &str, text: &'a str) -> Result<Joined<'a>, NoMemory>
     ensures text { IfOk result (λ all. string_bytes all.text ≡ start.now ++ joined (lines text.now)) }
     ensures rest { IfOk result (λ all. lines all.rest.now ≡ past_joined (lines text.now)) }

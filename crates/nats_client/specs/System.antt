@@ -10,10 +10,17 @@ use Rattle.nats_client.specs.declared.net_resolver.NetResolver.{NetResolver}
 use Rattle.nats_client.specs.declared.system_clock.SystemClock.{SystemClock}
 
 abbrev pub net_read_told : {S : Type 0} → NetRead S → ReadTold
-net_read_told r = record { left = None; pieces = None; given = r.given; ends = r.ends; faults = r.faults }
+net_read_told r = record {
+  left = None;
+  pieces = None;
+  given = r.given;
+  ends = r.ends;
+  faults = r.faults;
+  wait = r.wait;
+}
 
 abbrev pub net_write_told : {S : Type 0} → NetWrite S → WriteTold
-net_write_told w = record { taken = None; faults = w.faults }
+net_write_told w = record { taken = None; faults = w.faults; is_shut = w.is_shut }
 
 abbrev pub dialer_told_of : {R : Type 0} → NetDialer R → DialerTold
 dialer_told_of d = record {
@@ -22,6 +29,10 @@ dialer_told_of d = record {
   dials = d.dials;
   word = d.word;
   to = d.to;
+  within = d.within;
+  links = d.links;
+  backs = d.backs;
+  was_shut = d.was_shut;
   ended = None;
 }
 

@@ -1,5 +1,5 @@
 //! A world in memory.
-ghost use Rattle.std.specs.Prelude.{◌≡◌, [], Some, None, IfOk};
+ghost use Rattle.std.specs.Prelude.{◌≡◌, false, [], Some, None, IfOk};
 ghost use Rattle.nats_outside.specs.declared.dialer.DialWord.TheVariants as word;
 ghost use Rattle.nats_outside.specs.Fakes.{dialer_told_of};
 
@@ -26,8 +26,18 @@ const PORT: u16 = 4_222;
 ///
 /// `NoMemory` for want of memory.
 pub fn memory_world(alloc: Global, links: Vec<FakeLink>) -> Result<MemoryWorld, NoMemory>
-    ensures { IfOk result (λ world. dialer_told_of world.reach.dialer
-        ≡ record { faults = 0; ends = 0; dials = 0; word = word.Fine; to = None; ended = Some [] }) }
+    ensures { IfOk result (λ world. dialer_told_of world.reach.dialer ≡ record {
+      faults = 0;
+      ends = 0;
+      dials = 0;
+      word = word.Fine;
+      to = None;
+      within = 0;
+      links = 0;
+      backs = 0;
+      was_shut = false;
+      ended = Some [];
+    }) }
 {
     let home = SocketAddr::new(IpAddr::V4(Ipv4Addr::LOCALHOST), PORT);
     Ok(Whole {

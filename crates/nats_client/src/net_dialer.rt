@@ -1,10 +1,10 @@
 //! A dialer over the network of the system.
-ghost use Rattle.std.specs.Prelude.{◌≡◌, None};
+ghost use Rattle.std.specs.Prelude.{◌≡◌, None, false};
 ghost use Rattle.nats_outside.specs.declared.dialer.DialWord.TheVariants as word;
 ghost use Rattle.nats_outside.specs.Told.{word_of};
 ghost use Rattle.nats_client.specs.System.{dialer_told_of, net_read_told, net_write_told};
 
-use crate::net_link::{NetRead, NetWrite};
+use crate::net_link::{NetRead, NetWrite, at_least_one};
 use nats_names::Failed;
 use nats_outside::{DialWord, Dialer};
 use std::io;
@@ -21,13 +21,28 @@ pub struct NetDialer<R> {
     dials: u64,
     word: DialWord,
     to: Option<SocketAddr>,
+    within: u64,
+    links: u64,
+    backs: u64,
+    was_shut: bool,
+    fault: Option<(SocketAddr, io::Error)>,
 }
 
 impl<R> NetDialer<R> {
     /// It dialed nothing yet.
     pub fn new(rt: R) -> NetDialer<R>
-        ensures { dialer_told_of result
-            ≡ record { faults = 0; ends = 0; dials = 0; word = word.Fine; to = None; ended = None } }
+        ensures { dialer_told_of result ≡ record {
+          faults = 0;
+          ends = 0;
+          dials = 0;
+          word = word.Fine;
+          to = None;
+          within = 0;
+          links = 0;
+          backs = 0;
+          was_shut = false;
+          ended = None;
+        } }
     {
         NetDialer {
             rt,
@@ -36,14 +51,26 @@ impl<R> NetDialer<R> {
             dials: 0,
             word: DialWord::Fine,
             to: None,
+            within: 0,
+            links: 0,
+            backs: 0,
+            was_shut: false,
+            fault: None,
         }
+    }
+
+    /// The address of the last dial that failed, and what the system said of it: for whoever prints. None before any.
+    pub fn last_fault(&self) -> Option<(SocketAddr, io::Error)>
+        ensures { result ≡ self.now.fault }
+    {
+        self.fault
     }
 }
 
 impl<R: Net> NetDialer<R> {
-    // Two handles of a new stream to this address.
-    fn open(&self, to: &SocketAddr) -> io::Result<(R::Stream, R::Stream)> {
-        let stream = self.rt.connect(*to)?;
+    // Two handles of a new stream to this address, where it came within so many milliseconds.
+    fn open(&self, to: &SocketAddr, within: u64) -> io::Result<(R::Stream, R::Stream)> {
+        let stream = self.rt.connect_timeout(*to, at_least_one(within))?;
         let other = stream.try_clone()?;
         Ok((stream, other))
     }
@@ -76,17 +103,21 @@ impl<R: Net> Dialer for NetDialer<R> {
     fn dial(
         &mut self,
         to: &SocketAddr,
+        within: u64,
     ) -> Result<(NetRead<R::Stream>, NetWrite<R::Stream>), Failed> {
         self.dials = self.dials.saturating_add(1);
         self.to = Some(*to);
-        match self.open(to) {
+        self.within = within;
+        match self.open(to, within) {
             Ok((stream, other)) => {
                 self.word = DialWord::Fine;
+                self.links = self.links.saturating_add(1);
                 Ok((NetRead::new(stream), NetWrite::new(other)))
             }
-            Err(_) => {
+            Err(error) => {
                 self.faults = self.faults.saturating_add(1);
                 self.word = DialWord::Failed;
+                self.fault = Some((*to, error));
                 Err(Failed)
             }
         }
@@ -94,6 +125,8 @@ impl<R: Net> Dialer for NetDialer<R> {
 
     fn hang_up(&mut self, read: NetRead<R::Stream>, write: NetWrite<R::Stream>) {
         self.word = word_of(read.faults(), write.faults(), read.ends());
+        self.backs = self.backs.saturating_add(1);
+        self.was_shut = write.is_shut();
         if read.faults() > 0 || write.faults() > 0 {
             self.faults = self.faults.saturating_add(1);
         }

@@ -1,5 +1,5 @@
 //! The two halves of a link over a stream of the system.
-ghost use Rattle.std.specs.Prelude.{◌≡◌, ◌≤◌, ◌<◌, [], length, IfSome, None};
+ghost use Rattle.std.specs.Prelude.{◌≡◌, ◌≤◌, ◌<◌, [], length, IfSome, None, false};
 ghost use Rattle.std.specs.List.{concat};
 ghost use Rattle.nats_addr.specs.Resolving.{risen};
 ghost use Rattle.nats_client.specs.System.{net_read_told, net_write_told};
@@ -9,8 +9,10 @@ use nats_names::Failed;
 use nats_outside::{LinkRead, LinkWrite};
 use std::io::{Read, Write};
 use std::net::{OpenStream, Shutdown};
+use std::time::Duration;
 
-/// The reading half of a link over a stream, which blocks until bytes are there. Each `Err` of the stream is a
+/// The reading half of a link over a stream, which blocks until bytes are there, or for as long as it was told to
+/// wait at most. Each `Err` of the stream is a
 /// failure, whatever its kind. It tells its counts and no bytes: what a socket gives is not known.
 #[derive(Drop)]
 pub struct NetRead<S> {
@@ -18,19 +20,27 @@ pub struct NetRead<S> {
     given: u64,
     ends: u64,
     faults: u64,
+    wait: Option<u64>,
+}
+
+// So many milliseconds; one in place of none, which would stand for no bound.
+pub(crate) fn at_least_one(ms: u64) -> Duration {
+    Duration::from_millis(ms.max(1))
 }
 
 impl<S> NetRead<S> {
     /// A half that gives what `stream` gives; its counts begin at 0.
     pub fn new(stream: S) -> NetRead<S>
         ensures stream { result.stream ≡ stream }
-        ensures told { net_read_told result ≡ record { left = None; pieces = None; given = 0; ends = 0; faults = 0 } }
+        ensures told { net_read_told result
+            ≡ record { left = None; pieces = None; given = 0; ends = 0; faults = 0; wait = None } }
     {
         NetRead {
             stream,
             given: 0,
             ends: 0,
             faults: 0,
+            wait: None,
         }
     }
 
@@ -49,7 +59,7 @@ impl<S> NetRead<S> {
     }
 }
 
-impl<S: Read> LinkRead for NetRead<S> {
+impl<S: Read + OpenStream> LinkRead for NetRead<S> {
     ghost read_told = { net_read_told };
 
     fn read(&mut self, buf: &mut [u8]) -> Result<usize, Failed> {
@@ -66,6 +76,11 @@ impl<S: Read> LinkRead for NetRead<S> {
             }
         }
     }
+
+    fn wait_at_most(&mut self, ms: Option<u64>) {
+        let _ = self.stream.set_read_timeout(ms.map(at_least_one));
+        self.wait = ms;
+    }
 }
 
 /// The writing half of a link over a stream, which blocks until bytes are taken. Each `Err` of the stream is a
@@ -74,15 +89,27 @@ impl<S: Read> LinkRead for NetRead<S> {
 pub struct NetWrite<S> {
     stream: S,
     faults: u64,
+    is_shut: bool,
 }
 
 impl<S> NetWrite<S> {
     /// A half that hands what it takes to `stream`; its count begins at 0.
     pub fn new(stream: S) -> NetWrite<S>
         ensures stream { result.stream ≡ stream }
-        ensures told { net_write_told result ≡ record { taken = None; faults = 0 } }
+        ensures told { net_write_told result ≡ record { taken = None; faults = 0; is_shut = false } }
     {
-        NetWrite { stream, faults: 0 }
+        NetWrite {
+            stream,
+            faults: 0,
+            is_shut: false,
+        }
+    }
+
+    /// Whether it was shut.
+    pub fn is_shut(&self) -> bool
+        ensures { result ≡ (net_write_told self.now).is_shut }
+    {
+        self.is_shut
     }
 
     /// How many writes failed, up to 2^64-1.
@@ -130,6 +157,7 @@ impl<S: Write + OpenStream> LinkWrite for NetWrite<S> {
     }
 
     fn shut(&mut self) {
+        self.is_shut = true;
         if self.stream.shutdown(Shutdown::Both).is_err() {
             self.fail();
         }

@@ -6,7 +6,7 @@ ghost use Rattle.nats_client.specs.System.{resolver_told_of, given_list};
 use nats_names::Text;
 use nats_outside::{AskWord, ResolveError, Resolver};
 use std::alloc::Global;
-use std::io::ErrorKind;
+use std::io::{self, ErrorKind};
 use std::net::{Net, SocketAddr, ToSocketAddrs};
 
 /// A resolver that asks the system. An IP address stands for itself. Each `Err` of the system but want of
@@ -20,6 +20,7 @@ pub struct NetResolver<R> {
     given: u64,
     word: AskWord,
     asked: Option<(Text, u16)>,
+    fault: Option<(Text, io::Error)>,
 }
 
 impl<R> NetResolver<R> {
@@ -43,6 +44,16 @@ impl<R> NetResolver<R> {
             given: 0,
             word: AskWord::Empty,
             asked: None,
+            fault: None,
+        }
+    }
+
+    /// The host that was asked for last where the system failed, and what it said of it: for whoever prints. None before
+    /// any, and where memory was wanting to keep the host.
+    pub fn last_fault(&self) -> Option<(&Text, io::Error)> {
+        match &self.fault {
+            Some((host, error)) => Some((host, *error)),
+            None => None,
         }
     }
 
@@ -61,12 +72,22 @@ impl<R> NetResolver<R> {
 }
 
 impl<R: Net> NetResolver<R> {
-    // What the system answers.
-    fn look(&self, alloc: Global, host: &str, port: u16) -> Result<Vec<SocketAddr>, ResolveError> {
+    // What the system answers. What it says of a failure is kept with the host, where memory is there for that.
+    fn look(
+        &mut self,
+        alloc: Global,
+        host: &str,
+        port: u16,
+    ) -> Result<Vec<SocketAddr>, ResolveError>
+        ensures { self.new ≡ record self.old { fault = self.new.fault } }
+    {
         match (host, port).to_socket_addrs(&self.rt) {
             Ok(found) => Ok(found.collect(alloc)?),
             Err(error) if error.kind() == ErrorKind::OutOfMemory => Err(ResolveError::NoMemory),
-            Err(_) => Err(ResolveError::Failed),
+            Err(error) => {
+                self.fault = Text::from_text(alloc, host).ok().map(|host| (host, error));
+                Err(ResolveError::Failed)
+            }
         }
     }
 }

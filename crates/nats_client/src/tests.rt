@@ -7,7 +7,7 @@ use nats_outside::{Clock, Dialer, Draw, Failed, LinkRead, LinkWrite, Resolver};
 use rand::SeedableRng;
 use rand::rngs::SmallRng;
 use std::alloc::Global;
-use std::io::{Read, Write};
+use std::io::{self, ErrorKind, Read, Write};
 use std::net::{Ipv4Addr, SocketAddr, TcpListener};
 use std::sync::Arc;
 use std::sync::atomic::{AtomicU64, Ordering};
@@ -21,6 +21,14 @@ fn reads<L: LinkRead>(link: &mut L, wanted: &[u8]) -> bool {
     }
 }
 
+// The system's words are kept with the address.
+fn says_of(fault: Option<(SocketAddr, io::Error)>, home: &SocketAddr) -> bool {
+    match fault {
+        Some((to, error)) => to == *home && error.kind() == ErrorKind::ConnectionRefused,
+        None => false,
+    }
+}
+
 // A link over the loopback: what one end writes the other reads, and the end of one is the other's.
 #[test]
 fn a_link_over_the_loopback_gives_and_takes(rt: HostRuntime) -> Result<(), Fail> {
@@ -28,7 +36,7 @@ fn a_link_over_the_loopback_gives_and_takes(rt: HostRuntime) -> Result<(), Fail>
     let listener = TcpListener::bind(&rt, SocketAddr::from((Ipv4Addr::LOCALHOST, 0)))?;
     let home = listener.local_addr()?;
     let mut dialer = NetDialer::new(rt);
-    let (mut read, mut write) = dialer.dial(&home).ok().ok_or("no link")?;
+    let (mut read, mut write) = dialer.dial(&home, 5_000).ok().ok_or("no link")?;
     let (mut peer, _) = listener.accept()?;
     peer.write_all(b"hello")?;
     assert!(rt; reads(&mut read, b"hello"));
@@ -45,7 +53,38 @@ fn a_link_over_the_loopback_gives_and_takes(rt: HostRuntime) -> Result<(), Fail>
     write.shut();
     dialer.hang_up(read, write);
     drop(listener);
-    assert!(rt; dialer.dial(&home).is_err());
+    assert!(rt; dialer.last_fault().is_none());
+    assert!(rt; dialer.dial(&home, 5_000).is_err());
+    assert!(rt; says_of(dialer.last_fault(), &home));
+    Ok(())
+}
+
+// A read that waits for more than it may fails, as often as it is tried, and one whose bytes are there does not.
+fn is_left_waiting<L: LinkRead>(link: &mut L, wanted: &[u8]) -> bool {
+    link.wait_at_most(Some(20));
+    let mut buf = [0u8; 16];
+    let are_given = wanted.is_empty() || reads(link, wanted);
+    are_given && link.read(&mut buf) == Err(Failed) && link.read(&mut buf) == Err(Failed)
+}
+
+// A server that says nothing, and one that stops in the midst of its INFO, hold no one for longer than was said; once
+// more comes, it is read.
+#[test]
+fn a_silent_server_is_not_awaited_for_ever(rt: HostRuntime) -> Result<(), Fail> {
+    let listener = TcpListener::bind(&rt, SocketAddr::from((Ipv4Addr::LOCALHOST, 0)))?;
+    let home = listener.local_addr()?;
+    let mut dialer = NetDialer::new(rt);
+    'begun: for begun in ["", "INFO {\"a"] {
+        let (mut read, write) = dialer.dial(&home, 5_000).ok().ok_or("no link")?;
+        let (mut peer, _) = listener.accept()?;
+        peer.write_all(begun.as_bytes())?;
+        assert!(rt; is_left_waiting(&mut read, begun.as_bytes()));
+        assert!(rt; read.faults() == 2 && read.ends() == 0);
+        peer.write_all(b"PING")?;
+        read.wait_at_most(None);
+        assert!(rt; reads(&mut read, b"PING"));
+        dialer.hang_up(read, write);
+    }
     Ok(())
 }
 
@@ -134,7 +173,7 @@ fn a_world_in_memory_has_all_parts(rt: HostRuntime) -> Result<(), Fail> {
     assert!(rt; world.resolve(alloc, "h", 4222)?.len() == 1);
     assert!(rt;
         world
-            .dial(&SocketAddr::from((Ipv4Addr::LOCALHOST, 4222)))
+            .dial(&SocketAddr::from((Ipv4Addr::LOCALHOST, 4222)), 5_000)
             .is_err()
     );
     Ok(())

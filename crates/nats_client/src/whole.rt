@@ -30,8 +30,8 @@ impl<W: Dialer, S, C> Dialer for Whole<W, S, C> {
 
     ghost beside_dialer = { λ w. (W.beside_dialer w.reach, record { spawner = w.spawner; clock = w.clock }) };
 
-    fn dial(&mut self, to: &SocketAddr) -> Result<(W::Read, W::Write), Failed> {
-        self.reach.dial(to)
+    fn dial(&mut self, to: &SocketAddr, within: u64) -> Result<(W::Read, W::Write), Failed> {
+        self.reach.dial(to, within)
     }
 
     fn hang_up(&mut self, read: W::Read, write: W::Write) {

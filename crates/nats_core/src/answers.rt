@@ -1,6 +1,7 @@
 //! What the calls of a core answer where they play no turn, and what those on a link do.
 
 use nats_session::NoMemory;
+use std::alloc::AllocError;
 
 /// Why a turn was not played.
 #[derive(Clone, Copy, Debug, PartialEq, Eq)]
@@ -20,6 +21,18 @@ impl From<NoMemory> for StepError {
     ghost from_gives = { λ _ e. e ≡ refused.NoMemory };
 
     fn from(_refused: NoMemory) -> StepError {
+        StepError::NoMemory
+    }
+}
+
+/// Want of memory as std tells it, so that `?` of an allocation serves beside that of a call.
+impl From<AllocError> for StepError {
+    ghost use Rattle.std.specs.Prelude.{◌≡◌};
+    ghost use Rattle.nats_core.specs.declared.answers.StepError.TheVariants as refused;
+
+    ghost from_gives = { λ _ e. e ≡ refused.NoMemory };
+
+    fn from(_refused: AllocError) -> StepError {
         StepError::NoMemory
     }
 }

@@ -1,6 +1,8 @@
 //! What a journal keeps of each turn.
+ghost use Rattle.std.specs.Prelude.{◌≡◌, IfOk};
 
-use nats_session::{CallReply, TakeReply, Turn};
+use nats_session::{CallReply, NoMemory, TakeReply, Turn};
+use std::alloc::Global;
 
 /// What a turn answers.
 #[derive(Debug, Drop, PartialEq, Eq)]
@@ -20,4 +22,37 @@ pub struct Entry {
     pub turn: Turn,
     /// Its reply.
     pub reply: StepReply,
+}
+
+impl StepReply {
+    /// An equal answer, which shares its bytes.
+    ///
+    /// # Errors
+    ///
+    /// `NoMemory` for want of memory.
+    pub fn copy(&self, alloc: Global) -> Result<StepReply, NoMemory>
+        ensures { IfOk result (λ r. r ≡ self.now) }
+    {
+        match self {
+            StepReply::Done => Ok(StepReply::Done),
+            StepReply::Call(reply) => Ok(StepReply::Call(reply.copy(alloc)?)),
+            StepReply::Take(reply) => Ok(StepReply::Take(reply.copy(alloc)?)),
+        }
+    }
+}
+
+impl Entry {
+    /// An equal entry, which shares its bytes.
+    ///
+    /// # Errors
+    ///
+    /// `NoMemory` for want of memory.
+    pub fn copy(&self, alloc: Global) -> Result<Entry, NoMemory>
+        ensures { IfOk result (λ e. e ≡ self.now) }
+    {
+        Ok(Entry {
+            turn: self.turn.copy(alloc)?,
+            reply: self.reply.copy(alloc)?,
+        })
+    }
 }

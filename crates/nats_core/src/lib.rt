@@ -16,5 +16,5 @@ pub use machine::Core;
 pub use nats_outside::{Failed, LinkRead, LinkWrite};
 pub use nats_session::{
     Bytes, Call, CallReply, Config, ConnectionHandler, Event, Message, NoMemory, OutboundMessage,
-    ServerInfo, Subject, TakeReply, Token, Turn,
+    ServerInfo, Subject, TakeReply, Token, Turn, usual_server,
 };

@@ -8,7 +8,7 @@ ghost use Rattle.nats_session.specs.Handler.{can_play, HandsOut, HandsReply};
 ghost use Rattle.nats_core.specs.declared.answers.StepError.TheVariants as refused;
 ghost use Rattle.nats_core.specs.declared.entry.StepReply.TheVariants as replies;
 ghost use Rattle.nats_core.specs.Journal.{IsRight, StandsForTurns, StandsForAll, config_of, journal_turns, new_core, reply_to, entries_with, with_session, caught_up, played};
-ghost use Rattle.nats_core.specs.Calls.{parts_in, PlaysDue, Plays, Steps, PlaysOn, StepsOn, Submits, is_on, up_number};
+ghost use Rattle.nats_core.specs.Calls.{parts_in, news_since, TellsNews, PlaysDue, Plays, Steps, PlaysOn, StepsOn, Submits, is_on, up_number};
 
 mod links;
 
@@ -16,13 +16,24 @@ use crate::answers::StepError;
 use crate::entry::{Entry, StepReply};
 use crate::notes::{play_own, submit_own};
 use crate::plays::play_due;
-use nats_session::{Call, CallReply, Config, ConnectionHandler, Event, NoMemory, Turn};
+use nats_session::{Call, CallReply, Config, ConnectionHandler, Event, NoMemory, ServerInfo, Turn};
 use std::alloc::Global;
 use std::marker::Model;
 
 /// A session, and the journal of the turns that were played on it where that is kept. Each turn's due steps are played
 /// behind it, as memory allows: those that are left are played before the next turn. Our own: the crate has no
 /// journal.
+///
+/// To drive it, again and again:
+/// 1. Turns go in: `step`, or `step_on` where the turn is of one link; `submit` for a call that is to come back where
+///    memory is wanting. Where a link is at hand `read_link` plays what it gives, `write_link` what it takes.
+/// 2. Bytes go out: `write_link` hands those that wait to a link; or `pending_pieces` lends them, and as many as were
+///    taken go with the turn `Write`.
+/// 3. Events and replies come out: `next_event` until none is left, `reply_of` for each ticket that is awaited, the
+///    turn `Take` for the messages of a subscription, `news` where the server said something new of itself.
+///
+/// `handler` lends the session, which tells all else (`is_up`, `state`, `link`, `max_payload`, ..). After want of
+/// memory `catch_up` plays what is left, as the next turn does by itself.
 #[derive(Drop)]
 pub struct Core {
     handler: ConnectionHandler,
@@ -77,6 +88,36 @@ impl Core {
             → StandsForAll (config_of self.now) (journal_turns self.now) self.now.session }
     {
         &self.handler
+    }
+
+    fn told_since(&self, alloc: Global, seen: u64) -> Result<Option<(u64, ServerInfo)>, NoMemory>
+        ensures news { IfOk result (λ news. news ≡ news_since seen (parts_in self.now)) }
+        ensures wants { OnErr result ((parts_in self.now).link.infos ≡ seen → ⊥) }
+    {
+        let infos = self.handler.infos();
+        if infos == seen {
+            return Ok(None);
+        }
+        match self.handler.server_info() {
+            Some(info) => Ok(Some((infos, info.copy(alloc)?))),
+            None => Ok(None),
+        }
+    }
+
+    /// What the server said of itself last, where that is news: `None` exactly where just `seen` INFOs were read, over
+    /// all links and those by which links came up left out; else how many were read, which is what to ask with the
+    /// next time, and a copy of the last INFO. `seen` is 0, or a number that this call answered. Own call: whoever
+    /// drives a core tells the pool of servers what is news.
+    ///
+    /// # Errors
+    ///
+    /// `NoMemory`, only where there is news.
+    pub fn news(&self, alloc: Global, seen: u64) -> Result<Option<(u64, ServerInfo)>, NoMemory>
+        ensures news { IfOk result (λ news. news ≡ news_since seen (parts_in self.now)) }
+        ensures exact { TellsNews seen self.now.session result }
+        ensures wants { OnErr result ((parts_in self.now).link.infos ≡ seen → ⊥) }
+    {
+        self.told_since(alloc, seen)
     }
 
     /// Whether steps are due that were not played yet, for want of memory. The next turn, or `catch_up`, plays them

@@ -107,13 +107,17 @@ fn is_step(due: Due) -> bool
     !matches!(due, Due::Nothing)
 }
 
-/// Plays the step that is due, with what follows it at once. Whether one was due.
+/// Plays the step that is due, with what follows it at once. Whether one was due. A session at rest is not looked at.
+#[inline]
 fn play_one(alloc: Global, handler: &mut ConnectionHandler) -> Result<bool, NoMemory>
     ensures one { OnOk result (handler.new ≡ due_round handler.old) }
     ensures some { IfOk result (λ some. some ≡ is_some (due handler.old.parts)) }
     ensures wants { OnErr result (IsTrue (is_some (due handler.old.parts))) }
     ensures same { OnErr result (handler.new ≡ handler.old) }
 {
+    if handler.is_at_rest() {
+        return Ok(false);
+    }
     Ok(is_step(handler.advance(alloc)?))
 }
 

@@ -48,8 +48,8 @@ record GoesOn (tried : List Planned) (before after : RoundTold) : Type 0 where
   limit : after.limit ≡ before.limit
   attempts : after.attempts ≤ before.attempts + (plain tried + sockets tried) + 1
 
-up_onward : (to : SocketAddr) (start look : ℕ) (a : Seen) → Onward a (upped to start look a)
-up_onward to start look a = record {
+pub up_onward : (within : ℕ) (to : SocketAddr) (start look : ℕ) (a : Seen) → Onward a (upped within to start look a)
+up_onward within to start look a = record {
   dial_faults = omega arith;
   ends = omega arith;
   dials = omega arith;
@@ -60,8 +60,8 @@ up_onward to start look a = record {
   starts = omega arith;
 }
 
-dial_onward : (to : SocketAddr) (start : ℕ) (a : Seen) → Onward a (undialed to start a)
-dial_onward to start a = record {
+dial_onward : (within : ℕ) (to : SocketAddr) (start : ℕ) (a : Seen) → Onward a (undialed within to start a)
+dial_onward within to start a = record {
   dial_faults = omega arith;
   ends = omega arith;
   dials = omega arith;
@@ -72,8 +72,9 @@ dial_onward to start a = record {
   starts = omega arith;
 }
 
-back_onward : (to : SocketAddr) (start look : ℕ) (r : ReadTold) (w : WriteTold) (a : Seen) → Onward a (returned to start look r w a)
-back_onward to start look r w a = record {
+back_onward : (within : ℕ) (to : SocketAddr) (start look : ℕ) (r : ReadTold) (w : WriteTold) (a : Seen)
+    → Onward a (returned within to start look r w a)
+back_onward within to start look r w a = record {
   dial_faults = omega arith;
   ends = omega arith;
   dials = omega arith;
@@ -85,10 +86,10 @@ back_onward to start look r w a = record {
 }
 
 -- a server was asked for, and gave these addresses
-abbrev asked : Parts → List SocketAddr → Seen → Seen
+abbrev pub asked : Parts → List SocketAddr → Seen → Seen
 asked addr xs a = record a { resolver = gave (host_name addr) (port_of addr) xs a.resolver }
 
-asked_onward : (addr : Parts) (xs : List SocketAddr) (a : Seen) → Onward a (asked addr xs a)
+pub asked_onward : (addr : Parts) (xs : List SocketAddr) (a : Seen) → Onward a (asked addr xs a)
 asked_onward addr xs a = record {
   dial_faults = omega arith;
   ends = omega arith;
@@ -100,7 +101,7 @@ asked_onward addr xs a = record {
   starts = omega arith;
 }
 
-rested_onward : (delay : ℕ) (a : Seen) → Onward a (rested delay a)
+pub rested_onward : (delay : ℕ) (a : Seen) → Onward a (rested delay a)
 rested_onward delay a = record {
   dial_faults = omega arith;
   ends = omega arith;
@@ -120,16 +121,21 @@ module _ {P R T : Type 0} (Takes : P → P → List (List ℕ) → Result (Unit 
   where
     -- a link that was handed back broke
     broke_cause : (by_scheme : Bool) (to : SocketAddr) (start look : ℕ) (r : ReadTold) (w : WriteTold) (a : Seen) (e : Failure)
-        → Broke Takes Offers by_option name no_echo by_scheme start timeout e r w (returned to start look r w a).clock
-        → LinkCause Takes Offers by_option name no_echo timeout by_scheme a e (returned to start look r w a)
+        → Broke Takes Offers by_option name no_echo by_scheme start timeout e r w (returned timeout to start look r w a).clock
+        → LinkCause Takes Offers by_option name no_echo timeout by_scheme a e (returned timeout to start look r w a)
     broke_cause by_scheme to start look r w a e (inl is) = inl is
     broke_cause by_scheme to start look r w a e (inr (inl (is, late))) =
         inr (inl (is, record { started = omega arith; awake = refl; late = late }))
-    broke_cause by_scheme to start look r w a e (inr (inr (inl (is, some)))) =
+    broke_cause by_scheme to start look r w a e (inr (inr (in_time, least, inl (is, some)))) =
         inr (inr (inl (is, (omega (arith, some), failed_word r.faults w.faults r.ends some))))
-    broke_cause by_scheme to start look r w a e (inr (inr (inr (inl (at, going, is, some))))) =
-        inr (inr (inr (inl (at, going, is, (omega (arith, some), ended_word r.faults w.faults r.ends some)))))
-    broke_cause by_scheme to start look r w a e (inr (inr (inr (inr (text, gave, why))))) =
+    broke_cause by_scheme to start look r w a e (inr (inr (in_time, least, inr (inl (text, gave, is, some))))) =
+        inr (inr (inr (inl (
+          text,
+          gave_last r.pieces w.taken a.dialer.ended text gave,
+          is,
+          (omega (arith, some), ended_word r.faults w.faults r.ends some),
+        ))))
+    broke_cause by_scheme to start look r w a e (inr (inr (in_time, least, inr (inr (text, gave, why))))) =
         inr (inr (inr (inr (text, gave_last r.pieces w.taken a.dialer.ended text gave, why))))
 
     -- a dialed address that gave no link
@@ -138,14 +144,14 @@ module _ {P R T : Type 0} (Takes : P → P → List (List ℕ) → Result (Unit 
         → Onward a b × (b.resolver ≡ a.resolver) × (b.dialer.dials ≡ risen 1 a.dialer.dials)
         × LinkCause Takes Offers by_option name no_echo timeout (is_tls addr) a e b
     reached_cause addr to a e b no_ws (inl (start, is, eq)) = rw eq (
-      dial_onward to start a,
+      dial_onward timeout to start a,
       refl,
       refl,
       inr (inr (inl (is, (omega arith, λ same. false≢true (ap is_fine same))))),
     )
     reached_cause addr to a e b no_ws (inr (start, look, r, w, eq, inl (is, ws))) = absurd (false≢true (sym no_ws ∙ ws))
     reached_cause addr to a e b no_ws (inr (start, look, r, w, eq, inr broke)) = rw eq (
-      back_onward to start look r w a,
+      back_onward timeout to start look r w a,
       refl,
       refl,
       broke_cause (is_tls addr) to start look r w a e broke,
@@ -155,7 +161,7 @@ module _ {P R T : Type 0} (Takes : P → P → List (List ℕ) → Result (Unit 
         → Takes a b urls r → told b ≡ told a)
         (counts_round : (addr : Parts) (outcome : Outcome) (a b : P) → Counts addr outcome a b → told b ≡ told_of outcome (told a))
       where
-        took_told : (p q : P) → TookIn Takes p q → told q ≡ told p
+        pub took_told : (p q : P) → TookIn Takes p q → told q ≡ told p
         took_told p q (inl eq) = ap told eq
         took_told p q (inr (urls, r, took)) = takes_round p q urls r took
 
@@ -170,7 +176,7 @@ module _ {P R T : Type 0} (Takes : P → P → List (List ℕ) → Result (Unit 
         noted_cause addr f p e q a b (inr (is, counts)) why = rw is why
 
         -- a try that gave no link
-        tried_cause : (addr : Parts) (to : SocketAddr) (a : Seen) (p : P) (e : Failure) (b : Seen) (q : P)
+        pub tried_cause : (addr : Parts) (to : SocketAddr) (a : Seen) (p : P) (e : Failure) (b : Seen) (q : P)
             → is_websocket addr ≡ false
             → Tries Takes Counts Hands Begins told Offers by_option name no_echo timeout read_of write_of addr to a p (Err e) b q
             → Onward a b × (b.resolver ≡ a.resolver) × (b.dialer.dials ≡ risen 1 a.dialer.dials)
@@ -227,7 +233,7 @@ module _ {P R T : Type 0} (Takes : P → P → List (List ℕ) → Result (Unit 
             )
 
         -- a server that gave no link
-        abbrev ServerFacts : Planned → Seen → P → Failure → Seen → P → Type 0
+        abbrev pub ServerFacts : Planned → Seen → P → Failure → Seen → P → Type 0
         ServerFacts s a p e b q = Onward a b
             × RoseBy (if is_websocket s.addr then 0 else 1) a.resolver.askings b.resolver.askings
             × (ends_round e.0 ≡ false → EachDialed a b)
@@ -316,7 +322,7 @@ module _ {P R T : Type 0} (Takes : P → P → List (List ℕ) → Result (Unit 
         )
 
         -- one that was visited
-        visited_cause : (s : Planned) (delay : ℕ) (a : Seen) (p : P) (e : Failure) (b : Seen) (q : P)
+        pub visited_cause : (s : Planned) (delay : ℕ) (a : Seen) (p : P) (e : Failure) (b : Seen) (q : P)
             → Visits Takes Counts Hands Begins told Offers by_option name no_echo timeout read_of write_of s.addr delay a p (Err e) b q
             → ServerFacts s a p e b q
         visited_cause s delay a p e b q v = of_rested s delay a p e b q (visits_where (is_websocket s.addr) s (rested delay a) p e b q refl v)
@@ -484,74 +490,10 @@ module _ {P R T : Type 0} (Takes : P → P → List (List ℕ) → Result (Unit 
                 let g = goes_cause (left_of (told n)) all_failed a n e b q goes in
                 began chosen n begins g.3.round g.3.limit
 
-            -- ---- a round that gave a link
-
-            abbrev UpFacts : Seen → Linked R T → Seen → Type 0
-            UpFacts a l b = Onward a b × IsUp Offers name no_echo l.info l.rest.items (read_of l.read) (write_of l.write)
-
-            tried_up : (addr : Parts) (to : SocketAddr) (a : Seen) (p : P) (l : Linked R T) (b : Seen) (q : P)
-                → Tries Takes Counts Hands Begins told Offers by_option name no_echo timeout read_of write_of addr to a p (Ok l) b q
-                → UpFacts a l b
-            tried_up addr to a p l b q (m, (start, look, is, up, takes), counts) = rw is (up_onward to start look a, up)
-
-            each_up : (addr : Parts) (xs : List SocketAddr) (last : Failure) (a : Seen) (p : P) (l : Linked R T) (b : Seen) (q : P)
-                → is_websocket addr ≡ false
-                → TriesEach Takes Counts Hands Begins told Offers by_option name no_echo timeout read_of write_of addr xs last a p (Ok l) b q
-                → UpFacts a l b
-            each_up addr [] last a p l b q no_ws (is, same, stays) = cc
-            each_up addr (to ∷ more) last a p l b q no_ws (inl (tries, ends)) = tried_up addr to a p l b q tries
-            each_up addr (to ∷ more) last a p l b q no_ws (inr (e1, c, m, tries, goes, rest)) =
-                let t = tried_cause addr to a p e1 c m no_ws tries in
-                let f = each_up addr more e1 c m l b q no_ws rest in
-                (onward_on a c b t.0 f.0, f.1)
-
-            asks_up : (s : Planned) (answer : Result (List SocketAddr) ResolveError) (a : Seen) (p : P) (l : Linked R T) (b : Seen) (q : P)
-                → is_websocket s.addr ≡ false
-                → Asks Takes Counts Hands Begins told Offers by_option name no_echo timeout read_of write_of s.addr answer a p (Ok l) b q
-                → UpFacts a l b
-            asks_up s (Ok xs) a p l b q no_ws tries =
-                let f = each_up s.addr xs no_address (asked s.addr xs a) p l b q no_ws tries in
-                (onward_on a (asked s.addr xs a) b (asked_onward s.addr xs a) f.0, f.1)
-            asks_up s (Err refusal.Failed) a p l b q no_ws (is, same, stays) = cc
-            asks_up s (Err refusal.NoMemory) a p l b q no_ws (is, same, stays) = cc
-
-            visits_up : (is_ws : Bool) (s : Planned) (a : Seen) (p : P) (l : Linked R T) (b : Seen) (q : P) → is_websocket s.addr ≡ is_ws
-                → VisitsWhere Takes Counts Hands Begins told Offers by_option name no_echo timeout read_of write_of is_ws s.addr a p (Ok l) b q
-                → UpFacts a l b
-            visits_up true s a p l b q ws (is, same, stays) = cc
-            visits_up false s a p l b q no_ws (answer, asks) = asks_up s answer a p l b q no_ws asks
-
-            visited_up : (s : Planned) (delay : ℕ) (a : Seen) (p : P) (l : Linked R T) (b : Seen) (q : P)
-                → Visits Takes Counts Hands Begins told Offers by_option name no_echo timeout read_of write_of s.addr delay a p (Ok l) b q
-                → UpFacts a l b
-            visited_up s delay a p l b q v =
-                let f = visits_up (is_websocket s.addr) s (rested delay a) p l b q refl v in
-                (onward_on a (rested delay a) b (rested_onward delay a) f.0, f.1)
-
-            goes_up : (left : List Planned) (last : Failure) (a : Seen) (p : P) (l : Linked R T) (b : Seen) (q : P)
-                → GoesThrough Takes Counts Hands Begins told Offers by_option name no_echo timeout read_of write_of left last a p (Ok l) b q
-                → UpFacts a l b
-            goes_up [] last a p l b q (hands, is, same) = cc
-            goes_up (s ∷ more) last a p l b q (inl (hands, is, same)) = cc
-            goes_up (s ∷ more) last a p l b q (inr (attempt, n, hands, there, inl (visits, ends))) =
-                visited_up s attempt.delay a n l b q visits
-            goes_up (s ∷ more) last a p l b q (inr (attempt, n, hands, there, inr (e1, c, m, visits, goes, later))) =
-                let v = visited_cause s attempt.delay a n e1 c m visits in
-                let i = goes_up more e1 c m l b q later in
-                (onward_on a c b v.0 i.0, i.1)
-
-            -- no count fell, and the link is up
-            pub connects_up : (last : ServerInfo) (a : Seen) (p : P) (l : Linked R T) (b : Seen) (q : P)
-                → Connects Takes Counts Hands Begins told Offers by_option name no_echo timeout read_of write_of last a p (Ok l) b q
-                → Onward a b × IsUp Offers name no_echo l.info l.rest.items (read_of l.read) (write_of l.write)
-            connects_up last a p l b q (inl (is, same, stays)) = cc
-            connects_up last a p l b q (inr (chosen, n, begins, goes)) = goes_up (left_of (told n)) all_failed a n l b q goes
-
-            -- no count fell, whatever came of it
-            pub connects_on : (last : ServerInfo) (a : Seen) (p : P) (result : Result (Linked R T) Failure) (b : Seen) (q : P)
-                → Connects Takes Counts Hands Begins told Offers by_option name no_echo timeout read_of write_of last a p result b q
+            -- no count fell where it gave no link
+            pub connects_went : (last : ServerInfo) (a : Seen) (p : P) (e : Failure) (b : Seen) (q : P)
+                → Connects Takes Counts Hands Begins told Offers by_option name no_echo timeout read_of write_of last a p (Err e) b q
                 → Onward a b
-            connects_on last a p (Ok l) b q c = (connects_up last a p l b q c).0
-            connects_on last a p (Err e) b q (inl (is, same, stays)) = rw same (onward_same a)
-            connects_on last a p (Err e) b q (inr (chosen, n, begins, goes)) =
+            connects_went last a p e b q (inl (is, same, stays)) = rw same (onward_same a)
+            connects_went last a p e b q (inr (chosen, n, begins, goes)) =
                 (goes_cause (left_of (told n)) all_failed a n e b q goes).2.onward

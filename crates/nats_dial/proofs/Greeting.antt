@@ -11,12 +11,14 @@ use Rattle.nats_outside.specs.Told.{ReadTold, WriteTold, ClockTold, IsFresh}
 use Rattle.nats_handshake.specs.declared.stage.Stage.{Stage}
 use Rattle.nats_handshake.specs.declared.stage.Stage.TheVariants as stage
 use Rattle.nats_handshake.specs.declared.stage.Shake.TheVariants as shake
+use Rattle.nats_handshake.specs.declared.course.Greeting.TheVariants as greeting
+use Rattle.nats_handshake.specs.Course.{greeting_at}
 use Rattle.nats_handshake.specs.Errors.{Failure}
 use Rattle.nats_wire.specs.Operations.{front, sight}
 use Rattle.nats_handshake.specs.Heard.{Heard}
 use Rattle.nats_handshake.specs.Opened.{opened, opened_in}
 use Rattle.nats_handshake.specs.Shaking.{Talk, finished, by_content, new_talk}
-use Rattle.nats_dial.specs.Lines.{Line, IsAt, Broke}
+use Rattle.nats_dial.specs.Lines.{Line, IsAt, IsPlain, InTime}
 use Rattle.nats_dial.specs.Taking.{HasTook, TookIn}
 use Rattle.nats_dial.specs.Tries.{no_websocket}
 use Rattle.nats_dial.specs.Greets.{Begun, Finished, Greets}
@@ -53,15 +55,20 @@ nothing_opened : (known : Option (List (List ℕ))) → (known ≡ None) ⊎ (kn
 nothing_opened known (inl is) = rw is tt
 nothing_opened known (inr is) = rw is (sym none_opened)
 
-pub fresh_line : (Offers : List ℕ → Result AuthValue (List ℕ) → Type 0) (name : Option (List ℕ)) (no_echo : Bool)
+none_said : greeting_at (front []) ≡ greeting.Waits
+unfolding front sight
+none_said = refl
+
+pub fresh_line : (Offers : List ℕ → Result AuthValue (List ℕ) → Type 0) (by_option : Bool) (name : Option (List ℕ)) (no_echo : Bool)
     (addr : Parts) (timeout start : ℕ) (t : Talk) (r : ReadTold) (w : WriteTold) → t ≡ new_talk addr timeout start → IsFresh r w
-    → Line Offers name no_echo (is_tls addr) start timeout [] [] t r w
-fresh_line Offers name no_echo addr timeout start t r w is fresh = rw is (record {
-  heard = (refl, refl);
+    → Line Offers by_option name no_echo (is_tls addr) start timeout [] [] t r w
+fresh_line Offers by_option name no_echo addr timeout start t r w is fresh = rw is (record {
+  heard = (refl, refl, none_said);
   out = refl;
   began = refl;
   time = refl;
   is_tls = refl;
+  plain = tt;
   gave = nothing_given r.pieces fresh.no_pieces;
   opens = nothing_opened r.pieces fresh.no_pieces;
   waits = λ going. none_opened;
@@ -85,10 +92,11 @@ module _ {P : Type 0} (Takes : P → P → List (List ℕ) → Result (Unit {0})
   where
     up_of : (info : ServerInfo) (text wrote : List ℕ) (t : Talk) (r : ReadTold) (w : WriteTold) (c : ClockTold) (p q : P)
         (ended : ServerInfo × Vec ℕ) → t.stage ≡ stage.Linked info
-        → Line Offers name no_echo (is_tls addr) start timeout text wrote t r w → HasTook Takes t.stage p q
+        → Line Offers by_option name no_echo (is_tls addr) start timeout text wrote t r w → InTime start timeout c → r.wait ≡ None
+        → HasTook Takes t.stage p q
         → Some (by_content ended) ≡ finished t.stage t.unread
         → Greets Takes Offers by_option name no_echo timeout addr start p (Ok ended) r w c q
-    up_of info text wrote t r w c p q ended at line took is =
+    up_of info text wrote t r w c p q ended at line in_time no_wait took is =
         let heard = subst (λ (s : Stage). Heard Offers name no_echo s t.unread wrote text) at line.heard in
         let had = subst (λ (s : Stage). HasTook Takes s p q) at took in
         let same = is ∙ ap (λ (s : Stage). finished s t.unread) at in
@@ -99,6 +107,7 @@ module _ {P : Type 0} (Takes : P → P → List (List ℕ) → Result (Unit {0})
             text = text;
             wrote = wrote;
             said = heard.0;
+            plain = subst (λ (s : Stage). IsPlain by_option (is_tls addr) s) at line.plain;
             offers = heard.1;
             succeeds = heard.2;
             gave = line.gave;
@@ -107,14 +116,18 @@ module _ {P : Type 0} (Takes : P → P → List (List ℕ) → Result (Unit {0})
             no_ends = line.no_ends;
             no_faults = line.no_faults;
             no_write_faults = line.no_write_faults;
+            no_wait = no_wait;
           },
           had,
+          in_time,
         )
 
     -- a handshake that succeeded
     pub greeted : (text wrote : List ℕ) (t : Talk) (r : ReadTold) (w : WriteTold) (c : ClockTold) (p q : P)
         (result : Result (ServerInfo × Vec ℕ) Failure) → IsAt shake.Done t.stage
-        → Line Offers name no_echo (is_tls addr) start timeout text wrote t r w → HasTook Takes t.stage p q
+        → Line Offers by_option name no_echo (is_tls addr) start timeout text wrote t r w → InTime start timeout c → r.wait ≡ None
+        → HasTook Takes t.stage p q
         → Finished t result → Greets Takes Offers by_option name no_echo timeout addr start p result r w c q
-    greeted text wrote t r w c p q (Ok ended) at line took is = up_of at.0 text wrote t r w c p q ended at.1 line took is
-    greeted text wrote t r w c p q (Err e) at line took never = absurd (never at.0 at.1)
+    greeted text wrote t r w c p q (Ok ended) at line in_time no_wait took is =
+        up_of at.0 text wrote t r w c p q ended at.1 line in_time no_wait took is
+    greeted text wrote t r w c p q (Err e) at line in_time no_wait took never = absurd (never at.0 at.1)

@@ -99,9 +99,9 @@ module _ {P : Type 0} (Takes : P → P → List (List ℕ) → Result (Unit {0})
       is,
       (rose_later a.dialer.faults c.dialer.faults b.dialer.faults on.dial_faults why.0, why.1),
     )))
-    link_on by_scheme a c e b on (inr (inr (inr (inl (at, going, is, why))))) = inr (inr (inr (inl (
-      at,
-      going,
+    link_on by_scheme a c e b on (inr (inr (inr (inl (text, gave, is, why))))) = inr (inr (inr (inl (
+      text,
+      gave,
       is,
       (rose_later a.dialer.ends c.dialer.ends b.dialer.ends on.ends why.0, why.1),
     ))))

@@ -12,3 +12,12 @@ pub data BeganRound {P : Type 0} (Begins : ServerInfo → P → P → Choice →
   wants : e ≡ wanting → BeganRound Begins told last p q e
   began : (chosen : Choice) (n : P) → Begins last p n chosen → (told q).round ≡ (told n).round
       → (told q).limit ≡ (told n).limit → BeganRound Begins told last p q e
+
+-- the same of a round that gave a link
+pub record BeganWell {P : Type 0} (Begins : ServerInfo → P → P → Choice → Type 0) (told : P → RoundTold)
+    (last : ServerInfo) (p q : P) : Type 0 where
+  pub chosen : Choice
+  pub begun : P
+  pub begins : Begins last p begun chosen
+  pub round : (told q).round ≡ (told begun).round
+  pub limit : (told q).limit ≡ (told begun).limit

@@ -1,24 +1,25 @@
 -- Why a round gave no link, over what the outside and the pool told before it and after it.
-use Rattle.std.specs.Prelude.{◌≡◌, ◌≢◌, ◌⊎◌, ℕ, ◌+◌, ◌-◌, ◌≤◌, Bool, true, false, if◌then◌else◌, List, [], ◌∷◌, ◌++◌, length, Option, None, Result, IfSome}
+use Rattle.std.specs.Prelude.{◌≡◌, ◌≢◌, ◌⊎◌, ℕ, zero, suc, ◌+◌, ◌-◌, ◌≤◌, ◌<◌, Bool, true, false, if◌then◌else◌, List, [], ◌∷◌, ◌++◌, length, Option, Some, None, Result, IfSome}
 use Rattle.std.specs.List.{concat}
 use Rattle.nats_names.specs.declared.addr_error.AddrError.{AddrError}
 use Rattle.nats_names.specs.declared.cause.Cause.TheVariants as cause
+use Rattle.nats_info.specs.declared.info.ServerInfo.{ServerInfo}
 use Rattle.nats_addr.specs.Addr.{is_tls, is_websocket}
+use Rattle.nats_addr.specs.Resolving.{risen}
 use Rattle.nats_addr.specs.declared.resolver.AskWord.TheVariants as ask
 use Rattle.nats_pool.specs.Auths.{AuthValue}
 use Rattle.nats_pool.specs.Pools.{passes}
 use Rattle.nats_pool.specs.declared.pool_parts.Planned.{Planned}
 use Rattle.nats_outside.specs.Counts.{Rose, RoseBy}
-use Rattle.nats_outside.specs.Told.{Seen}
+use Rattle.nats_outside.specs.Told.{Seen, ReadTold, WriteTold}
 use Rattle.nats_outside.specs.declared.dialer.DialWord.TheVariants as word
 use Rattle.nats_handshake.specs.declared.error.ConnectErrorKind.TheVariants as kind
-use Rattle.nats_handshake.specs.declared.stage.Stage.{Stage}
 use Rattle.nats_handshake.specs.Course.{io}
 use Rattle.nats_handshake.specs.Errors.{Failure}
-use Rattle.nats_handshake.specs.Shaking.{wanting, end_cause}
-use Rattle.nats_handshake.specs.Heard.{IsOpen, RefusesText}
+use Rattle.nats_handshake.specs.Shaking.{wanting}
+use Rattle.nats_handshake.specs.Heard.{RefusesText, end_behind}
 use Rattle.nats_pool.specs.Handing.{RoundTold}
-use Rattle.nats_dial.specs.Tries.{ends_round, unresolved, no_address, no_websocket, all_failed, too_many}
+use Rattle.nats_dial.specs.Tries.{IsUp, ends_round, unresolved, no_address, no_websocket, all_failed, too_many}
 
 -- no count of the outside fell
 pub record Onward (a b : Seen) : Type 0 where
@@ -57,6 +58,30 @@ pub record LastGave (text : List ℕ) (links : List (List (List ℕ) × List ℕ
   pub last : links ≡ before ++ (pieces, taken) ∷ []
   pub gave : concat pieces ≡ text
 
+-- where the ended links are known, they were before, and others may have come behind them
+abbrev pub Grew : {L : Type 0} → Option (List L) → Option (List L) → Type 0
+Grew {L} before None = Unit {0}
+Grew {L} before (Some links) = (old : List L) × (more : List L) × (before ≡ Some old) × (links ≡ old ++ more)
+
+-- a count that was raised by one so many times
+abbrev pub raised : ℕ → ℕ → ℕ
+raised zero count = count
+raised (suc n) count = risen 1 (raised n count)
+
+-- as many links were handed back as came, and the ended links stand behind those of before
+pub record AllBack (a b : Seen) : Type 0 where
+  pub number : ℕ
+  pub links : b.dialer.links ≡ raised number a.dialer.links
+  pub backs : b.dialer.backs ≡ raised number a.dialer.backs
+  pub ended : Grew a.dialer.ended b.dialer.ended
+
+-- one more came than were handed back
+pub record OneOut (a b : Seen) : Type 0 where
+  pub number : ℕ
+  pub links : b.dialer.links ≡ raised (suc number) a.dialer.links
+  pub backs : b.dialer.backs ≡ raised number a.dialer.backs
+  pub ended : Grew a.dialer.ended b.dialer.ended
+
 -- how many of these servers are websockets, and how many others
 abbrev pub sockets : List Planned → ℕ
 sockets [] = 0
@@ -92,7 +117,8 @@ module _ {P : Type 0} (Takes : P → P → List (List ℕ) → Result (Unit {0})
     abbrev pub LinkCause : Bool → Seen → Failure → Seen → Type 0
     LinkCause by_scheme a e b = (e ≡ wanting) ⊎ (((e ≡ (kind.TimedOut, None)) × IsLate timeout a b)
         ⊎ (((e ≡ io cause.Fault) × LinkFailed a b)
-        ⊎ (((at : Stage) × IsOpen at × (e ≡ io (end_cause at)) × LinkEnded a b) ⊎ LastRefused by_scheme e b)))
+        ⊎ (((text : List ℕ) × IfSome b.dialer.ended (LastGave text) × (e ≡ io (end_behind text)) × LinkEnded a b)
+        ⊎ LastRefused by_scheme e b)))
 
     -- why no link came of a server, of which these were tried: also where the resolver failed or gave no address,
     -- or the last of them is a websocket's
@@ -106,6 +132,22 @@ module _ {P : Type 0} (Takes : P → P → List (List ℕ) → Result (Unit {0})
 pub record IsSpent (tried : List Planned) (before after : RoundTold) (a b : Seen) : Type 0 where
   pub passed : passes after.limit after.attempts ≡ true
   pub attempts : RoseBy (after.attempts - before.attempts - 1 - sockets tried) a.resolver.askings b.resolver.askings
+
+-- a link came up of one of these servers, which is no websocket's, by a dial of this call and in time
+pub record CameUp (Offers : List ℕ → Result AuthValue (List ℕ) → Type 0) (by_option : Bool) (name : Option (List ℕ))
+    (no_echo : Bool) (timeout : ℕ) (servers : List Planned) (info : ServerInfo) (rest : List ℕ) (r : ReadTold)
+    (w : WriteTold) (a b : Seen) : Type 0 where
+  pub before : List Planned
+  pub server : Planned
+  pub later : List Planned
+  pub among : servers ≡ before ++ server ∷ later
+  pub no_socket : is_websocket server.addr ≡ false
+  pub up : IsUp Offers by_option (is_tls server.addr) name no_echo info rest r w
+  pub dialed : Rose a.dialer.dials b.dialer.dials
+  pub started : Rose a.clock.starts b.clock.starts
+  pub awake : b.clock.slept ≡ false
+  pub in_time : b.clock.last < b.clock.start + timeout
+  pub out : OneOut a b
 
 -- some servers of a round were tried, the first ones
 pub record HasTried (servers tried rest : List Planned) (a b : Seen) : Type 0 where

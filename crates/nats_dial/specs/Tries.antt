@@ -1,5 +1,5 @@
 -- What is tried to get a link: an address, the addresses of a server, the servers of a round.
-use Rattle.std.specs.Prelude.{◌≡◌, ◌⊎◌, ℕ, Bool, true, false, List, [], ◌∷◌, Option, Some, None, Result, Ok, Err}
+use Rattle.std.specs.Prelude.{◌≡◌, ◌⊎◌, ℕ, ◌+◌, ◌<◌, Bool, true, false, List, [], ◌∷◌, Option, Some, None, Result, Ok, Err}
 use Rattle.std.specs.declared.net.socket_addr.SocketAddr.{SocketAddr}
 use Rattle.url.specs.Parts.{Parts}
 use Rattle.nats_names.specs.declared.addr_error.AddrError.{AddrError}
@@ -23,7 +23,7 @@ use Rattle.nats_handshake.specs.declared.error.ConnectErrorKind.{ConnectErrorKin
 use Rattle.nats_handshake.specs.declared.error.ConnectErrorKind.TheVariants as kind
 use Rattle.nats_handshake.specs.Course.{io}
 use Rattle.nats_handshake.specs.Errors.{Failure, kind_text}
-use Rattle.nats_handshake.specs.Shaking.{wanting}
+use Rattle.nats_handshake.specs.Shaking.{wanting, wants_tls}
 use Rattle.nats_handshake.specs.Heard.{Wrote, Succeeds}
 use Rattle.nats_dial.specs.declared.linked.Linked.{Linked}
 use Rattle.nats_dial.specs.Lines.{Gave, Opens, Took, Broke}
@@ -32,14 +32,16 @@ use Rattle.nats_pool.specs.Handing.{RoundTold, left_of}
 
 -- ---- a link
 
--- a link that is up: what its halves gave and took is a handshake that succeeds with this INFO and leaves this
--- rest, and no
--- fewer of its pieces hold that success
-pub record IsUp (Offers : List ℕ → Result AuthValue (List ℕ) → Type 0) (name : Option (List ℕ)) (no_echo : Bool)
+-- a link that is up: TLS was wanted neither by the option nor by the scheme of the address nor by the INFO; what its
+-- halves gave and took is a handshake that succeeds with this INFO and leaves this rest, and no fewer of its pieces
+-- hold that success; and reads wait for as long as it takes
+pub record IsUp (Offers : List ℕ → Result AuthValue (List ℕ) → Type 0) (by_option by_scheme : Bool)
+    (name : Option (List ℕ)) (no_echo : Bool)
     (info : ServerInfo) (rest : List ℕ) (r : ReadTold) (w : WriteTold) : Type 0 where
   pub text : List ℕ
   pub wrote : List ℕ
   pub said : List ℕ
+  pub plain : wants_tls by_option by_scheme info ≡ false
   pub offers : Wrote Offers name no_echo info said wrote
   pub succeeds : Succeeds info rest said text
   pub gave : Gave text r
@@ -48,6 +50,7 @@ pub record IsUp (Offers : List ℕ → Result AuthValue (List ℕ) → Type 0) (
   pub no_ends : r.ends ≡ 0
   pub no_faults : r.faults ≡ 0
   pub no_write_faults : w.faults ≡ 0
+  pub no_wait : r.wait ≡ None
 
 -- ---- errors
 
@@ -86,32 +89,32 @@ all_failed = io cause.AllFailed
 abbrev pub too_many : Failure
 too_many = (kind.MaxReconnects, None)
 
--- ---- what the outside tells after a start of the clock at that time, the last look at it then, and what
--- becomes of a link
+-- ---- what the outside tells after a start of the clock at that time, a dial within so many milliseconds, the last
+-- look at the clock then, and what becomes of a link
 
 abbrev pub timed : ℕ → ℕ → ClockTold → ClockTold
 timed start look c = record (started start c) { last = look }
 
 -- the dial failed
-abbrev pub undialed : SocketAddr → ℕ → Seen → Seen
-undialed to start a = record {
-  dialer = dialed {L = Unit {0}} {E = Unit {0}} to (Err tt) a.dialer;
+abbrev pub undialed : ℕ → SocketAddr → ℕ → Seen → Seen
+undialed within to start a = record {
+  dialer = dialed {L = Unit {0}} {E = Unit {0}} to within (Err tt) a.dialer;
   resolver = a.resolver;
   clock = started start a.clock;
 }
 
 -- the link is up
-abbrev pub upped : SocketAddr → ℕ → ℕ → Seen → Seen
-upped to start look a = record {
-  dialer = dialed {L = Unit {0}} {E = Unit {0}} to (Ok tt) a.dialer;
+abbrev pub upped : ℕ → SocketAddr → ℕ → ℕ → Seen → Seen
+upped within to start look a = record {
+  dialer = dialed {L = Unit {0}} {E = Unit {0}} to within (Ok tt) a.dialer;
   resolver = a.resolver;
   clock = timed start look a.clock;
 }
 
 -- the link was handed back
-abbrev pub returned : SocketAddr → ℕ → ℕ → ReadTold → WriteTold → Seen → Seen
-returned to start look r w a = record {
-  dialer = hung_up r w (dialed {L = Unit {0}} {E = Unit {0}} to (Ok tt) a.dialer);
+abbrev pub returned : ℕ → SocketAddr → ℕ → ℕ → ReadTold → WriteTold → Seen → Seen
+returned within to start look r w a = record {
+  dialer = hung_up r w (dialed {L = Unit {0}} {E = Unit {0}} to within (Ok tt) a.dialer);
   resolver = a.resolver;
   clock = timed start look a.clock;
 }
@@ -147,15 +150,15 @@ module _ {P R T : Type 0} (Takes : P → P → List (List ℕ) → Result (Unit 
     -- one address was dialed, once the clock was started, and gave no link: the dial failed, or its link was handed
     -- back
     abbrev pub Unreached : Parts → SocketAddr → Seen → Failure → Seen → Type 0
-    Unreached addr to a e b = ((start : ℕ) × (e ≡ io cause.Fault) × (b ≡ undialed to start a))
-        ⊎ ((start : ℕ) × (look : ℕ) × (r : ReadTold) × (w : WriteTold) × (b ≡ returned to start look r w a)
+    Unreached addr to a e b = ((start : ℕ) × (e ≡ io cause.Fault) × (b ≡ undialed timeout to start a))
+        ⊎ ((start : ℕ) × (look : ℕ) × (r : ReadTold) × (w : WriteTold) × (b ≡ returned timeout to start look r w a)
         × Unshaken Takes Offers by_option name no_echo timeout addr start e r w (timed start look a.clock))
 
-    -- one address was dialed, and gave a link or none
+    -- one address was dialed, and gave a link in time, or none
     abbrev pub Reaches : Parts → SocketAddr → Seen → P → Result (Linked R T) Failure → Seen → P → Type 0
-    Reaches addr to a p (Ok l) b q = (start : ℕ) × (look : ℕ) × (b ≡ upped to start look a)
-        × IsUp Offers name no_echo l.info l.rest.items (read_of l.read) (write_of l.write)
-        × Takes p q l.info.connect_urls (Ok tt)
+    Reaches addr to a p (Ok l) b q = (start : ℕ) × (look : ℕ) × (b ≡ upped timeout to start look a)
+        × IsUp Offers by_option (is_tls addr) name no_echo l.info l.rest.items (read_of l.read) (write_of l.write)
+        × Takes p q l.info.connect_urls (Ok tt) × (look < start + timeout)
     Reaches addr to a p (Err e) b q = Unreached addr to a e b × TookIn Takes p q
 
     -- the same, and the pool was told how it went

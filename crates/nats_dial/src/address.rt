@@ -32,7 +32,7 @@ fn reach<P: Rounds, W: Reach>(
         (W.seen world.new) pool.new }
 {
     let start = seen::start_ms(world);
-    match seen::dial(world, to) {
+    match seen::dial(world, to, options.connection_timeout) {
         Ok((dialed_read, dialed_write)) => {
             let mut read = dialed_read;
             let mut write = dialed_write;

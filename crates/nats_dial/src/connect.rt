@@ -1,11 +1,11 @@
 //! A round of connecting.
-ghost use Rattle.std.specs.Prelude.{◌≡◌, IfErr, IfOk};
+ghost use Rattle.std.specs.Prelude.{◌≡◌, IfErr, IfOk, OnErr, OnOk};
 ghost use Rattle.nats_pool.specs.Auths.{auth_value};
 ghost use Rattle.nats_handshake.specs.Credentials.{SignerAnswers, AuthAnswers, Offers};
-ghost use Rattle.nats_dial.specs.Began.{BeganRound};
-ghost use Rattle.nats_dial.specs.Causes.{Onward, RoundCause};
+ghost use Rattle.nats_dial.specs.Began.{BeganRound, BeganWell};
+ghost use Rattle.nats_dial.specs.Causes.{AllBack, CameUp, Onward, RoundCause};
 ghost use Rattle.nats_pool.specs.Handing.{left_of};
-ghost use Rattle.nats_dial.specs.Tries.{Visits, GoesThrough, Connects, IsUp, all_failed, too_many};
+ghost use Rattle.nats_dial.specs.Tries.{Visits, GoesThrough, Connects, all_failed, too_many};
 
 use crate::link::wanting;
 use crate::server::{ends_round, visit};
@@ -100,10 +100,10 @@ fn connect<P: Rounds, W: Reach>(
 }
 
 /// Makes one round of connecting over `world`: begins a round of `pool`, whose last INFO was `last`, and tries its
-/// servers in order, each once its delay was slept: asks for its addresses and dials each in order, until the
-/// handshake of a link succeeds. A link whose handshake fails is handed back. The pool is told of each address that
-/// was dialed, and takes in the servers that an INFO tells of. A refusal of what the client authenticates by ends
-/// the round. Times are milliseconds. The crate's steps.
+/// servers in order, each once its delay was slept: asks for its addresses and dials each in order, until the handshake
+/// of a link succeeds, with TLS wanted by nothing and before its time is over. A link whose handshake fails is handed
+/// back. The pool is told of each address that was dialed, and takes in the servers that an INFO tells of. A refusal of
+/// what the client authenticates by ends the round. Times are milliseconds. The crate's steps.
 ///
 /// # Errors
 ///
@@ -123,10 +123,13 @@ pub fn try_connect<P: Rounds, W: Reach>(
 ) -> Result<Linked<W::Read, W::Write>, ConnectError>
     ensures beside { W.beside_reach world.new ≡ W.beside_reach world.old }
     ensures onward { Onward (W.seen world.old) (W.seen world.new) }
-    ensures up { IfOk result (λ linked. IsUp
+    ensures up { IfOk result (λ linked. CameUp
         (Offers SignerAnswers AuthAnswers options.now.signer options.now.auth_callback (auth_value options.now.auth))
-        options.now.name options.now.no_echo linked.info linked.rest.items
-        (W.Read.read_told linked.read) (W.Write.write_told linked.write)) }
+        options.now.tls_required options.now.name options.now.no_echo options.now.connection_timeout
+        ((P.round_told pool.new).round) linked.info linked.rest.items
+        (W.Read.read_told linked.read) (W.Write.write_told linked.write) (W.seen world.old) (W.seen world.new)) }
+    ensures well { OnOk result (BeganWell P.Begins P.round_told last.now pool.old pool.new) }
+    ensures back { OnErr result (AllBack (W.seen world.old) (W.seen world.new)) }
     ensures began { IfErr result (λ e. BeganRound P.Begins P.round_told last.now pool.old pool.new e) }
     ensures connects { Connects P.Takes P.Counts P.Hands P.Begins P.round_told
         (Offers SignerAnswers AuthAnswers options.now.signer options.now.auth_callback (auth_value options.now.auth))

@@ -30,7 +30,7 @@ pub(crate) fn exchange<R: LinkRead, T: LinkWrite, C: Clock, P: ServerList>(
     ensures exchanged { (by_scheme : Bool) (start timeout : ℕ) (text wrote : List ℕ) → IsOpen shaking.old.stage
         → Line (Offers SignerAnswers AuthAnswers options.now.signer options.now.auth_callback
         (auth_value options.now.auth))
-        options.now.name options.now.no_echo by_scheme start timeout text wrote
+        options.now.tls_required options.now.name options.now.no_echo by_scheme start timeout text wrote
         shaking.old (R.read_told read.old) (T.write_told write.old)
         → Exchanged P.Takes
         (Offers SignerAnswers AuthAnswers options.now.signer options.now.auth_callback (auth_value options.now.auth))

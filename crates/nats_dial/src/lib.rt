@@ -15,6 +15,7 @@ pub use connect::try_connect;
 pub use exchange::READ_SIZE;
 pub use linked::Linked;
 pub use nats_handshake::{ConnectError, ConnectErrorKind, ConnectOptions, Handshake, NoMemory};
+pub use nats_names::Cause;
 pub use nats_outside::{Clock, LinkRead, LinkWrite, Reach};
-pub use nats_pool::{Rounds, ServerList};
+pub use nats_pool::{Rounds, ServerAddr, ServerInfo, ServerList};
 pub use shake::shake_hands;

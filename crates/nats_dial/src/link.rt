@@ -1,10 +1,11 @@
 //! The handshake of one link.
-ghost use Rattle.std.specs.Prelude.{◌≡◌, ◌≤◌, ◌<◌, length, IfOk, OnOk, OnErr};
+ghost use Rattle.std.specs.Prelude.{◌≡◌, ◌≤◌, ◌<◌, length, Some, IfOk, OnOk, OnErr};
+ghost use Rattle.std.specs.Io.{ReadsAtMost};
 ghost use Rattle.nats_names.specs.declared.cause.Cause.TheVariants as cause;
-ghost use Rattle.nats_outside.specs.Told.{write_of};
+ghost use Rattle.nats_outside.specs.Told.{read_of, bounded, write_of};
 ghost use Rattle.nats_handshake.specs.Course.{io};
-ghost use Rattle.nats_handshake.specs.Shaking.{Expires, wanting};
-ghost use Rattle.nats_dial.specs.Lines.{Looked, Writes, ReadsInTime, wrote_all};
+ghost use Rattle.nats_handshake.specs.Shaking.{wanting};
+ghost use Rattle.nats_dial.specs.Lines.{Looked, Looks, Hears, Writes, ReadsInTime, wrote_all};
 
 use bytes::Bytes;
 use nats_handshake::{ConnectError, ConnectErrorKind, Handshake};
@@ -68,17 +69,43 @@ pub(crate) fn write_out<T: LinkWrite>(
     }
 }
 
-// A look at the clock.
-fn in_time<C: Clock>(shaking: &mut Handshake, clock: &mut C) -> Result<(), ConnectError>
+// A look at the clock: how many milliseconds are left.
+fn in_time<C: Clock>(shaking: &mut Handshake, clock: &mut C) -> Result<u64, ConnectError>
     ensures looked { Looked (C.clock_told clock.old) (C.clock_told clock.new) }
     ensures beside { C.beside_clock clock.new ≡ C.beside_clock clock.old }
-    ensures expires { Expires ((C.clock_told clock.new).last) shaking.old result shaking.new }
+    ensures looks { Looks shaking.old result shaking.new (C.clock_told clock.new) }
 {
     let now = clock.now_ms();
-    shaking.expire(now)
+    match shaking.expire(now) {
+        Ok(()) => Ok(shaking.left(now)),
+        Err(error) => Err(error),
+    }
 }
 
-// One read, with a look at the clock before it and after it.
+// One read that waits for so many milliseconds at most.
+fn read_within<R: LinkRead>(read: &mut R, ms: u64, buf: &mut [u8]) -> Result<usize, Failed>
+    ensures bound { ReadsAtMost result buf.new }
+    ensures told { R.read_told read.new
+        ≡ read_of result buf.new ((R.read_told read.new).left) (bounded (Some ms) (R.read_told read.old)) }
+    ensures len { length buf.new ≡ length buf.old }
+{
+    read.wait_at_most(Some(ms));
+    read.read(buf)
+}
+
+// What became of a read in time: bytes, the link's end, or a failure.
+fn heard(shaking: &mut Handshake, given: Result<usize, Failed>) -> Result<usize, ConnectError>
+    ensures { Hears shaking.old given result shaking.new }
+{
+    match given {
+        Ok(0) => Err(shaking.end()),
+        Ok(count) => Ok(count),
+        Err(Failed) => Err(fault()),
+    }
+}
+
+// One read that waits for what is left of the handshake's time, with a look at the clock before it and after it,
+// whether it failed or not.
 pub(crate) fn read_in_time<R: LinkRead, C: Clock>(
     shaking: &mut Handshake,
     read: &mut R,
@@ -91,15 +118,8 @@ pub(crate) fn read_in_time<R: LinkRead, C: Clock>(
     ensures reads { ReadsInTime buf.new shaking.old result shaking.new
         (R.read_told read.old) (R.read_told read.new) (C.clock_told clock.new) }
 {
+    let ms = in_time(shaking, clock)?;
+    let given = read_within(read, ms, buf);
     in_time(shaking, clock)?;
-    match read.read(buf) {
-        Ok(count) => {
-            in_time(shaking, clock)?;
-            if count == 0 {
-                return Err(shaking.end());
-            }
-            Ok(count)
-        }
-        Err(Failed) => Err(fault()),
-    }
+    heard(shaking, given)
 }

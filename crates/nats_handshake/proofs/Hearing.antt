@@ -15,9 +15,9 @@ use Rattle.nats_handshake.specs.declared.stage.Stage.TheVariants as stage
 use Rattle.nats_handshake.specs.declared.stage.Shake.{Shake}
 use Rattle.nats_handshake.specs.declared.stage.Shake.TheVariants as shake
 use Rattle.nats_handshake.specs.Course.{Course, course, behind_out, greeting_at}
-use Rattle.nats_handshake.specs.Shaking.{Talk, operations_most, opening, IsAnswer, Goes, Stops, StopsOrWants, Greeted, Repelled, Heeds}
+use Rattle.nats_handshake.specs.Shaking.{Talk, end_cause, operations_most, opening, IsAnswer, Goes, Stops, StopsOrWants, Greeted, Repelled, Heeds}
 use Rattle.nats_handshake.specs.Errors.{Failure}
-use Rattle.nats_handshake.specs.Heard.{Knows, Wrote, Heard, HeardMore, IsOpen, RefusesIn, RefusesText}
+use Rattle.nats_handshake.specs.Heard.{end_by, end_behind, Knows, Wrote, Heard, HeardMore, IsOpen, RefusesIn, RefusesText}
 use Rattle.nats_handshake.proofs.Heard.{course_more}
 
 pub answer_waits : (v : Verdict) → IsAnswer v shake.More → v ≡ verdict.Waits
@@ -114,13 +114,24 @@ module _ (Offers : List ℕ → Result AuthValue (List ℕ) → Type 0) (name : 
     ),
   )
 
+-- what the end of its link is to an open handshake that heard this text
+pub ends_behind : (Offers : List ℕ → Result AuthValue (List ℕ) → Type 0) (name : Option (List ℕ)) (no_echo : Bool)
+    (at : Stage) (unread wrote text : List ℕ) → IsOpen at → Heard Offers name no_echo at unread wrote text
+    → end_cause at ≡ end_behind text
+ends_behind Offers name no_echo stage.Greets unread wrote text going h = sym (ap end_by h.2)
+ends_behind Offers name no_echo (stage.Asks info left) unread wrote text going h =
+    sym (ap (λ (f : Front). end_by (greeting_at f)) h.2.first)
+ends_behind Offers name no_echo (stage.Linked info) unread wrote text going h = absurd going
+ends_behind Offers name no_echo (stage.Refused kind) unread wrote text going h = absurd going
+
 module _ (Discovers : List (List ℕ) → Result (Unit {0}) AddrError → Type 0) (Stays : Type 0)
     (Offers : List ℕ → Result AuthValue (List ℕ) → Type 0) (by_option : Bool) (name : Option (List ℕ)) (no_echo : Bool)
   where
     greeted_by : (f : Front) (t new : Talk) (s : Shake) → t.stage ≡ stage.Greets → front t.unread ≡ f
         → Greeted Discovers Stays Offers by_option name no_echo (greeting_at f) t s new
         → HeardMore Offers name no_echo t new [] t.unread
-    greeted_by unfinished t new s g e h = rw (h.2, g) ([], sym (append-nil t.out), (refl, refl))
+    greeted_by unfinished t new s g e h =
+        rw (h.2, g) ([], sym (append-nil t.out), (refl, refl, ap greeting_at e))
     greeted_by (fault k) t new s g e h = absurd h
     greeted_by (got (info_op info) n) t new s g e h =
         goes_first Offers name no_echo s info n h.0 t new (course operations_most (drop n t.unread)) refl e h.1.2 h.2

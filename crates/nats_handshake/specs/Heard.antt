@@ -1,6 +1,8 @@
 -- What a handshake makes of the whole text that it was fed, however that was cut.
 use Rattle.std.specs.Prelude.{◌≡◌, ◌⊎◌, ℕ, Bool, List, [], ◌++◌, drop, Option, Result, Ok}
 use Rattle.nats_names.specs.declared.addr_error.AddrError.{AddrError}
+use Rattle.nats_names.specs.declared.cause.Cause.{Cause}
+use Rattle.nats_names.specs.declared.cause.Cause.TheVariants as cause
 use Rattle.nats_info.specs.declared.info.ServerInfo.{ServerInfo}
 use Rattle.nats_pool.specs.Auths.{AuthValue}
 use Rattle.nats_wire.specs.Operations.{front, got, info_op}
@@ -36,14 +38,25 @@ IsOpen (stage.Asks info left) = Unit {0}
 IsOpen (stage.Linked info) = ⊥
 IsOpen (stage.Refused kind) = ⊥
 
+-- what the end of a link comes to by the text that it gave: no operation stood whole before it, or one did
+abbrev pub end_by : Greeting → Cause
+end_by greeting.Waits = cause.NoInfo
+end_by (greeting.Greets info n) = cause.BrokenPipe
+end_by (greeting.Refuses r) = cause.BrokenPipe
+
+abbrev pub end_behind : List ℕ → Cause
+end_behind text = end_by (greeting_at (front text))
+
 module _ (Offers : List ℕ → Result AuthValue (List ℕ) → Type 0) (name : Option (List ℕ)) (no_echo : Bool) where
   -- what was written: CONNECT and PING for what the client offers, and its answers
   abbrev pub Wrote : ServerInfo → List ℕ → List ℕ → Type 0
   Wrote info said wrote = (auth : AuthValue) × Offers info.nonce (Ok auth) × (wrote ≡ opening name no_echo auth ++ said)
 
-  -- how far a handshake is that heard this text, with what it left unread and all that it wrote
+  -- how far a handshake is that heard this text, with what it left unread and all that it wrote: at first no
+  -- operation stands whole there
   abbrev pub Heard : Stage → List ℕ → List ℕ → List ℕ → Type 0
-  Heard stage.Greets unread wrote text = (unread ≡ text) × (wrote ≡ [])
+  Heard stage.Greets unread wrote text =
+      (unread ≡ text) × (wrote ≡ []) × (greeting_at (front text) ≡ greeting.Waits)
   Heard (stage.Asks info left) unread wrote text =
       (said : List ℕ) × Wrote info said wrote × Knows info left unread said text
   Heard (stage.Linked info) unread wrote text =

@@ -1,5 +1,5 @@
 -- A handshake: what it keeps, and what each call makes of that.
-use Rattle.std.specs.Prelude.{◌≡◌, ◌⊎◌, ℕ, ◌+◌, nat_le, Bool, true, false, ◌||◌, if◌then◌else◌, List, [], ◌++◌, take, drop, Option, Some, None, Result, Ok, Err}
+use Rattle.std.specs.Prelude.{◌≡◌, ◌⊎◌, ℕ, ◌+◌, ◌-◌, nat_le, Bool, true, false, ◌||◌, if◌then◌else◌, List, [], ◌++◌, take, drop, Option, Some, None, Result, Ok, Err}
 use Rattle.std.specs.Global.{Vec}
 use Rattle.url.specs.Parts.{Parts}
 use Rattle.nats_addr.specs.Addr.{is_tls, is_websocket}
@@ -270,6 +270,10 @@ end_cause (stage.Refused kind) = cause.BrokenPipe
 
 abbrev pub is_late : Talk → ℕ → Bool
 is_late t now = nat_le (t.start + t.timeout) now
+
+-- how many milliseconds are left of its time
+abbrev pub left_at : Talk → ℕ → ℕ
+left_at t now = t.timeout - (now - t.start)
 
 -- a look at the clock, which is late or isn't, of one that is still open
 abbrev pub ExpiresOpen : Bool → Talk → Result (Unit {0}) Failure → Talk → Type 0

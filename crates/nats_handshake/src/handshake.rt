@@ -5,7 +5,7 @@ ghost use Rattle.nats_names.specs.declared.cause.Cause.TheVariants as cause;
 ghost use Rattle.nats_handshake.specs.declared.error.ConnectErrorKind.TheVariants as kind;
 ghost use Rattle.nats_handshake.specs.Course.{greeting_at, greeted_within, course, behind_out};
 ghost use Rattle.nats_handshake.specs.Credentials.{SignerAnswers, AuthAnswers, Offers};
-ghost use Rattle.nats_handshake.specs.Shaking.{IsNew, Discovered, Opens, Welcomes, opening, Shakes, Took, WentOn, Follows, Hears, operations_most, Heeds, Settles, FedOpen, Feeds, Expires, ExpiresOpen, advanced, closed, is_late, is_wanting, end_cause, finished, by_content, left_by, refused_of, with_bytes};
+ghost use Rattle.nats_handshake.specs.Shaking.{IsNew, Discovered, Opens, Welcomes, opening, Shakes, Took, WentOn, Follows, Hears, operations_most, Heeds, Settles, FedOpen, Feeds, Expires, ExpiresOpen, advanced, closed, is_late, is_wanting, end_cause, finished, by_content, left_at, left_by, refused_of, with_bytes};
 ghost use Rattle.nats_handshake.specs.Following.{Followed};
 ghost use Rattle.nats_wire.specs.Operations.{front};
 
@@ -473,6 +473,13 @@ impl Handshake {
         ensures { result ≡ is_late self.now now }
     {
         now >= self.start && now - self.start >= self.timeout
+    }
+
+    /// How many milliseconds are left at `now` of the time that it may take; none where that is over.
+    pub fn left(&self, now: u64) -> u64
+        ensures { result ≡ left_at self.now now }
+    {
+        self.timeout.saturating_sub(now.saturating_sub(self.start))
     }
 
     /// What is to be written.

@@ -28,6 +28,7 @@ impl Model for Fields {
     ghost view = { λ f. if_kept (λ table. table.value.entries) f.table };
 }
 
+#[inline(always)]
 fn insert_alone(
     table: &mut Table,
     alloc: Global,
@@ -43,6 +44,7 @@ fn insert_alone(
     Ok(())
 }
 
+#[inline(always)]
 fn append(
     table: &mut Table,
     alloc: Global,

@@ -99,6 +99,7 @@ impl HeaderMap {
         Ok(())
     }
 
+    #[inline(always)]
     pub(crate) fn append_field(
         &mut self,
         alloc: Global,

@@ -9,7 +9,7 @@ use Rattle.nats_wire.specs.Wire.{Wire}
 use Rattle.nats_history.specs.declared.config.Config.{Config}
 use Rattle.nats_history.specs.declared.call.Call.{Call}
 use Rattle.nats_history.specs.declared.call.CallReply.{CallReply}
-use Rattle.nats_history.specs.History.{Step, opened, fed, read, taken, accepted, handled, took, gone, link_end, closed, links_after, up_after, closed_after, drain_after, max_payload_after, info_after, all_reads_after, pings_after, cut, subscribes, requested_after, At, given_after, subscribed_after, about, Sub, puts, interest_after, stage_after, shut_after, gone_after, draining_after, limit_after, kept, commands, new_events}
+use Rattle.nats_history.specs.History.{Step, opened, fed, read, taken, accepted, handled, took, gone, link_end, closed, links_after, up_after, closed_after, drain_after, max_payload_after, info_after, infos_after, all_reads_after, pings_after, cut, subscribes, requested_after, At, given_after, subscribed_after, about, Sub, puts, interest_after, stage_after, shut_after, gone_after, draining_after, limit_after, kept, commands, new_events}
 use Rattle.nats_history.specs.Tickets.{tickets_after, settles}
 use Rattle.nats_history.specs.declared.stage.Stage.TheVariants.{Asked}
 use Rattle.nats_history.specs.declared.ping.Ping.{Ping}
@@ -121,6 +121,7 @@ link_after commands step link = record {
   is_up = up_after step link.is_up;
   max_payload = max_payload_after step link.max_payload;
   info = info_after step link.info;
+  infos = infos_after step link.infos;
   reads = all_reads_after step link.reads;
   pings = pings_after step link.pings;
   wire = wire_after link.is_up commands step link.wire;

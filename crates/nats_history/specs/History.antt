@@ -1,5 +1,5 @@
 -- What happened to a session, and the words that tell of it.
-use Rattle.std.specs.Prelude.{ℕ, zero, suc, ◌+◌, ◌-◌, ◌^◌, Bool, true, false, not, ◌&&◌, ◌||◌, nat_lt, nat_le, min, List, [], ◌∷◌, ◌++◌, length, drop, map, Option, Some, None, is_some, if◌then◌else◌, codes}
+use Rattle.std.specs.Prelude.{ℕ, zero, suc, ◌+◌, ◌-◌, ◌^◌, Bool, true, false, not, ◌&&◌, ◌||◌, ◌==◌, nat_lt, nat_le, min, List, [], ◌∷◌, ◌++◌, length, drop, map, Option, Some, None, is_some, if◌then◌else◌, codes}
 use Rattle.nats_names.specs.declared.event.Event.{Event}
 use Rattle.nats_names.specs.declared.event.Event.TheVariants.{Connected, Disconnected, LameDuckMode, Draining, Closed, SlowConsumer, ServerError}
 use Rattle.nats_info.specs.declared.info.ServerInfo.{ServerInfo}
@@ -99,15 +99,20 @@ pub record WholeDrain : Type 0 where
   pub is_accepted : Bool
   pub is_handled : Bool
 
+-- the limit after an INFO that is read tells one; 0 tells none
+abbrev pub limit_told : ℕ → ℕ → ℕ
+limit_told told limit = if told == 0 then limit else told
+
 abbrev pub max_payload_after : Step → ℕ → ℕ
 max_payload_after (opened info) n = info.max_payload
+max_payload_after (read (info_op info)) n = limit_told info.max_payload n
 max_payload_after step n = n
 
 -- the limit of a payload's size with its header block, in bytes, before any link came up
 abbrev pub default_max_payload : ℕ
 default_max_payload = 1048576
 
--- and then that of the newest link's server
+-- and then that of the INFO by which the newest link came up, or of the last one read since that tells a limit
 abbrev pub max_payload : History → ℕ
 max_payload [] = default_max_payload
 max_payload ((place, step) ∷ h) = max_payload_after step (max_payload h)
@@ -121,6 +126,16 @@ info_after step last = last
 abbrev pub last_info : History → Option ServerInfo
 last_info [] = None
 last_info ((place, step) ∷ h) = info_after step (last_info h)
+
+-- one more INFO was read, on whichever link
+abbrev pub infos_after : Step → ℕ → ℕ
+infos_after (read (info_op info)) n = cut (suc n)
+infos_after step n = n
+
+-- how many INFOs were read over all links; those by which links came up are not among them
+abbrev pub infos : History → ℕ
+infos [] = 0
+infos ((place, step) ∷ h) = infos_after step (infos h)
 
 -- one more operation was read, on whichever link
 abbrev pub all_reads_after : Step → ℕ → ℕ

@@ -7,5 +7,6 @@ pub mod Queue
 pub mod Refusals
 pub mod Schedule
 pub mod Sent
+pub mod Settings
 pub mod Tickets
 pub mod Transcripts

@@ -7,7 +7,7 @@ use Rattle.nats_history.specs.declared.call.Call.{Call}
 use Rattle.nats_history.specs.declared.ping.Ping.{Ping}
 use Rattle.nats_history.specs.declared.statistics.Statistics.{Statistics}
 use Rattle.nats_history.specs.Counts.{statistics}
-use Rattle.nats_history.specs.History.{History, links, is_up, is_closed, WholeDrain, max_payload, last_info, all_reads, whole_drain, pings, requested, unread, waiting_bytes, waiting_calls, At, at_of, Sub, rows_of}
+use Rattle.nats_history.specs.History.{History, links, is_up, is_closed, WholeDrain, max_payload, last_info, infos, all_reads, whole_drain, pings, requested, unread, waiting_bytes, waiting_calls, At, at_of, Sub, rows_of}
 use Rattle.nats_history.specs.Tickets.{Tickets, tickets}
 
 -- the newest link
@@ -19,6 +19,8 @@ pub record Link : Type 0 where
   pub max_payload : ℕ
   -- what a server said of itself last
   pub info : Option ServerInfo
+  -- how many INFOs were read over all links
+  pub infos : ℕ
   -- how many operations were read over all links
   pub reads : ℕ
   -- its PINGs that no PONG answered, oldest first
@@ -66,6 +68,7 @@ link_of c h = record {
   is_up = is_up h;
   max_payload = max_payload h;
   info = last_info h;
+  infos = infos h;
   reads = all_reads h;
   pings = pings h;
   wire = record { unread = unread h; waiting = waiting_bytes c h };

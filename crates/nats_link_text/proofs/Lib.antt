@@ -1,4 +1,5 @@
 mod Names
+mod Infos
 mod Sound
 mod Sendable
 mod Steps

@@ -1,14 +1,16 @@
 -- Histories whose calls say no more than they are: what the words tell of them keeps that.
-use Rattle.std.proofs.Common.{◌≡◌, ℕ, zero, suc, ◌<◌, ◌^◌, Bool, true, false, cond, ◌||◌, List, [], ◌∷◌, ◌++◌, drop, map, Option, Some, None, refl, lit<}
+use Rattle.std.proofs.Common.{◌≡◌, ℕ, zero, suc, ◌<◌, ◌^◌, Bool, true, false, cond, ◌||◌, ◌==◌, List, [], ◌∷◌, ◌++◌, drop, map, Option, Some, None, refl, lit<}
 use Rattle.std.proofs.lemmas.Bool.{false≢true}
+use Rattle.nats_wire.specs.Operations.{Operation, info_op}
 use Rattle.nats_wire.specs.Commands.{sent_block}
 use Rattle.nats_client_text.specs.Law.{IsName, IsNameOrNone, IsBelow, IsCounted, AreHeadersOrNone}
 use Rattle.nats_history.specs.declared.config.Config.{Config}
 use Rattle.nats_history.specs.declared.call.Call.{Call}
 use Rattle.nats_history.specs.declared.call.Interest.{Interest}
-use Rattle.nats_history.specs.History.{Step, opened, accepted, handled, closed, History, max_payload, calls, handled_count, waiting_calls, asks, subscribes, requests, requested, at_of, given, concerns, numbers, Told, told_after, told, Sub, sub_of, interest_by, newer_limit, limit_by, is_over, forgotten, kept, rows_of}
+use Rattle.nats_history.specs.History.{Step, opened, read, accepted, handled, closed, History, max_payload_after, max_payload, calls, handled_count, waiting_calls, asks, subscribes, requests, requested, at_of, given, concerns, numbers, Told, told_after, told, Sub, sub_of, interest_by, newer_limit, limit_by, is_over, forgotten, kept, rows_of}
 use Rattle.nats_history.specs.Sent.{ReplyAt, at_subject, at_inbox, Sending, sent, limits, is_at_inbox, is_request}
 use Rattle.nats_link_text.specs.Typed.{IsToken}
+use Rattle.nats_link_text.proofs.Infos.{SoundRead}
 
 abbrev pub SoundReply : Config → ReplyAt → Type 0
 SoundReply c (at_subject reply) = IsNameOrNone reply
@@ -30,11 +32,12 @@ abbrev pub AreSoundCalls : Config → List Call → Type 0
 AreSoundCalls c [] = Unit {0}
 AreSoundCalls c (call ∷ more) = SoundCall c call × AreSoundCalls c more
 
--- such a call is accepted or handled, and a number that is given fits
+-- such a call is accepted or handled, a number that is given fits, and so does a limit that a server tells
 abbrev pub SoundStep : Config → History → Step → Type 0
 SoundStep c h (accepted call) = SoundCall c call × (subscribes call ≡ true → suc (given h) < 2 ^ 64)
 SoundStep c h (handled call) = SoundCall c call
 SoundStep c h (opened info) = info.max_payload < 2 ^ 64
+SoundStep c h (read operation) = SoundRead operation
 SoundStep c h step = Unit {0}
 
 abbrev pub SoundHistory : Config → History → Type 0
@@ -52,9 +55,20 @@ given_fits c ((place, accepted call) ∷ h) sound = by (subscribes call) refl (g
     by false is fits = fits
 given_fits c ((place, step) ∷ h) sound = given_fits c h sound.1
 
+limit_fits : (operation : Operation) (limit : ℕ) → SoundRead operation → limit < 2 ^ 64
+    → max_payload_after (read operation) limit < 2 ^ 64
+limit_fits (info_op info) limit told below = by (info.max_payload == 0)
+  where
+    by : (b : Bool) → cond b limit info.max_payload < 2 ^ 64
+    by true = below
+    by false = told
+limit_fits operation limit told below = below
+
 pub payload_fits : (c : Config) (h : History) → SoundHistory c h → max_payload h < 2 ^ 64
 payload_fits c [] sound = lit< tt
 payload_fits c ((place, opened info) ∷ h) sound = sound.0
+payload_fits c ((place, read operation) ∷ h) sound =
+    limit_fits operation (max_payload h) sound.0 (payload_fits c h sound.1)
 payload_fits c ((place, step) ∷ h) sound = payload_fits c h sound.1
 
 -- ---- calls

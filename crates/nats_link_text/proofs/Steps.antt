@@ -26,6 +26,7 @@ use Rattle.nats_history.specs.Sent.{ReplyAt, at_subject, at_inbox, Sending, sent
 use Rattle.nats_history.specs.Schedule.{may_publish_to, passes, may_reply_at, may_send, asks_validly, has_subjects, group_passes, has_group, size_with, size_of, has_no_number, takes_no_call, refusal, take_reply, closes, closing, ending, end_after, followers, chain, accepted_step, took_step, gone_step, tick_limit, own_steps, due_call, due_by, due, most_due, put_steps, settled_within, after_turn, steps_from, steps}
 use Rattle.nats_link_text.specs.Typed.{IsTextOrNone, IsTypedReply, IsTypedSending, IsTypedAsk, IsTypedCall, IsTypedTurn, AreTypedTurns, IsTypedConfig}
 use Rattle.nats_link_text.proofs.Names.{both}
+use Rattle.nats_link_text.proofs.Infos.{front_sound}
 use Rattle.nats_link_text.proofs.Sound.{SoundReply, SoundSending, SoundAsk, SoundCall, AreSoundCalls, SoundStep, SoundHistory, payload_fits, waiting_sound}
 
 -- ---- what a call that is not refused is
@@ -113,11 +114,12 @@ accepted_sound c h call tested config typed sound none =
 
 -- ---- steps that follow others
 
--- a step that accepts and handles no call, and opens no link
+-- a step that accepts and handles no call, opens no link and reads nothing
 abbrev Plain : Step → Type 0
 Plain (accepted call) = ⊥
 Plain (handled call) = ⊥
 Plain (opened info) = ⊥
+Plain (read operation) = ⊥
 Plain step = Unit {0}
 
 abbrev ArePlain : List Step → Type 0
@@ -128,6 +130,7 @@ plain_sound : (c : Config) (h : History) (step : Step) → Plain step → SoundS
 plain_sound c h (accepted call) is = absurd is
 plain_sound c h (handled call) is = absurd is
 plain_sound c h (opened info) is = absurd is
+plain_sound c h (read operation) is = absurd is
 plain_sound c h step is = tt
 
 put_plain : (c : Config) (place : ℕ) (more : List Step) (h : History) → ArePlain more → SoundHistory c h → SoundHistory c (put_steps place more h)
@@ -168,13 +171,14 @@ due_sound c h step sound is = by_up (is_up h) is
     by_call true [] are is = absurd (none-some step is)
     by_call false waiting are is = absurd (none-some step is)
 
-    by_front : (f : Front) → due_by f (parts_of c h) ≡ Some step → SoundStep c h step
-    by_front (got operation n) is = subst (SoundStep c h) (same_Some (read operation) step is) tt
-    by_front (fault n) is = subst (SoundStep c h) (same_Some (link_end word.Fault) step is) tt
-    by_front unfinished is = by_call (nat_lt (length (waiting_bytes c h)) 65535) (waiting_calls h) (waiting_sound c h sound) is
+    by_front : (f : Front) → front (unread h) ≡ f → due_by f (parts_of c h) ≡ Some step → SoundStep c h step
+    by_front (got operation n) here is =
+        subst (SoundStep c h) (same_Some (read operation) step is) (front_sound (unread h) operation n here)
+    by_front (fault n) here is = subst (SoundStep c h) (same_Some (link_end word.Fault) step is) tt
+    by_front unfinished here is = by_call (nat_lt (length (waiting_bytes c h)) 65535) (waiting_calls h) (waiting_sound c h sound) is
 
     by_up : (up : Bool) → cond up (due_by (front (unread h)) (parts_of c h)) None ≡ Some step → SoundStep c h step
-    by_up true is = by_front (front (unread h)) is
+    by_up true is = by_front (front (unread h)) refl is
     by_up false is = absurd (none-some step is)
 
 within_sound : (c : Config) (place most : ℕ) (next : Option Step) (h : History) → SoundHistory c h → due (parts_of c h) ≡ next → SoundHistory c (settled_within c place most next h)

@@ -3,14 +3,14 @@ use Rattle.std.proofs.Common.{◌≡◌, refl, ◌∙◌, sym, ap, subst, inl, i
 use Rattle.std.proofs.lemmas.Bool.{true≢false, false≢true}
 use Rattle.std.proofs.lemmas.Option.{none-some}
 use Rattle.nats_info.specs.declared.info.ServerInfo.{ServerInfo}
-use Rattle.nats_wire.specs.Operations.{Operation, Front, unfinished, got, fault, front, past}
-use Rattle.nats_history.specs.History.{Step, opened, fed, read, link_end}
+use Rattle.nats_wire.specs.Operations.{Operation, Front, unfinished, got, fault, front, past, operations}
+use Rattle.nats_history.specs.History.{Step, opened, fed, read, link_end, max_payload_after}
 use Rattle.nats_history.specs.Schedule.{due, due_by, most_due}
 use Rattle.nats_history.specs.declared.transcript.LinkWord.TheVariants as word
 use Rattle.nats_session.specs.Handler.{Seen, seen_after, idle}
 use Rattle.nats_core.specs.Journal.{due_round, due_rounds, all_due}
 use Rattle.nats_core.proofs.Dues.{none_round, rounds_enough, round_falls}
-use Rattle.nats_live.specs.Ended.{is_fault, ends_in_fault, pong, pongs}
+use Rattle.nats_live.specs.Ended.{limit_behind, limit_with, is_fault, ends_in_fault, pong, pongs}
 use Rattle.nats_live.specs.Flow.{GoesOn, HasBegun}
 use Rattle.nats_live.specs.State.{Noise, Kept, default_config, state, begun}
 use Rattle.nats_live.proofs.Ops.{pongs_one, goes_first, goes_fed, goes_read, goes_over, goes_fault, not_got_unfinished, not_got_fault}
@@ -45,7 +45,13 @@ all_rounds seen =
 
 -- ---- a session before any call
 
--- it follows these bytes of its link, however much of them it has read
+-- the limit after one more operation
+limit_next : (ops : List Operation) (op : Operation) (limit : ℕ)
+    → limit_behind (ops ++ op ∷ []) limit ≡ max_payload_after (read op) (limit_behind ops limit)
+limit_next [] op limit = refl
+limit_next (first ∷ ops) op limit = limit_next ops op (max_payload_after (read first) limit)
+
+-- it follows these bytes of its link, however much of them it has read, and this was the limit of payloads before
 pub record Reading (most : ℕ) (joined : List ℕ) (seen : Seen) : Type 0 where
   pub mux : List ℕ
   pub noise : Noise
@@ -54,13 +60,13 @@ pub record Reading (most : ℕ) (joined : List ℕ) (seen : Seen) : Type 0 where
   pub waiting : List ℕ
   pub done : List Operation
   pub is : seen ≡ state mux noise (begun up unread waiting)
-  pub limit : noise.most ≡ most
+  pub limit : noise.most ≡ limit_behind done most
   pub ups : up ≡ true → GoesOn joined done unread × (waiting ≡ pongs done)
-  pub downs : up ≡ false → ends_in_fault joined ≡ true
+  pub downs : up ≡ false → (ends_in_fault joined ≡ true) × (operations joined ≡ done)
 
 reading_front : (most : ℕ) (joined mux : List ℕ) (n : Noise) (unread waiting : List ℕ) (done : List Operation)
     (f : Front) → front unread ≡ f
-    → n.most ≡ most → GoesOn joined done unread → waiting ≡ pongs done
+    → n.most ≡ limit_behind done most → GoesOn joined done unread → waiting ≡ pongs done
     → Reading most joined (round_by f (state mux n (begun true unread waiting)))
 reading_front most joined mux n unread waiting done unfinished e limit goes wrote = record {
   mux = mux;
@@ -83,7 +89,7 @@ reading_front most joined mux n unread waiting done (got op m) e limit goes wrot
   done = done ++ op ∷ [];
   is = begun_read mux n unread waiting op m
       ∙ ap (λ (f : Front). state mux (noise_read mux [] op n) (begun true (past f unread) (waiting ++ pong op))) e;
-  limit = limit;
+  limit = ap (max_payload_after (read op)) limit ∙ sym (limit_next done op most);
   ups = λ up. (
     goes_read joined done unread op m e goes,
     ap (λ (w : List ℕ). w ++ pong op) wrote ∙ sym (pongs_one done op),
@@ -100,7 +106,10 @@ reading_front most joined mux n unread waiting done (fault m) e limit goes wrote
   is = begun_fault mux n unread waiting m;
   limit = limit;
   ups = λ up. absurd (false≢true up);
-  downs = λ down. goes_fault joined done unread goes (not_got_fault (front unread) m e) ∙ ap is_fault e;
+  downs = λ down. (
+    goes_fault joined done unread goes (not_got_fault (front unread) m e) ∙ ap is_fault e,
+    goes_over joined done unread goes (not_got_fault (front unread) m e),
+  );
 }
 
 -- a due step is played
@@ -148,8 +157,20 @@ nothing_there (fault m) mux n k up none e =
     absurd (none-some (link_end word.Fault) (sym none
     ∙ (ap (λ (u : Bool). if u then due_by (front k.unread) p else None) up ∙ ap (λ (f : Front). due_by f p) e)))
 
+-- all operations that its bytes have were read
+all_done : (most : ℕ) (joined : List ℕ) (seen : Seen) (r : Reading most joined seen) → due seen.parts ≡ None
+    → operations joined ≡ r.done
+all_done most joined seen r none = by r.up refl
+  where
+    by : (b : Bool) → r.up ≡ b → operations joined ≡ r.done
+    by true up =
+        let here = ap (λ (x : Seen). due x.parts) (sym r.is) ∙ none in
+        let there = nothing_there (front r.unread) r.mux r.noise (begun r.up r.unread r.waiting) up here refl in
+        goes_over joined r.done r.unread (r.ups up).0 (not_got_unfinished (front r.unread) there)
+    by false down = (r.downs down).1
+
 pub has_begun : (most : ℕ) (joined : List ℕ) (seen : Seen) → Reading most joined seen → due seen.parts ≡ None
-    → HasBegun most joined seen
+    → HasBegun (limit_with most joined) joined seen
 has_begun most joined seen r none = record {
   mux = r.mux;
   noise = r.noise;
@@ -157,17 +178,15 @@ has_begun most joined seen r none = record {
   unread = r.unread;
   waiting = r.waiting;
   is = r.is;
-  limit = r.limit;
+  limit = r.limit ∙ ap (λ (ops : List Operation). limit_behind ops most) (sym (all_done most joined seen r none));
   settled = none;
   ups = λ up.
       let facts = r.ups up in
-      let here = ap (λ (x : Seen). due x.parts) (sym r.is) ∙ none in
-      let there = nothing_there (front r.unread) r.mux r.noise (begun r.up r.unread r.waiting) up here refl in
-      let over = goes_over joined r.done r.unread facts.0 (not_got_unfinished (front r.unread) there) in (
+      let over = all_done most joined seen r none in (
         subst (λ (ops : List Operation). GoesOn joined ops r.unread) (sym over) facts.0,
         facts.1 ∙ ap pongs (sym over),
       );
-  downs = r.downs;
+  downs = λ down. (r.downs down).0;
 }
 
 -- ---- how a session begins
@@ -184,6 +203,7 @@ reading_up mux info =
         number = new.parts.link.number;
         most = info.max_payload;
         info = new.parts.link.info;
+        infos = new.parts.link.infos;
         reads = new.parts.link.reads;
         statistics = new.parts.statistics;
         events = new.events;
@@ -211,6 +231,7 @@ reading_fed most bytes seen b up =
         number = b.noise.number;
         most = b.noise.most;
         info = b.noise.info;
+        infos = b.noise.infos;
         reads = b.noise.reads;
         statistics = (seen_after old (fed bytes)).parts.statistics;
         events = b.noise.events;

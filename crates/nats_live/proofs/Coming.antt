@@ -9,6 +9,7 @@ use Rattle.nats_session.specs.Handler.{Seen, idle, seen_after}
 use Rattle.nats_core.specs.declared.entry.StepReply.{StepReply}
 use Rattle.nats_core.specs.Journal.{Logged, all_due, new_core}
 use Rattle.nats_core.proofs.Dues.{none_played, none_after_all}
+use Rattle.nats_live.specs.Ended.{limit_with}
 use Rattle.nats_live.specs.Flow.{HasBegun}
 use Rattle.nats_live.specs.State.{default_config}
 use Rattle.nats_live.specs.Steps.{PlaysWhole}
@@ -58,11 +59,11 @@ up_comes core mux info is =
 -- the first piece came
 pub fed_begun : (most : ℕ) (bytes : List ℕ) (old new : Logged) (reply : StepReply) → HasBegun most [] old.session
     → old.session.parts.link.is_up ≡ true → PlaysWhole old (turns.Piece bytes) (Ok reply) new
-    → HasBegun most bytes new.session
+    → HasBegun (limit_with most bytes) bytes new.session
 fed_begun most bytes old new reply b up plays =
     let next = seen_after old.session (fed bytes) in
     let same : new.session ≡ all_due next = settled_played old new (turns.Piece bytes) b.settled plays.2 in
-    subst (HasBegun most bytes) (sym same)
+    subst (HasBegun (limit_with most bytes) bytes) (sym same)
     (has_begun most bytes (all_due next) (reading_all most bytes next (reading_fed most bytes old.session b up))
     (none_after_all next))
 

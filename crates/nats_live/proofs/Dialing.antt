@@ -1,12 +1,13 @@
 -- A round of connecting on default options, whose pool has one server: what it says of texts and of what is offered.
-use Rattle.std.proofs.Common.{◌≡◌, refl, ◌∙◌, sym, ap, subst, inl, inr, ◌⊎◌, ℕ, arith, Bool, true, false, true≢false, if◌then◌else◌, List, [], ◌∷◌, map, length, All, Option, Some, None, Result, Ok, Err, IfOk, IfErr}
+use Rattle.std.proofs.Common.{◌≡◌, refl, ◌∙◌, sym, ap, subst, inl, inr, ◌⊎◌, ℕ, arith, Bool, true, false, true≢false, if◌then◌else◌, List, [], ◌∷◌, ◌++◌, map, length, All, Option, Some, None, Result, Ok, Err, IfOk, IfErr}
+use Rattle.std.specs.Prelude.{OnErr}
 use Rattle.std.specs.Global.{Vec}
 use Rattle.std.proofs.lemmas.List.Elements.{All-nil, All-cons, All-head}
 use Rattle.std.proofs.lemmas.List.Sorted.{All-permutation, length_permutation}
 use denote.Param.Members.{Mut}
 use Rattle.rand_core.specs.Stream.{Stream}
 use Rattle.url.specs.Parts.{Parts}
-use Rattle.nats_addr.specs.Addr.{addr_of}
+use Rattle.nats_addr.specs.Addr.{addr_of, is_tls, is_websocket}
 use Rattle.nats_info.specs.declared.info.ServerInfo.{ServerInfo}
 use Rattle.nats_names.specs.declared.addr_error.AddrError.{AddrError}
 use Rattle.nats_names.specs.declared.addr_error.AddrError.TheVariants as refusal
@@ -34,13 +35,13 @@ use Rattle.nats_handshake.specs.Course.{greeting_at}
 use Rattle.nats_handshake.specs.Credentials.{SignedBy, ThenTold, Offers}
 use Rattle.nats_handshake.specs.Errors.{Failure}
 use Rattle.nats_handshake.specs.Heard.{RefusesIn, RefusesText}
-use Rattle.nats_handshake.specs.Shaking.{Declines, is_wanting, wanting}
-use Rattle.nats_dial.specs.Began.{BeganRound, wants, began}
-use Rattle.nats_dial.specs.Causes.{last_tls, LinkCause, ServerCause, Why, RoundCause}
+use Rattle.nats_handshake.specs.Shaking.{Declines, is_wanting, wanting, wants_tls}
+use Rattle.nats_dial.specs.Began.{BeganRound, BeganWell, wants, began}
+use Rattle.nats_dial.specs.Causes.{AllBack, CameUp, last_tls, LinkCause, ServerCause, Why, RoundCause}
 use Rattle.nats_dial.specs.Tries.{IsUp}
 use Rattle.nats_live.specs.declared.error.LiveError.{LiveError}
 use Rattle.nats_live.specs.declared.error.LiveError.TheVariants as refused
-use Rattle.nats_live.specs.Causes.{IsRoundWith, default_timeout, OffersNothing, RoundFailed, TakesTexts, WhyNotDialed, WhyNotLinked, connect_refused}
+use Rattle.nats_live.specs.Causes.{IsRoundWith, LinkedTo, DialedTo, default_timeout, OffersNothing, RoundFailed, TakesTexts, WhyNotDialed, WhyNotLinked, connect_refused}
 use Rattle.nats_live.specs.Ended.{nothing}
 
 -- ---- the round of one server
@@ -126,13 +127,21 @@ module _ {X Y : Type 0} {F : X → Type 0} {G : Y → Type 0} {g : Mut ((x : X) 
 module _ (Offers : List ℕ → Result AuthValue (List ℕ) → Type 0)
     (offers : (nonce : List ℕ) (r : Result AuthValue (List ℕ)) → Offers nonce r → OffersNothing nonce r)
   where
-    pub plain_up : (name : Option (List ℕ)) (no_echo : Bool) (info : ServerInfo) (rest : List ℕ) (r : ReadTold)
-        (w : WriteTold)
-        → IsUp Offers name no_echo info rest r w → IsUp OffersNothing name no_echo info rest r w
-    plain_up name no_echo info rest r w up = record {
+    -- TLS is wanted by nothing
+    none_wanted : (by_option by_scheme : Bool) (info : ServerInfo) → wants_tls by_option by_scheme info ≡ false
+        → (by_scheme ≡ false) × (wants_tls false false info ≡ false)
+    none_wanted false false info plain = (refl, plain)
+    none_wanted false true info plain = cc
+    none_wanted true by_scheme info plain = cc
+
+    pub plain_up : (by_option by_scheme : Bool) (name : Option (List ℕ)) (no_echo : Bool) (info : ServerInfo)
+        (rest : List ℕ) (r : ReadTold) (w : WriteTold) → IsUp Offers by_option by_scheme name no_echo info rest r w
+        → IsUp OffersNothing false false name no_echo info rest r w
+    plain_up by_option by_scheme name no_echo info rest r w up = record {
       text = up.text;
       wrote = up.wrote;
       said = up.said;
+      plain = (none_wanted by_option by_scheme info up.plain).1;
       offers = (up.offers.0, offers info.nonce (Ok up.offers.0) up.offers.1, up.offers.2);
       succeeds = up.succeeds;
       gave = up.gave;
@@ -141,15 +150,35 @@ module _ (Offers : List ℕ → Result AuthValue (List ℕ) → Type 0)
       no_ends = up.no_ends;
       no_faults = up.no_faults;
       no_write_faults = up.no_write_faults;
+      no_wait = up.no_wait;
     }
 
-    -- a link that came on default options is one of a client that offers nothing
-    pub up_default : (name : Option (List ℕ)) (no_echo : Bool) → name ≡ None → no_echo ≡ false → (info : ServerInfo)
-        (rest : List ℕ) (r : ReadTold) (w : WriteTold) → IsUp Offers name no_echo info rest r w
-        → IsUp OffersNothing None false info rest r w
-    up_default name no_echo unnamed echoes info rest r w up =
-        subst (λ (n : Option (List ℕ)). IsUp OffersNothing n false info rest r w) unnamed
-        (subst (λ (e : Bool). IsUp OffersNothing name e info rest r w) echoes (plain_up name no_echo info rest r w up))
+    alone_among : (planned : Planned) (before : List Planned) (server : Planned) (later : List Planned)
+        → planned ∷ [] ≡ before ++ server ∷ later → server ≡ planned
+    alone_among planned [] server later is = cc
+    alone_among planned (x ∷ []) server later is = cc
+    alone_among planned (x ∷ y ∷ more) server later is = cc
+
+    -- a link that came on default options is one to the round's server, of a client that offers nothing
+    pub linked_default : (by_option : Bool) (name : Option (List ℕ)) (no_echo : Bool) (timeout : ℕ) → name ≡ None
+        → no_echo ≡ false → (told : RoundTold) (server : Parts) (info : ServerInfo) (rest : List ℕ) (r : ReadTold)
+        (w : WriteTold) (a b : Seen) → IsRoundWith server told
+        → CameUp Offers by_option name no_echo timeout told.round info rest r w a b
+        → LinkedTo server info rest r w a b
+    linked_default by_option name no_echo timeout unnamed echoes told server info rest r w a b
+        (planned, is, round, limit) came =
+        let same = alone_among planned came.before came.server came.later (sym round ∙ came.among) in
+        let to : came.server.addr ≡ server = ap (λ (p : Planned). p.addr) same ∙ is in
+        record {
+          no_tls = subst (λ (x : Parts). is_tls x ≡ false) to
+              (none_wanted by_option (is_tls came.server.addr) info came.up.plain).0;
+          no_socket = subst (λ (x : Parts). is_websocket x ≡ false) to came.no_socket;
+          up = subst (λ (n : Option (List ℕ)). IsUp OffersNothing false false n false info rest r w) unnamed
+              (subst (λ (e : Bool). IsUp OffersNothing false false name e info rest r w) echoes
+              (plain_up by_option (is_tls came.server.addr) name no_echo info rest r w came.up));
+          dialed = came.dialed;
+          out = came.out;
+        }
 
 module _ {P : Type 0} (Takes : P → P → List (List ℕ) → Result (Unit {0}) AddrError → Type 0)
     (refuses : (p q : P) (urls : List (List ℕ)) (e : AddrError) → Takes p q urls (Err e)
@@ -286,6 +315,14 @@ not_dialed addr server a b (refused.Subscribe e) spelled why = absurd why
 not_dialed addr server a b refused.LinkEnded spelled why = absurd why
 not_dialed addr server a b refused.NoMemory spelled why = tt
 
+pub on_err : {L E : Type 0} (P : Type 0) (r : Result L E) → P → OnErr r P
+on_err P (Ok l) p = tt
+on_err P (Err e) p = p
+
+pub if_ok_to : {L E : Type 0} (P Q : L → Type 0) (r : Result L E) → IfOk r P → ((l : L) → P l → Q l) → IfOk r Q
+if_ok_to P Q (Ok l) p f = f l p
+if_ok_to P Q (Err e) p f = tt
+
 pub if_err_to : {L E : Type 0} (P Q : E → Type 0) (r : Result L E) → IfErr r P → ((e : E) → P e → Q e) → IfErr r Q
 if_err_to P Q (Ok l) p f = tt
 if_err_to P Q (Err e) p f = f e p
@@ -320,3 +357,11 @@ pub began_alone : {P : Type 0} (Begins : ServerInfo → P → P → Choice → T
 began_alone Begins told last p q e server F failed alone (wants is) = inl is
 began_alone Begins told last p q e server F failed alone (began chosen n begins round limit) =
     inr (alone chosen n begins round limit, failed)
+
+-- the same of a round that gave a link
+pub began_well : {P : Type 0} (Begins : ServerInfo → P → P → Choice → Type 0) (told : P → RoundTold)
+    (last : ServerInfo) (p q : P) (server : Parts)
+    → ((chosen : Choice) (n : P) → Begins last p n chosen → (told q).round ≡ (told n).round
+    → (told q).limit ≡ (told n).limit → IsRoundWith server (told q))
+    → BeganWell Begins told last p q → IsRoundWith server (told q)
+began_well Begins told last p q server alone well = alone well.chosen well.begun well.begins well.round well.limit

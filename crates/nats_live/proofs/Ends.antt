@@ -1,5 +1,5 @@
 -- What a session on a link comes to, by what its loops leave.
-use Rattle.std.proofs.Common.{◌≡◌, refl, ◌∙◌, sym, ap, subst, inl, inr, ◌⊎◌, ℕ, ◌+◌, ◌-◌, ◌<◌, ◌≤◌, arith, true, false, true≢false, List, [], ◌++◌, length, take, append-nil, flat_map, Some, None, IfSome, IfOk, IfErr, OnOk, Result, Ok, Err}
+use Rattle.std.proofs.Common.{◌≡◌, refl, ◌∙◌, sym, ap, subst, inl, inr, ◌⊎◌, ℕ, ◌+◌, ◌-◌, ◌<◌, ◌≤◌, arith, true, false, true≢false, List, [], ◌++◌, length, take, append-nil, flat_map, Some, None, IfOk, IfErr, OnOk, Result, Ok, Err}
 use Rattle.std.specs.Global.{Vec}
 use Rattle.nats_info.specs.declared.info.ServerInfo.{ServerInfo}
 use Rattle.nats_names.specs.declared.cause.Cause.TheVariants as cause
@@ -20,11 +20,11 @@ use Rattle.nats_script.specs.Printed.{message_line}
 use Rattle.nats_live.specs.declared.error.LiveError.{LiveError}
 use Rattle.nats_live.specs.declared.error.LiveError.TheVariants as refused
 use Rattle.nats_live.specs.Back.{IsBack}
-use Rattle.nats_live.specs.Causes.{OffersNothing, LinkBrokeOrEnded, FaultLater, WhyNotPublished, WhyNotReceived}
-use Rattle.nats_live.specs.Ended.{LastLink, messages, ends_in_fault, WasPublished, WasReceived}
+use Rattle.nats_live.specs.Causes.{OffersNothing, DialedTo, Shows, LinkBrokeOrEnded, FaultLater, WhyNotPublished, WhyNotReceived}
+use Rattle.nats_live.specs.Ended.{messages, limit_with, ends_in_fault, WasPublished, WasReceived}
 use Rattle.nats_live.specs.Steps.{ReadsWhole}
 use Rattle.nats_live.specs.Flow.{HasBegun, Accepts, FlushEnds, Publishes, PublishedOver, Receives, Subscribes, IsReceiving, IsOver, IsWritten, TakesAll, ReceiveEnds, ReceivesAll, ReceivedOver, CameSoFar, GaveLater, published_text, subscribed_text}
-use Rattle.nats_live.proofs.Handing.{gave_nothing, ends_last, broke, broke_or_ended, link_ended, was_published, fault_in_rest, too_large, was_received, fewer_came, fault_later}
+use Rattle.nats_live.proofs.Handing.{gave_nothing, ends_shown, broke, broke_or_ended, link_ended, was_published, fault_in_rest, too_large, was_received, fewer_came, fault_later}
 use Rattle.nats_live.proofs.Rounds.{asked_more, over_more, printed_more, printed_same, read_lost, read_more}
 
 -- ---- the rounds of receiving
@@ -389,19 +389,18 @@ published_over limit joined head subject payload old w (Err refused.NoMemory) b 
 
 -- ---- a command, by its last ended link
 
-pub published_last : (info : ServerInfo) (rest subject payload : List ℕ) (r : ReadTold) (w0 w : WriteTold)
-    (m b : World)
-    → (up : IsUp OffersNothing None false info rest r w0) → IsBack r w m b
-    → PublishedOver info.max_payload rest up.wrote subject payload (Ok tt) w
-    → IfSome b.dialer.ended (LastLink (WasPublished subject payload))
-published_last info rest subject payload r w0 w m b up back is =
-    ends_last (WasPublished subject payload) r w m b back
-    (λ pieces bytes gave took. was_published info rest subject payload r w0 w pieces bytes up is gave took)
+pub published_last : (addr : List ℕ) (info : ServerInfo) (rest subject payload : List ℕ) (r : ReadTold) (w0 w : WriteTold)
+    (a m b : World) → (to : DialedTo addr info rest r w0 a m) → IsBack r w m b
+    → PublishedOver (limit_with info.max_payload rest) rest to.2.up.wrote subject payload (Ok tt) w
+    → Shows addr (WasPublished subject payload) a b
+published_last addr info rest subject payload r w0 w a m b to back is =
+    ends_shown addr (WasPublished subject payload) info rest r r w0 w a m b to back
+    (λ pieces bytes gave took. was_published info rest subject payload r w0 w pieces bytes to.2.up is gave took)
 
 pub why_not_published : (addr : List ℕ) (info : ServerInfo) (rest subject payload : List ℕ) (r : ReadTold)
     (w0 w : WriteTold) (a m b : World)
-    (e : LiveError) → (up : IsUp OffersNothing None false info rest r w0) → Onward a m → IsBack r w m b
-    → PublishedOver info.max_payload rest up.wrote subject payload (Err e) w
+    (e : LiveError) → (up : IsUp OffersNothing false false None false info rest r w0) → Onward a m → IsBack r w m b
+    → PublishedOver (limit_with info.max_payload rest) rest up.wrote subject payload (Err e) w
     → WhyNotPublished addr subject payload a e b
 why_not_published addr info rest subject payload r w0 w a m b
     (refused.Publish (publishing.InvalidSubject, source)) up onward back is = is
@@ -462,18 +461,17 @@ why_not_published addr info rest subject payload r w0 w a m b refused.LinkEnded 
     inl (broke r w a m b onward back (omega (arith, failed)))
 why_not_published addr info rest subject payload r w0 w a m b refused.NoMemory up onward back is = tt
 
-pub received_last : (info : ServerInfo) (rest subject : List ℕ) (n : ℕ) (text : Vec ℕ) (r0 r : ReadTold)
-    (w0 w : WriteTold) (m b : World)
-    → (up : IsUp OffersNothing None false info rest r0 w0) → IsBack r w m b
-    → ReceivedOver rest up.wrote subject n (Ok text) r0 r w
-    → IfSome b.dialer.ended (LastLink (WasReceived subject n text.items))
-received_last info rest subject n text r0 r w0 w m b up back is =
-    ends_last (WasReceived subject n text.items) r w m b back
+pub received_last : (addr : List ℕ) (info : ServerInfo) (rest subject : List ℕ) (n : ℕ) (text : Vec ℕ) (r0 r : ReadTold)
+    (w0 w : WriteTold) (a m b : World) → (to : DialedTo addr info rest r0 w0 a m) → IsBack r w m b
+    → ReceivedOver rest to.2.up.wrote subject n (Ok text) r0 r w
+    → Shows addr (WasReceived subject n text.items) a b
+received_last addr info rest subject n text r0 r w0 w a m b to back is =
+    ends_shown addr (WasReceived subject n text.items) info rest r0 r w0 w a m b to back
     (λ pieces bytes gave took.
-    was_received info rest subject text.items n r0 r w0 w pieces bytes up is.0 is.1 is.2 is.3.0 is.3.1 gave took)
+    was_received info rest subject text.items n r0 r w0 w pieces bytes to.2.up is.0 is.1 is.2 is.3.0 is.3.1 gave took)
 
 over_later : (info : ServerInfo) (rest bytes : List ℕ) (r0 r : ReadTold) (w0 w : WriteTold) (a m b : World)
-    → IsUp OffersNothing None false info rest r0 w0 → Onward a m → IsBack r w m b → GaveLater bytes r0 r
+    → IsUp OffersNothing false false None false info rest r0 w0 → Onward a m → IsBack r w m b → GaveLater bytes r0 r
     → IsOver (rest ++ bytes) r w
     → LinkBrokeOrEnded a b ⊎ FaultLater b
 over_later info rest bytes r0 r w0 w a m b up onward back gave (inl failed) =
@@ -485,7 +483,7 @@ over_later info rest bytes r0 r w0 w a m b up onward back gave (inr (inr fault))
 
 pub why_not_received : (addr : List ℕ) (info : ServerInfo) (rest subject : List ℕ) (n : ℕ) (r0 r : ReadTold)
     (w0 w : WriteTold) (a m b : World)
-    (e : LiveError) → 1 ≤ n → (up : IsUp OffersNothing None false info rest r0 w0) → Onward a m → IsBack r w m b
+    (e : LiveError) → 1 ≤ n → (up : IsUp OffersNothing false false None false info rest r0 w0) → Onward a m → IsBack r w m b
     → ReceivedOver rest up.wrote subject n (Err e) r0 r w → WhyNotReceived addr subject n a e b
 why_not_received addr info rest subject n r0 r w0 w a m b (refused.Subscribe (subscribing.InvalidSubject, source))
     some up onward back is = is
@@ -514,37 +512,37 @@ why_not_received addr info rest subject n r0 r w0 w a m b refused.NoMemory some 
 
 -- ---- by clause
 
-pub published_clause : (info : ServerInfo) (rest subject payload : List ℕ) (r : ReadTold) (w0 w : WriteTold)
-    (m b : World)
-    (result : Result (Unit {0}) LiveError) → (up : IsUp OffersNothing None false info rest r w0) → IsBack r w m b
-    → PublishedOver info.max_payload rest up.wrote subject payload result w
-    → OnOk result (IfSome b.dialer.ended (LastLink (WasPublished subject payload)))
-published_clause info rest subject payload r w0 w m b (Ok done) up back is =
-    published_last info rest subject payload r w0 w m b up back is
-published_clause info rest subject payload r w0 w m b (Err e) up back is = tt
+pub published_clause : (addr : List ℕ) (info : ServerInfo) (rest subject payload : List ℕ) (r : ReadTold) (w0 w : WriteTold)
+    (a m b : World)
+    (result : Result (Unit {0}) LiveError) → (to : DialedTo addr info rest r w0 a m) → IsBack r w m b
+    → PublishedOver (limit_with info.max_payload rest) rest to.2.up.wrote subject payload result w
+    → OnOk result (Shows addr (WasPublished subject payload) a b)
+published_clause addr info rest subject payload r w0 w a m b (Ok done) to back is =
+    published_last addr info rest subject payload r w0 w a m b to back is
+published_clause addr info rest subject payload r w0 w a m b (Err e) to back is = tt
 
 pub not_published_clause : (addr : List ℕ) (info : ServerInfo) (rest subject payload : List ℕ) (r : ReadTold)
     (w0 w : WriteTold) (a m b : World)
-    (result : Result (Unit {0}) LiveError) → (up : IsUp OffersNothing None false info rest r w0) → Onward a m
+    (result : Result (Unit {0}) LiveError) → (up : IsUp OffersNothing false false None false info rest r w0) → Onward a m
     → IsBack r w m b
-    → PublishedOver info.max_payload rest up.wrote subject payload result w
+    → PublishedOver (limit_with info.max_payload rest) rest up.wrote subject payload result w
     → IfErr result (λ e. WhyNotPublished addr subject payload a e b)
 not_published_clause addr info rest subject payload r w0 w a m b (Ok done) up onward back is = tt
 not_published_clause addr info rest subject payload r w0 w a m b (Err e) up onward back is =
     why_not_published addr info rest subject payload r w0 w a m b e up onward back is
 
-pub received_clause : (info : ServerInfo) (rest subject : List ℕ) (n : ℕ) (r0 r : ReadTold) (w0 w : WriteTold)
-    (m b : World)
-    (result : Result (Vec ℕ) LiveError) → (up : IsUp OffersNothing None false info rest r0 w0) → IsBack r w m b
-    → ReceivedOver rest up.wrote subject n result r0 r w
-    → IfOk result (λ text. IfSome b.dialer.ended (LastLink (WasReceived subject n text.items)))
-received_clause info rest subject n r0 r w0 w m b (Ok text) up back is =
-    received_last info rest subject n text r0 r w0 w m b up back is
-received_clause info rest subject n r0 r w0 w m b (Err e) up back is = tt
+pub received_clause : (addr : List ℕ) (info : ServerInfo) (rest subject : List ℕ) (n : ℕ) (r0 r : ReadTold)
+    (w0 w : WriteTold) (a m b : World)
+    (result : Result (Vec ℕ) LiveError) → (to : DialedTo addr info rest r0 w0 a m) → IsBack r w m b
+    → ReceivedOver rest to.2.up.wrote subject n result r0 r w
+    → IfOk result (λ text. Shows addr (WasReceived subject n text.items) a b)
+received_clause addr info rest subject n r0 r w0 w a m b (Ok text) to back is =
+    received_last addr info rest subject n text r0 r w0 w a m b to back is
+received_clause addr info rest subject n r0 r w0 w a m b (Err e) to back is = tt
 
 pub not_received_clause : (addr : List ℕ) (info : ServerInfo) (rest subject : List ℕ) (n : ℕ) (r0 r : ReadTold)
     (w0 w : WriteTold) (a m b : World)
-    (result : Result (Vec ℕ) LiveError) → 1 ≤ n → (up : IsUp OffersNothing None false info rest r0 w0) → Onward a m
+    (result : Result (Vec ℕ) LiveError) → 1 ≤ n → (up : IsUp OffersNothing false false None false info rest r0 w0) → Onward a m
     → IsBack r w m b
     → ReceivedOver rest up.wrote subject n result r0 r w → IfErr result (λ e. WhyNotReceived addr subject n a e b)
 not_received_clause addr info rest subject n r0 r w0 w a m b (Ok text) some up onward back is = tt

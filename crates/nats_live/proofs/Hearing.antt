@@ -410,6 +410,7 @@ noise_fed mux bytes n = record {
   number = n.number;
   most = n.most;
   info = n.info;
+  infos = n.infos;
   reads = n.reads;
   statistics = statistics_after (default_config mux) (history.fed bytes) n.statistics;
   events = n.events;

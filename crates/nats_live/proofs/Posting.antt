@@ -72,6 +72,7 @@ noise_accepted mux c n = record {
   number = n.number;
   most = n.most;
   info = n.info;
+  infos = n.infos;
   reads = n.reads;
   statistics = statistics_after (default_config mux) (accepted c) n.statistics;
   events = n.events;

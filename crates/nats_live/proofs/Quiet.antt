@@ -211,6 +211,7 @@ noise_lost mux n = record {
   number = n.number;
   most = n.most;
   info = n.info;
+  infos = n.infos;
   reads = n.reads;
   statistics = statistics_after (default_config mux) (history.link_end word.Lost) n.statistics;
   events = push_all (history.end_events word.Lost) n.events;

@@ -3,7 +3,7 @@ use Rattle.std.proofs.Common.{◌≡◌, refl, ◌∙◌, sym, ap, ℕ, zero, su
 use Rattle.nats_wire.specs.Operations.{Operation, message, info_op, error_op, ok_op, ping_op, pong_op, Front, unfinished, got, fault, front, past}
 use Rattle.nats_history.specs.declared.call.CallReply.{CallReply}
 use Rattle.nats_history.specs.declared.transcript.LinkWord.TheVariants as word
-use Rattle.nats_history.specs.History.{Step, read, link_end, Sub, info_after, all_reads_after, new_events, end_events, unsubscribe_command, is_closing_at}
+use Rattle.nats_history.specs.History.{Step, read, link_end, Sub, max_payload_after, info_after, infos_after, all_reads_after, new_events, end_events, unsubscribe_command, is_closing_at}
 use Rattle.nats_history.specs.Tickets.{requests_elsewhere, request_at, request_reply, replied_if, asking_after, settled_by}
 use Rattle.nats_history.specs.Counts.{statistics_after}
 use Rattle.nats_history.specs.Schedule.{due_by, due_chain, due_call, write_limit}
@@ -36,8 +36,9 @@ round_down mux n k down =
 abbrev pub noise_read : List ℕ → List Sub → Operation → Noise → Noise
 noise_read mux rows op n = record {
   number = n.number;
-  most = n.most;
+  most = max_payload_after (read op) n.most;
   info = info_after (read op) n.info;
+  infos = infos_after (read op) n.infos;
   reads = all_reads_after (read op) n.reads;
   statistics = statistics_after (default_config mux) (read op) n.statistics;
   events = push_all (new_events (default_config mux) rows (read op)) n.events;
@@ -124,6 +125,7 @@ noise_end mux n = record {
   number = n.number;
   most = n.most;
   info = n.info;
+  infos = n.infos;
   reads = n.reads;
   statistics = statistics_after (default_config mux) (link_end word.Fault) n.statistics;
   events = push_all (end_events word.Fault) n.events;

@@ -6,25 +6,26 @@ use Rattle.nats_names.specs.declared.cause.Cause.TheVariants as cause
 use Rattle.nats_names.specs.Causes.{source_text}
 use Rattle.nats_names.specs.Names.{is_publishable, is_valid}
 use Rattle.url.specs.Parts.{Parts}
-use Rattle.nats_addr.specs.Addr.{addr_of, addrs_of}
+use Rattle.nats_info.specs.declared.info.ServerInfo.{ServerInfo}
+use Rattle.nats_addr.specs.Addr.{addr_of, addrs_of, is_tls, is_websocket}
 use Rattle.nats_pool.specs.Auths.{AuthValue}
 use Rattle.nats_pool.specs.declared.pool_parts.Planned.{Planned}
 use Rattle.nats_pool.specs.Handing.{RoundTold}
 use Rattle.nats_outside.specs.Counts.{Rose}
-use Rattle.nats_outside.specs.Told.{Seen}
+use Rattle.nats_outside.specs.Told.{Seen, ReadTold, WriteTold}
 use Rattle.nats_outside.specs.declared.dialer.DialWord.TheVariants as word
 use Rattle.nats_handshake.specs.declared.error.ConnectErrorKind.TheVariants as connecting
 use Rattle.nats_handshake.specs.Errors.{Failure}
 use Rattle.nats_handshake.specs.Shaking.{is_wanting}
-use Rattle.nats_handshake.specs.Opened.{Opened, opened}
-use Rattle.nats_dial.specs.Tries.{failure_text}
-use Rattle.nats_dial.specs.Causes.{RoundCause}
+use Rattle.nats_handshake.specs.Opened.{Opened}
+use Rattle.nats_dial.specs.Tries.{IsUp, failure_text}
+use Rattle.nats_dial.specs.Causes.{OneOut, RoundCause}
 use Rattle.nats_client.specs.declared.errors.PublishErrorKind.TheVariants as publishing
 use Rattle.nats_client.specs.declared.errors.SubscribeErrorKind.TheVariants as subscribing
 use Rattle.nats_client.specs.Errors.{publish_kind_text, subscribe_kind_text}
 use Rattle.nats_live.specs.declared.error.LiveError.{LiveError}
 use Rattle.nats_live.specs.declared.error.LiveError.TheVariants as refused
-use Rattle.nats_live.specs.Ended.{EndedLink, LastLink, behind_handshake, after, messages, ends_in_fault, nothing}
+use Rattle.nats_live.specs.Ended.{EndedLink, LastLink, LastSince, IsOpenedBy, behind_handshake, after, messages, limit_of, ends_in_fault, nothing}
 
 -- what an error prints
 abbrev pub live_error_text : LiveError → List ℕ
@@ -99,6 +100,33 @@ WhyNotDialed addr a (refused.Subscribe e) b = ⊥
 WhyNotDialed addr a refused.LinkEnded b = ⊥
 WhyNotDialed addr a refused.NoMemory b = Unit {0}
 
+-- ---- a link that came about
+
+-- a link to this server, which wants no TLS and is no websocket's, came up by a dial since then, and is not handed back
+pub record LinkedTo (server : Parts) (info : ServerInfo) (rest : List ℕ) (r : ReadTold) (w : WriteTold) (a b : Seen)
+    : Type 0 where
+  pub no_tls : is_tls server ≡ false
+  pub no_socket : is_websocket server ≡ false
+  pub up : IsUp OffersNothing false false None false info rest r w
+  pub dialed : Rose a.dialer.dials b.dialer.dials
+  pub out : OneOut a b
+
+-- the same of the server of an address
+abbrev pub DialedTo : List ℕ → ServerInfo → List ℕ → ReadTold → WriteTold → Seen → Seen → Type 0
+DialedTo addr info rest r w a b = (server : Parts) × (addr_of addr ≡ Ok server) × LinkedTo server info rest r w a b
+
+-- what a link of this call shows: it was dialed for the server of the address, which wants no TLS and is no
+-- websocket's; it was shut and handed back; and where the world tells its ended links, it is the last of them, and was
+-- none of those of before
+pub record Shows (addr : List ℕ) (Is : EndedLink → Type 0) (a b : Seen) : Type 0 where
+  pub server : Parts
+  pub spelled : addr_of addr ≡ Ok server
+  pub no_tls : is_tls server ≡ false
+  pub no_socket : is_websocket server ≡ false
+  pub dialed : Rose a.dialer.dials b.dialer.dials
+  pub was_shut : b.dialer.was_shut ≡ true
+  pub ended : IfSome b.dialer.ended (LastSince a.dialer.ended Is)
+
 -- ---- the link's end
 
 -- a dial or a link failed, and that is the dialer's last word
@@ -114,7 +142,7 @@ LinkBrokeOrEnded a b = (Rose a.dialer.faults b.dialer.faults ⊎ Rose a.dialer.e
 -- the last ended link is one of whose bytes that is so
 abbrev pub LastOpened : (Opened → Type 0) → Seen → Type 0
 LastOpened Is b = IfSome b.dialer.ended
-    (LastLink (λ (link : EndedLink). (o : Opened) × (opened link.0 ≡ Some o) × Is o))
+    (LastLink (λ (link : EndedLink). (o : Opened) × IsOpenedBy link o × Is o))
 
 -- what came with the handshake's pieces is no operation; of the later pieces too
 abbrev pub FaultInRest : Seen → Type 0
@@ -127,10 +155,10 @@ FaultLater b = LastOpened (λ o. ends_in_fault (behind_handshake o) ≡ true) b
 abbrev pub FewerCame : ℕ → Seen → Type 0
 FewerCame n b = LastOpened (λ o. length (messages 1 (after o)) < n) b
 
--- the payload is larger than the server takes by its INFO
+-- the payload is larger than the server takes by what it said last
 abbrev pub TooLarge : ℕ → ℕ → List ℕ → Seen → Type 0
 TooLarge limit size payload b =
-    (size ≡ length payload) × (limit < size) × LastOpened (λ o. o.info.max_payload ≡ limit) b
+    (size ≡ length payload) × (limit < size) × LastOpened (λ o. limit_of o ≡ limit) b
 
 -- why a message was not published
 abbrev pub WhyNotPublished : List ℕ → List ℕ → List ℕ → Seen → LiveError → Seen → Type 0

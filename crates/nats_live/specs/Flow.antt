@@ -46,8 +46,8 @@ pub record GoesOn (joined : List ℕ) (done : List Operation) (unread : List ℕ
 
 -- ---- the session
 
--- the link came up with this limit of payloads, gave these bytes, and all that they made due is done: each PING
--- of theirs is answered, or they end in what is no operation, and the link is over
+-- the link came up and gave these bytes, and all that they made due is done: each PING of theirs is answered, or they
+-- end in what is no operation, and the link is over; this is the limit of payloads
 pub record HasBegun (most : ℕ) (joined : List ℕ) (seen : Seen) : Type 0 where
   pub mux : List ℕ
   pub noise : Noise

@@ -25,6 +25,7 @@ pub record Noise : Type 0 where
   pub number : ℕ
   pub most : ℕ
   pub info : Option ServerInfo
+  pub infos : ℕ
   pub reads : ℕ
   pub statistics : Statistics
   pub events : List Event
@@ -52,6 +53,7 @@ state mux n k = record {
       is_up = k.up;
       max_payload = n.most;
       info = n.info;
+      infos = n.infos;
       reads = n.reads;
       pings = [];
       wire = record { unread = k.unread; waiting = k.waiting };

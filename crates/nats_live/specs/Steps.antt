@@ -1,5 +1,5 @@
 -- One turn of a core, one write to a link, one read of it, each with all that it makes due.
-use Rattle.std.specs.Prelude.{◌≡◌, ◌<◌, ◌≤◌, ℕ, true, false, List, [], length, take, Result, Ok, Err}
+use Rattle.std.specs.Prelude.{◌≡◌, ◌<◌, ◌≤◌, ℕ, Bool, true, false, List, [], length, take, Result, Ok, Err}
 use Rattle.std.specs.Io.KnownBytes.{append_known}
 use Rattle.nats_names.specs.declared.failed.NoMemory.{NoMemory}
 use Rattle.nats_addr.specs.Resolving.{risen}
@@ -32,6 +32,14 @@ PlaysWhole old turn (Err OutOfTurn) new =
     (is_valid_turn (parts_in (caught_up old)) turn ≡ false) × (new ≡ caught_up old)
 PlaysWhole old turn (Err (LinkGone current)) new = ⊥
 PlaysWhole old turn (Err Wanting) new = Unit {0}
+
+-- a link that is up is hung up, unless memory was wanting; one that is down is left so
+abbrev pub HangsUpWhere : Bool → Logged → Logged → Type 0
+HangsUpWhere true old new = (result : Result StepReply StepError) × PlaysWhole old turns.Hangup result new
+HangsUpWhere false old new = new ≡ old
+
+abbrev pub HangsUp : Logged → Logged → Type 0
+HangsUp old new = HangsUpWhere (parts_in old).link.is_up old new
 
 -- a turn that may not come is one whose link is over
 abbrev pub step_refused : StepError → LiveError

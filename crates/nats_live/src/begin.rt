@@ -3,6 +3,7 @@ ghost use Rattle.std.specs.Prelude.{◌≡◌, ℕ, [], true, IfOk, IfErr, IsTru
 ghost use Rattle.nats_core.specs.Calls.{parts_in};
 ghost use Rattle.nats_core.specs.Journal.{new_core};
 ghost use Rattle.nats_live.specs.declared.error.LiveError.TheVariants as refused;
+ghost use Rattle.nats_live.specs.Ended.{limit_with};
 ghost use Rattle.nats_live.specs.Flow.{HasBegun, HasBegunOr};
 ghost use Rattle.nats_live.specs.State.{default_config};
 
@@ -59,7 +60,7 @@ fn on_link(alloc: Global, info: ServerInfo, seed: u64) -> Result<Core, LiveError
 // The bytes that came behind the handshake are the link's first piece.
 fn feed(alloc: Global, core: &mut Core, rest: Vec<u8>) -> Result<(), LiveError>
     ensures { (most : ℕ) → IsTrue (parts_in core.old).link.is_up → HasBegun most [] core.old.session
-        → HasBegunOr most rest.items result core.new.session }
+        → HasBegunOr (limit_with most rest.items) rest.items result core.new.session }
 {
     if rest.is_empty() {
         return Ok(());
@@ -77,7 +78,8 @@ pub(crate) fn begin(
     rest: Vec<u8>,
     seed: u64,
 ) -> Result<Core, LiveError>
-    ensures begun { IfOk result (λ core. HasBegun info.max_payload rest.items core.session) }
+    ensures begun { IfOk result
+        (λ core. HasBegun (limit_with info.max_payload rest.items) rest.items core.session) }
     ensures err { IfErr result (λ e. e ≡ refused.NoMemory) }
 {
     let mut core = on_link(alloc, info, seed)?;

@@ -1,9 +1,8 @@
 //! A link to the server of an address.
-ghost use Rattle.std.specs.Prelude.{◌≡◌, false, [], ◌∷◌, None, Ok, IfOk, IfErr};
+ghost use Rattle.std.specs.Prelude.{◌≡◌, [], ◌∷◌, Ok, IfOk, IfErr, OnErr};
 ghost use Rattle.nats_addr.specs.Addr.{addr_of};
-ghost use Rattle.nats_dial.specs.Causes.{Onward};
-ghost use Rattle.nats_dial.specs.Tries.{IsUp};
-ghost use Rattle.nats_live.specs.Causes.{OffersNothing, WhyNotDialed, WhyNotLinked, WhyNotParsed};
+ghost use Rattle.nats_dial.specs.Causes.{AllBack, Onward};
+ghost use Rattle.nats_live.specs.Causes.{DialedTo, LinkedTo, WhyNotDialed, WhyNotLinked, WhyNotParsed};
 
 use crate::error::{LiveError, connect_refused};
 use nats_client::World;
@@ -46,8 +45,9 @@ fn link_to<W: Reach>(
 ) -> Result<Linked<W::Read, W::Write>, LiveError>
     ensures beside { W.beside_reach world.new ≡ W.beside_reach world.old }
     ensures onward { Onward (W.seen world.old) (W.seen world.new) }
-    ensures up { IfOk result (λ linked. IsUp OffersNothing None false linked.info linked.rest.items
-        (W.Read.read_told linked.read) (W.Write.write_told linked.write)) }
+    ensures up { IfOk result (λ linked. LinkedTo server linked.info linked.rest.items
+        (W.Read.read_told linked.read) (W.Write.write_told linked.write) (W.seen world.old) (W.seen world.new)) }
+    ensures back { OnErr result (AllBack (W.seen world.old) (W.seen world.new)) }
     ensures refused { IfErr result (λ e. WhyNotLinked server (W.seen world.old) e (W.seen world.new)) }
 {
     let addrs = alone(alloc, server)?;
@@ -68,8 +68,9 @@ pub(crate) fn dial<W: World>(
 ) -> Result<Linked<W::Read, W::Write>, LiveError>
     ensures beside { W.beside_reach world.new ≡ W.beside_reach world.old }
     ensures onward { Onward (W.seen world.old) (W.seen world.new) }
-    ensures up { IfOk result (λ linked. IsUp OffersNothing None false linked.info linked.rest.items
-        (W.Read.read_told linked.read) (W.Write.write_told linked.write)) }
+    ensures up { IfOk result (λ linked. DialedTo addr.now linked.info linked.rest.items
+        (W.Read.read_told linked.read) (W.Write.write_told linked.write) (W.seen world.old) (W.seen world.new)) }
+    ensures back { OnErr result (AllBack (W.seen world.old) (W.seen world.new)) }
     ensures refused { IfErr result (λ e. WhyNotDialed addr.now (W.seen world.old) e (W.seen world.new)) }
 {
     let server = server_of(alloc, addr)?;

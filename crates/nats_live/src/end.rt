@@ -1,6 +1,7 @@
 //! A session that ends, and its link that is handed back.
 ghost use Rattle.std.specs.Prelude.{◌≡◌};
 ghost use Rattle.nats_live.specs.Back.{IsBack};
+ghost use Rattle.nats_live.specs.Steps.{HangsUp};
 
 use crate::step::play;
 use nats_client::World;
@@ -9,7 +10,9 @@ use nats_outside::seen;
 use std::alloc::Global;
 
 // Hangs up where the link is up. Want of memory leaves the session as it is: nothing is asked of it any more.
-pub(crate) fn hang_up(alloc: Global, core: &mut Core) {
+pub(crate) fn hang_up(alloc: Global, core: &mut Core)
+    ensures { HangsUp core.old core.new }
+{
     if core.handler().is_up() {
         let _ = play(alloc, core, Turn::Hangup);
     }

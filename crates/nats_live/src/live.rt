@@ -1,9 +1,9 @@
 //! The commands on a live link.
-ghost use Rattle.std.specs.Prelude.{◌≡◌, ◌≤◌, IfErr, IfOk, IfSome, OnOk};
-ghost use Rattle.nats_dial.specs.Causes.{Onward};
+ghost use Rattle.std.specs.Prelude.{◌≡◌, ◌≤◌, IfErr, IfOk, OnOk};
+ghost use Rattle.nats_dial.specs.Causes.{AllBack, Onward};
 ghost use Rattle.nats_dial.specs.Lines.{Took};
-ghost use Rattle.nats_live.specs.Causes.{WhyNotPublished, WhyNotReceived};
-ghost use Rattle.nats_live.specs.Ended.{LastLink, WasPublished, WasReceived};
+ghost use Rattle.nats_live.specs.Causes.{Shows, WhyNotPublished, WhyNotReceived};
+ghost use Rattle.nats_live.specs.Ended.{WasPublished, WasReceived, limit_with};
 ghost use Rattle.nats_live.specs.Flow.{PublishedOver, ReceivedOver};
 
 use crate::begin::begin;
@@ -31,7 +31,7 @@ fn publish_over<R: Wait, T: LinkWrite>(
     write: &mut T,
 ) -> Result<(), LiveError>
     ensures { (head : _) → Took head (T.write_told write.old)
-        → PublishedOver info.max_payload rest.items head subject.now
+        → PublishedOver (limit_with info.max_payload rest.items) rest.items head subject.now
         payload.now result (T.write_told write.new) }
 {
     let mut core = begin(alloc, info, rest, seed)?;
@@ -41,8 +41,9 @@ fn publish_over<R: Wait, T: LinkWrite>(
 }
 
 /// Publishes a message of this subject and payload to the server of an address: connects by one round on
-/// default options, publishes, waits until the link took all of it, hangs up and hands the link back, all on
-/// the caller's thread. The steps are those of a client of the crate that publishes, flushes and is dropped.
+/// default options, publishes, waits until the link took all of it, hangs up, shuts the link and hands it back,
+/// whatever came of it, all on the caller's thread. The steps are those of a client of the crate that publishes,
+/// flushes and is dropped.
 ///
 /// # Errors
 ///
@@ -58,10 +59,11 @@ pub fn publish<R: Wait, W: World>(
     payload: &[u8],
     world: &mut W,
 ) -> Result<(), LiveError>
-    ensures published { OnOk result (IfSome ((W.seen world.new).dialer.ended)
-        (LastLink (WasPublished subject.now payload.now))) }
+    ensures published { OnOk result (Shows addr.now (WasPublished subject.now payload.now)
+        (W.seen world.old) (W.seen world.new)) }
     ensures refused { IfErr result (λ e. WhyNotPublished
         addr.now subject.now payload.now (W.seen world.old) e (W.seen world.new)) }
+    ensures back { AllBack (W.seen world.old) (W.seen world.new) }
     ensures onward { Onward (W.seen world.old) (W.seen world.new) }
     ensures beside { W.beside_reach world.new ≡ W.beside_reach world.old }
 {
@@ -100,9 +102,9 @@ fn receive_over<R: Wait, L: LinkRead, T: LinkWrite>(
 }
 
 /// Receives `count` messages of a subject, at least one, from the server of an address: connects by one round
-/// on default options, subscribes, takes the messages, hangs up and hands the link back, all on the caller's
-/// thread. It answers the messages as printed, a line each. The steps are those of a client of the crate that
-/// subscribes, takes messages and is dropped.
+/// on default options, subscribes, takes the messages, hangs up, shuts the link and hands it back, whatever came of
+/// it, all on the caller's thread. It answers the messages as printed, a line each. The steps are those of a client
+/// of the crate that subscribes, takes messages and is dropped.
 ///
 /// # Errors
 ///
@@ -118,10 +120,11 @@ pub fn receive<R: Wait, W: World>(
     world: &mut W,
 ) -> Result<Vec<u8>, LiveError>
     requires { 1 ≤ count }
-    ensures received { IfOk result (λ text. IfSome ((W.seen world.new).dialer.ended)
-        (LastLink (WasReceived subject.now count text.items))) }
+    ensures received { IfOk result (λ text. Shows addr.now (WasReceived subject.now count text.items)
+        (W.seen world.old) (W.seen world.new)) }
     ensures refused { IfErr result (λ e. WhyNotReceived
         addr.now subject.now count (W.seen world.old) e (W.seen world.new)) }
+    ensures back { AllBack (W.seen world.old) (W.seen world.new) }
     ensures onward { Onward (W.seen world.old) (W.seen world.new) }
     ensures beside { W.beside_reach world.new ≡ W.beside_reach world.old }
 {

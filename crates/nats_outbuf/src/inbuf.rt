@@ -54,6 +54,7 @@ impl InBuf {
     }
 
     /// How many bytes there are.
+    #[inline]
     pub fn len(&self) -> usize
         ensures value { result ≡ length self.now }
         ensures bound { result < 2 ^ 63 }
@@ -62,6 +63,7 @@ impl InBuf {
     }
 
     /// Whether there are none.
+    #[inline]
     pub fn is_empty(&self) -> bool
         ensures { result ≡ (length self.now == 0) }
     {
@@ -69,6 +71,7 @@ impl InBuf {
     }
 
     /// All of them.
+    #[inline]
     pub fn as_slice(&self) -> &[u8]
         ensures { result.now ≡ self.now }
     {
@@ -77,6 +80,7 @@ impl InBuf {
 
     /// Whether the end of a line, CR LF, stands at `place`. It is one step: whoever looks for lines by this call
     /// alone has told what the search costs.
+    #[inline]
     pub fn crlf_at<L: Ledger>(&self, place: usize, steps: &mut Steps<L>) -> bool
         requires { place + 1 < length self.now }
         ensures tells { result ≡ is_crlf_at self.now place }
@@ -106,6 +110,7 @@ impl InBuf {
     }
 
     /// Takes the first `n` bytes away. Own call.
+    #[inline]
     pub fn advance(&mut self, n: usize)
         requires { n ≤ length self.old }
         ensures { self.new ≡ drop n self.old }
@@ -124,6 +129,7 @@ impl InBuf {
     }
 
     /// All of them, where parts of them share their memory. Own call.
+    #[inline]
     pub fn shared(&self) -> Option<&Bytes>
         ensures { IfSome result (λ bytes. bytes.now ≡ self.now) }
     {

@@ -1,5 +1,6 @@
 //! The bytes that wait to be written to a link.
 ghost use Rattle.std.specs.Prelude.{◌≡◌, ◌+◌, ◌^◌, ◌<◌, ◌≤◌, ◌++◌, [], length, take, drop, nat_le, OnOk, OnErr, IfOk};
+ghost use Rattle.std.specs.List.{concat};
 ghost use Rattle.nats_outbuf.specs.Buffers.{IsFront};
 
 use crate::chunks::Chunks;
@@ -61,6 +62,7 @@ impl OutBuf {
     }
 
     // Whether so many more bytes would be too many.
+    #[inline(always)]
     fn is_too_long(&self, more: usize) -> bool
         ensures { result ≡ nat_le (2 ^ 63) (length self.now + more) }
     {
@@ -68,6 +70,7 @@ impl OutBuf {
     }
 
     /// Appends a text by joining it to those before it, whole or not at all. For texts shorter than `CHUNK_LEAST`.
+    #[inline(always)]
     pub fn put_small(&mut self, _alloc: Global, text: &[u8]) -> Result<(), NoMemory>
         ensures ok { OnOk result (self.new ≡ self.old ++ text.now) }
         ensures err { OnErr result (self.new ≡ self.old) }
@@ -96,6 +99,7 @@ impl OutBuf {
     }
 
     /// How many bytes wait.
+    #[inline(always)]
     pub fn pending(&self) -> usize
         ensures value { result ≡ length self.now }
         ensures bound { result < 2 ^ 63 }
@@ -104,6 +108,7 @@ impl OutBuf {
     }
 
     /// Whether `SOFT_WRITE_BUF_LIMIT` bytes or more wait.
+    #[inline(always)]
     pub fn is_full(&self) -> bool
         ensures { result ≡ nat_le SOFT_WRITE_BUF_LIMIT (length self.now) }
     {
@@ -111,9 +116,11 @@ impl OutBuf {
     }
 
     /// The first waiting bytes in `PIECES_MOST` pieces at most, each nonempty, which share their memory; none where
-    /// nothing waits. Joined they are what waits first. They stay until `taken` takes them.
+    /// nothing waits. Joined they are what waits first, and all of it where they are fewer than `PIECES_MOST`. They stay
+    /// until `taken` takes them.
     pub fn pieces(&mut self, alloc: Global) -> Result<Vec<Bytes>, NoMemory>
         ensures front { IfOk result (λ pieces. IsFront PIECES_MOST pieces.items self.old) }
+        ensures all { IfOk result (λ pieces. length pieces.items < PIECES_MOST → concat pieces.items ≡ self.old) }
         ensures memory { OnErr result (0 < length self.old) }
         ensures stays { self.new ≡ self.old }
     {

@@ -34,6 +34,7 @@ impl Store {
     }
 
     /// Takes the first `n` bytes away.
+    #[inline]
     pub fn advance(&mut self, n: usize)
         requires { n ≤ length (store_bytes self.old) }
         ensures { store_bytes self.new ≡ drop n (store_bytes self.old) }

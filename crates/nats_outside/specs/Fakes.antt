@@ -1,5 +1,5 @@
 -- What links in memory, who dials them, and a clock in memory tell.
-use Rattle.std.specs.Prelude.{◌≡◌, ◌==◌, ℕ, zero, suc, Bool, List, [], ◌∷◌, ◌++◌, take, None, Some, Result, Ok, Err}
+use Rattle.std.specs.Prelude.{◌≡◌, ◌==◌, ℕ, zero, suc, Bool, false, List, [], ◌∷◌, ◌++◌, take, None, Some, Result, Ok, Err}
 use Rattle.std.specs.Io.KnownBytes.{append_known}
 use Rattle.std.specs.List.{list_any}
 use Rattle.std.specs.Vec.Iter.{into_iter_items}
@@ -27,10 +27,11 @@ read_told_of r = record {
   given = r.given;
   ends = r.ends;
   faults = r.faults;
+  wait = r.wait;
 }
 
 abbrev pub write_told_of : FakeWrite → WriteTold
-write_told_of w = record { taken = Some (taken_of w.past.value); faults = w.faults }
+write_told_of w = record { taken = Some (taken_of w.past.value); faults = w.faults; is_shut = w.is_shut }
 
 abbrev pub dialer_told_of : FakeDialer → DialerTold
 dialer_told_of d = record {
@@ -39,6 +40,10 @@ dialer_told_of d = record {
   dials = d.dials;
   word = d.word;
   to = d.to;
+  within = d.within;
+  links = d.came;
+  backs = d.backs;
+  was_shut = d.was_shut;
   ended = Some (links_of d.ended);
 }
 
@@ -49,8 +54,18 @@ clock_told_of c = record { last = c.last; start = c.start; starts = c.starts; na
 pub record IsNewDialer (waiting : List FakeLink) (fails : List ℕ) (d : FakeDialer) : Type 0 where
   pub links : into_iter_items d.links ≡ waiting
   pub failing : d.failing.items ≡ fails
-  pub told : dialer_told_of d
-      ≡ record { faults = 0; ends = 0; dials = 0; word = word.Fine; to = None; ended = Some [] }
+  pub told : dialer_told_of d ≡ record {
+    faults = 0;
+    ends = 0;
+    dials = 0;
+    word = word.Fine;
+    to = None;
+    within = 0;
+    links = 0;
+    backs = 0;
+    was_shut = false;
+    ended = Some [];
+  }
 
 -- the pieces after the first of these bytes were given
 abbrev pub pieces_with : ℕ → List ℕ → List (List ℕ) → List (List ℕ)

@@ -6,7 +6,8 @@ use Rattle.nats_addr.specs.Resolving.{ResolverTold, risen}
 use Rattle.nats_outside.specs.declared.dialer.DialWord.{DialWord}
 use Rattle.nats_outside.specs.declared.dialer.DialWord.TheVariants as word
 
--- ---- the reading half of a link: the bytes left and the pieces given so far, where they are known, and its counts
+-- ---- the reading half of a link: the bytes left and the pieces given so far, where they are known, its counts, and
+-- how many milliseconds a read may wait for bytes, where it was told so
 
 pub record ReadTold : Type 0 where
   pub left : Option (List ℕ)
@@ -14,6 +15,7 @@ pub record ReadTold : Type 0 where
   pub given : ℕ
   pub ends : ℕ
   pub faults : ℕ
+  pub wait : Option ℕ
 
 -- the pieces after a read gave the first n of these bytes
 abbrev pub piece_more : ℕ → List ℕ → Option (List (List ℕ)) → Option (List (List ℕ))
@@ -34,22 +36,28 @@ read_of (Ok n) buf left r = record {
   given = risen n r.given;
   ends = risen (ends_met n buf) r.ends;
   faults = r.faults;
+  wait = r.wait;
 }
 read_of (Err e) buf left r = record r { faults = risen 1 r.faults }
 
--- ---- the writing half of a link: the bytes taken, where they are known, and its failures
+-- it was told how long a read may wait
+abbrev pub bounded : Option ℕ → ReadTold → ReadTold
+bounded ms r = record r { wait = ms }
+
+-- ---- the writing half of a link: the bytes taken, where they are known, its failures, and whether it was shut
 
 pub record WriteTold : Type 0 where
   pub taken : Option (List ℕ)
   pub faults : ℕ
+  pub is_shut : Bool
 
 abbrev pub write_of : {E : Type 0} → Result ℕ E → List ℕ → WriteTold → WriteTold
 write_of (Ok n) bytes w = record w { taken = append_known w.taken (take n bytes) }
 write_of (Err e) bytes w = record w { faults = risen 1 w.faults }
 
--- ---- a dialer: its counts, its last word, the address that it dialed last, and the links handed back: of each
--- the pieces
--- that it gave and the bytes that it took, where all of them are known
+-- ---- a dialer: its counts, its last word, the address that it dialed last and the milliseconds that it had for
+-- that, how many links came of its dials and how many were handed back, whether the last of those had been shut, and
+-- of each link handed back the pieces that it gave and the bytes that it took, where all of them are known
 
 pub record DialerTold : Type 0 where
   pub faults : ℕ
@@ -57,20 +65,37 @@ pub record DialerTold : Type 0 where
   pub dials : ℕ
   pub word : DialWord
   pub to : Option SocketAddr
+  pub within : ℕ
+  pub links : ℕ
+  pub backs : ℕ
+  pub was_shut : Bool
   pub ended : Option (List (List (List ℕ) × List ℕ))
 
-abbrev pub dialed : {L E : Type 0} → SocketAddr → Result L E → DialerTold → DialerTold
-dialed to (Ok link) d = record d { dials = risen 1 d.dials; word = word.Fine; to = Some to }
-dialed to (Err e) d =
-    record d { dials = risen 1 d.dials; faults = risen 1 d.faults; word = word.Failed; to = Some to }
+abbrev pub dialed : {L E : Type 0} → SocketAddr → ℕ → Result L E → DialerTold → DialerTold
+dialed to within (Ok link) d = record d {
+  dials = risen 1 d.dials;
+  word = word.Fine;
+  to = Some to;
+  within = within;
+  links = risen 1 d.links;
+}
+dialed to within (Err e) d = record d {
+  dials = risen 1 d.dials;
+  faults = risen 1 d.faults;
+  word = word.Failed;
+  to = Some to;
+  within = within;
+}
 
 -- a link as it begins
 pub record IsFresh (r : ReadTold) (w : WriteTold) : Type 0 where
   pub no_pieces : (r.pieces ≡ None) ⊎ (r.pieces ≡ Some [])
   pub no_ends : r.ends ≡ 0
   pub no_faults : r.faults ≡ 0
+  pub no_wait : r.wait ≡ None
   pub no_taken : (w.taken ≡ None) ⊎ (w.taken ≡ Some [])
   pub no_write_faults : w.faults ≡ 0
+  pub not_shut : w.is_shut ≡ false
 
 -- the word of a link handed back with that many failures of its halves, and ends
 abbrev pub word_of : ℕ → ℕ → ℕ → DialWord
@@ -94,6 +119,10 @@ hung_up r w d = record {
   dials = d.dials;
   word = word_of r.faults w.faults r.ends;
   to = d.to;
+  within = d.within;
+  links = d.links;
+  backs = risen 1 d.backs;
+  was_shut = w.is_shut;
   ended = ended_more r.pieces w.taken d.ended;
 }
 

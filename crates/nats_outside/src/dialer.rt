@@ -26,7 +26,8 @@ pub trait Dialer {
     /// The writing half of its links.
     type Write: LinkWrite + Drop;
 
-    /// The counts, the last word, the address that was dialed last, and the links handed back, where they are known.
+    /// The counts, the last word, the address that was dialed last and the time that it had, whether the link handed
+    /// back last had been shut, and the links handed back, where they are known.
     ghost dialer_told: { Self → DialerTold };
 
     /// What stands beside the dialer, which its calls leave as it was.
@@ -34,9 +35,10 @@ pub trait Dialer {
 
     ghost beside_dialer: { Self → BesideDialer };
 
-    /// A new link to this address. A dial that fails is counted.
-    fn dial(&mut self, to: &SocketAddr) -> Result<(Self::Read, Self::Write), Failed>
-        ensures told { dialer_told self.new ≡ dialed to.now result (dialer_told self.old) }
+    /// A new link to this address. A dial that fails is counted, and so is one that is given up since it took more
+    /// than `within` milliseconds.
+    fn dial(&mut self, to: &SocketAddr, within: u64) -> Result<(Self::Read, Self::Write), Failed>
+        ensures told { dialer_told self.new ≡ dialed to.now within result (dialer_told self.old) }
         ensures fresh { IfOk result (λ link. IsFresh (Self.Read.read_told link.0) (Self.Write.write_told link.1)) }
         ensures beside { beside_dialer self.new ≡ beside_dialer self.old };
 

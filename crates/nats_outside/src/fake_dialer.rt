@@ -35,6 +35,10 @@ impl FakeDialer {
             dials: 0,
             word: DialWord::Fine,
             to: None,
+            within: 0,
+            came: 0,
+            backs: 0,
+            was_shut: false,
             ended: None,
         }
     }
@@ -82,6 +86,7 @@ fn halves(alloc: Global, link: FakeLink) -> (FakeRead, FakeWrite)
         given: 0,
         ends: 0,
         faults: 0,
+        wait: None,
     };
     let write = FakeWrite {
         alloc,
@@ -90,6 +95,7 @@ fn halves(alloc: Global, link: FakeLink) -> (FakeRead, FakeWrite)
         writes: 0,
         past: room,
         faults: 0,
+        is_shut: false,
     };
     (read, write)
 }
@@ -118,8 +124,8 @@ impl Dialer for FakeDialer {
 
     ghost beside_dialer = { λ _. tt };
 
-    fn dial(&mut self, to: &SocketAddr) -> Result<(FakeRead, FakeWrite), Failed>
-        ensures told { dialer_told_of self.new ≡ dialed to.now result (dialer_told_of self.old) }
+    fn dial(&mut self, to: &SocketAddr, within: u64) -> Result<(FakeRead, FakeWrite), Failed>
+        ensures told { dialer_told_of self.new ≡ dialed to.now within result (dialer_told_of self.old) }
         ensures fresh { IfOk result (λ link. IsFresh (read_told_of link.0) (write_told_of link.1)) }
         ensures answer { IfOk result (λ link. fails_next self.old.failing.items self.old.dials ≡ false) }
         ensures first { IfOk result (λ link.
@@ -127,12 +133,14 @@ impl Dialer for FakeDialer {
     {
         self.dials = self.dials.saturating_add(1);
         self.to = Some(*to);
+        self.within = within;
         if self.failing.as_slice().contains(&self.dials) {
             return Err(self.fail());
         }
         match self.links.next() {
             Some(link) => {
                 self.word = DialWord::Fine;
+                self.came = self.came.saturating_add(1);
                 Ok(halves(self.alloc, link))
             }
             None => Err(self.fail()),
@@ -147,6 +155,8 @@ impl Dialer for FakeDialer {
         if read.ends > 0 {
             self.ends = self.ends.saturating_add(1);
         }
+        self.backs = self.backs.saturating_add(1);
+        self.was_shut = write.is_shut;
         let FakeRead { pieces, .. } = read;
         let FakeWrite { mut past, .. } = write;
         past.pieces = pieces;

@@ -122,6 +122,10 @@ impl LinkRead for FakeRead {
         self.faults = self.faults.saturating_add(1);
         Err(Failed)
     }
+
+    fn wait_at_most(&mut self, ms: Option<u64>) {
+        self.wait = ms;
+    }
 }
 
 #[tactic(auto, using(crate::proofs::Pieces::concat_more))]
@@ -172,5 +176,7 @@ impl LinkWrite for FakeWrite {
         Err(Failed)
     }
 
-    fn shut(&mut self) {}
+    fn shut(&mut self) {
+        self.is_shut = true;
+    }
 }

@@ -16,8 +16,8 @@ pub struct Past {
     pub(crate) before: Option<Box<Past>>,
 }
 
-/// A link in memory that waits to be dialed: what it will give, at most how much at a call, how much at its first reads, and which
-/// calls fail.
+/// A link in memory that waits to be dialed: what it will give, at most how much at a call, how much at its first
+/// reads, and which calls fail.
 #[derive(Drop)]
 pub struct FakeLink {
     pub(crate) bytes: Bytes,
@@ -42,6 +42,7 @@ pub struct FakeRead {
     pub(crate) given: u64,
     pub(crate) ends: u64,
     pub(crate) faults: u64,
+    pub(crate) wait: Option<u64>,
     ghost has_most: { 0 < most },
 }
 
@@ -55,6 +56,7 @@ pub struct FakeWrite {
     pub(crate) writes: u64,
     pub(crate) past: Box<Past>,
     pub(crate) faults: u64,
+    pub(crate) is_shut: bool,
     ghost has_most: { 0 < most },
 }
 
@@ -70,5 +72,9 @@ pub struct FakeDialer {
     pub(crate) dials: u64,
     pub(crate) word: DialWord,
     pub(crate) to: Option<SocketAddr>,
+    pub(crate) within: u64,
+    pub(crate) came: u64,
+    pub(crate) backs: u64,
+    pub(crate) was_shut: bool,
     pub(crate) ended: Option<Box<Past>>,
 }

@@ -29,8 +29,8 @@ impl<D: Dialer, R, C, G> Dialer for Joined<D, R, C, G> {
 
     ghost beside_dialer = { λ w. (w.resolver, w.clock, w.draw) };
 
-    fn dial(&mut self, to: &SocketAddr) -> Result<(D::Read, D::Write), Failed> {
-        self.dialer.dial(to)
+    fn dial(&mut self, to: &SocketAddr, within: u64) -> Result<(D::Read, D::Write), Failed> {
+        self.dialer.dial(to, within)
     }
 
     fn hang_up(&mut self, read: D::Read, write: D::Write) {

@@ -13,6 +13,7 @@ mod link;
 mod reach;
 pub mod seen;
 
+pub use bytes::Bytes;
 pub use clock::Clock;
 pub use dialer::{DialWord, Dialer};
 pub use draw::Draw;

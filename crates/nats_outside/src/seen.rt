@@ -8,14 +8,18 @@ use crate::{Failed, Reach, ResolveError};
 use std::alloc::Global;
 use std::net::SocketAddr;
 
-/// A new link to this address.
-pub fn dial<W: Reach>(world: &mut W, to: &SocketAddr) -> Result<(W::Read, W::Write), Failed>
+/// A new link to this address, within so many milliseconds.
+pub fn dial<W: Reach>(
+    world: &mut W,
+    to: &SocketAddr,
+    within: u64,
+) -> Result<(W::Read, W::Write), Failed>
     ensures told { W.seen world.new
-        ≡ record (W.seen world.old) { dialer = dialed to.now result ((W.seen world.old).dialer) } }
+        ≡ record (W.seen world.old) { dialer = dialed to.now within result ((W.seen world.old).dialer) } }
     ensures fresh { IfOk result (λ link. IsFresh (W.Read.read_told link.0) (W.Write.write_told link.1)) }
     ensures beside { W.beside_reach world.new ≡ W.beside_reach world.old }
 {
-    world.dial(to)
+    world.dial(to, within)
 }
 
 /// Hands a link back.

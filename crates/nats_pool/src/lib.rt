@@ -28,7 +28,7 @@ pub use nats_addr::{
     addrs_of_texts,
 };
 pub use nats_info::ServerInfo;
-pub use nats_names::{AddrError, AuthError, Error, Event, NoMemory, Subject, Text};
+pub use nats_names::{AddrError, AuthError, Cause, Error, Event, NoMemory, Subject, Text};
 pub use pool_error::SetServerPoolErrorKind;
 pub use pool_options::{Delay, PoolOptions};
 pub use pool_parts::{Attempt, Choice, Next, Outcome, Planned, Pool};

@@ -5,10 +5,10 @@ use Rattle.std.specs.Io.KnownBytes.{Appends}
 use Rattle.nats_outside.specs.Told.{Seen}
 use Rattle.nats_script.specs.Spelling.{field_number}
 use Rattle.nats_live.specs.declared.error.LiveError.{LiveError}
-use Rattle.nats_live.specs.Causes.{WhyNotPublished, WhyNotReceived}
+use Rattle.nats_live.specs.Causes.{Shows, WhyNotPublished, WhyNotReceived}
 use Rattle.nats_live.specs.Ended.{WasPublished, WasReceived}
 use Rattle.nats_replay.specs.Outside.{Rose, AppendsFront}
-use Rattle.nats_replay.specs.Live.{LiveWords, publishes, receives, others, live_of, in_sub, receives_by, LastShows, IsToldOf, LiveAnswers, LiveAnswersBy, is_told, PubAnswers, SubAnswers, PubPrints, SubPrints, PrintsAt, RefusalAnswers, published_line, error_line}
+use Rattle.nats_replay.specs.Live.{LiveWords, publishes, receives, others, live_of, in_sub, receives_by, IsToldOf, LiveAnswers, LiveAnswersBy, is_told, PubAnswers, SubAnswers, PubPrints, SubPrints, PrintsAt, RefusalAnswers, published_line, error_line}
 use Rattle.nats_replay.specs.Words.{run_words, bulk_count, is_status_of_live}
 
 -- ---- words
@@ -57,7 +57,7 @@ sub_answers words addr subject n a b status faults faults_now old new is answers
 pub published_by : (addr subject payload : List ℕ) (a b : Seen) (status faults faults_now : ℕ)
     (old new : Option (List ℕ)) → status ≡ 0
     → PubAnswers addr subject payload a status b faults faults_now old new
-    → LastShows (WasPublished subject payload) b × Appends old new published_line
+    → Shows addr (WasPublished subject payload) a b × Appends old new published_line
 published_by addr subject payload a b status faults faults_now old new zero (inl seven) =
     absurd (omega (arith, zero, seven))
 published_by addr subject payload a b status faults faults_now old new zero (inr (inl (shows, inl (is, text)))) =
@@ -75,7 +75,7 @@ published_by addr subject payload a b status faults faults_now old new zero
 pub received_by : (addr subject : List ℕ) (n : ℕ) (a b : Seen) (status faults faults_now : ℕ)
     (old new : Option (List ℕ)) → status ≡ 0
     → SubAnswers addr subject n a status b faults faults_now old new
-    → (text : List ℕ) × LastShows (WasReceived subject n text) b × Appends old new text
+    → (text : List ℕ) × Shows addr (WasReceived subject n text) a b × Appends old new text
 received_by addr subject n a b status faults faults_now old new zero (inl seven) = absurd (omega (arith, zero, seven))
 received_by addr subject n a b status faults faults_now old new zero (inr (inl (text, shows, inl (is, appends)))) =
     (text, shows, appends)

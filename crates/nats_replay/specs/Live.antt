@@ -1,13 +1,13 @@
 -- The words of commands on a live link, and what each status says of them.
-use Rattle.std.specs.Prelude.{◌≡◌, ◌⊎◌, ℕ, Bool, true, false, ◌&&◌, nat_le, List, [], ◌∷◌, ◌++◌, codes, bytes_eq, Option, Some, None, option_and_then, IfSome, if◌then◌else◌}
+use Rattle.std.specs.Prelude.{◌≡◌, ◌⊎◌, ℕ, Bool, true, false, ◌&&◌, nat_le, List, [], ◌∷◌, ◌++◌, codes, bytes_eq, Option, Some, None, option_and_then, if◌then◌else◌}
 use Rattle.std.specs.Io.KnownBytes.{Appends}
 use Rattle.nats_outside.specs.Told.{Seen}
 use Rattle.nats_script.specs.Printed.{lf}
 use Rattle.nats_script.specs.Spelling.{field_number}
 use Rattle.nats_live.specs.declared.error.LiveError.{LiveError}
 use Rattle.nats_live.specs.declared.error.LiveError.TheVariants as refused
-use Rattle.nats_live.specs.Causes.{live_error_text, WhyNotPublished, WhyNotReceived}
-use Rattle.nats_live.specs.Ended.{EndedLink, LastLink, WasPublished, WasReceived}
+use Rattle.nats_live.specs.Causes.{live_error_text, Shows, WhyNotPublished, WhyNotReceived}
+use Rattle.nats_live.specs.Ended.{WasPublished, WasReceived}
 use Rattle.nats_replay.specs.Outside.{Rose, AppendsFront}
 
 -- ---- words
@@ -59,10 +59,6 @@ IsToldOf e = is_told e ≡ true
 
 -- ---- statuses
 
--- the last ended link shows that, where the world tells its ended links
-abbrev pub LastShows : (EndedLink → Type 0) → Seen → Type 0
-LastShows Is b = IfSome b.dialer.ended (LastLink Is)
-
 -- a status with the text that is printed for it: 0 or 9 with all of it, 4 with a first part of it as the sink
 -- failed, 7 with none of it
 abbrev pub PrintsAt : ℕ → ℕ → List ℕ → ℕ → ℕ → Option (List ℕ) → Option (List ℕ) → Type 0
@@ -77,25 +73,25 @@ RefusalAnswers e status faults faults_now before now =
 -- what publishing comes to
 abbrev pub PubAnswers : List ℕ → List ℕ → List ℕ → Seen → ℕ → Seen → ℕ → ℕ → Option (List ℕ) → Option (List ℕ) → Type 0
 PubAnswers addr subject payload a status b faults faults_now before now = (status ≡ 7)
-    ⊎ ((LastShows (WasPublished subject payload) b × PrintsAt 0 status published_line faults faults_now before now)
+    ⊎ ((Shows addr (WasPublished subject payload) a b × PrintsAt 0 status published_line faults faults_now before now)
     ⊎ ((e : LiveError) × IsToldOf e × WhyNotPublished addr subject payload a e b
     × PrintsAt 9 status (error_line e) faults faults_now before now))
 
 -- what receiving comes to
 abbrev pub SubAnswers : List ℕ → List ℕ → ℕ → Seen → ℕ → Seen → ℕ → ℕ → Option (List ℕ) → Option (List ℕ) → Type 0
 SubAnswers addr subject n a status b faults faults_now before now = (status ≡ 7)
-    ⊎ (((text : List ℕ) × LastShows (WasReceived subject n text) b
+    ⊎ (((text : List ℕ) × Shows addr (WasReceived subject n text) a b
     × PrintsAt 0 status text faults faults_now before now)
     ⊎ ((e : LiveError) × IsToldOf e × WhyNotReceived addr subject n a e b
     × PrintsAt 9 status (error_line e) faults faults_now before now))
 
 -- what is printed of publishing, and of receiving: what was done, or why not
 abbrev pub PubPrints : List ℕ → List ℕ → List ℕ → Seen → List ℕ → Seen → Type 0
-PubPrints addr subject payload a text b = (LastShows (WasPublished subject payload) b × (text ≡ published_line))
+PubPrints addr subject payload a text b = (Shows addr (WasPublished subject payload) a b × (text ≡ published_line))
     ⊎ ((e : LiveError) × IsToldOf e × WhyNotPublished addr subject payload a e b × (text ≡ error_line e))
 
 abbrev pub SubPrints : List ℕ → List ℕ → ℕ → Seen → List ℕ → Seen → Type 0
-SubPrints addr subject n a text b = LastShows (WasReceived subject n text) b
+SubPrints addr subject n a text b = Shows addr (WasReceived subject n text) a b
     ⊎ ((e : LiveError) × IsToldOf e × WhyNotReceived addr subject n a e b × (text ≡ error_line e))
 
 -- what words come to that ask for either, if they do

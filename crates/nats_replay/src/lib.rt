@@ -17,6 +17,3 @@ pub use nats_session::{Config, RunError, Seq, Transcript, Turn};
 pub use outside::{Reading, Sink, Source, Writing};
 pub use top::{NO_MEMORY, WRITE_FAULT, replay};
 pub use whole::SCRIPT_LIMIT;
-
-#[cfg(test)]
-mod tests;

@@ -14,9 +14,9 @@ ghost use Rattle.nats_script.specs.Spelling.{field_number};
 ghost use Rattle.nats_script.specs.Printed.{printed};
 ghost use Rattle.nats_replay.specs.Outside.{Rose, RoseBy, Still, AppendsFront};
 ghost use Rattle.nats_live.specs.declared.error.LiveError.{LiveError};
-ghost use Rattle.nats_live.specs.Causes.{WhyNotPublished, WhyNotReceived};
+ghost use Rattle.nats_live.specs.Causes.{Shows, WhyNotPublished, WhyNotReceived};
 ghost use Rattle.nats_live.specs.Ended.{WasPublished, WasReceived};
-ghost use Rattle.nats_replay.specs.Live.{IsToldOf, LastShows, LiveAnswers, PubPrints, SubPrints, error_line, live_of, others, published_line, publishes, receives};
+ghost use Rattle.nats_replay.specs.Live.{IsToldOf, LiveAnswers, PubPrints, SubPrints, error_line, live_of, others, published_line, publishes, receives};
 ghost use Rattle.nats_replay.specs.Words.{run_words, in_bulk, bulk_count, IsLive, IsUnknown, unknown_command, unreadable_text, out_of_turn_text, is_status, is_status_of_run, is_status_of_bulk, is_status_of_live, is_status_of_others, IsUnreadable, IsOutOfTurn, IsSummary, Prints, IsPlayable};
 ghost use Rattle.nats_replay.specs.Played.{Comes, Played, status_of_ending, status_of};
 
@@ -356,12 +356,12 @@ pub fn replay<R: Wait, S: Source, K: Sink, W: World>(
     // each PING that came with it, the text of the publish, and nothing else.
     ensures published { (addr subject payload : List _)
         → live_of (map string_bytes words.now) ≡ publishes addr subject payload
-        → result ≡ 0 → LastShows (WasPublished subject payload) (W.seen world.new)
+        → result ≡ 0 → Shows addr (WasPublished subject payload) (W.seen world.old) (W.seen world.new)
         × Appends (K.written sink.old) (K.written sink.new) published_line }
     // 0 to `sub`: where the world tells its ended links, what was written are the texts of the first N messages
     // that the last one gave for the subscription, which it was asked for.
     ensures received { (addr subject : List _) (n : _) → live_of (map string_bytes words.now) ≡ receives addr subject n
-        → result ≡ 0 → (text : List _) × LastShows (WasReceived subject n text) (W.seen world.new)
+        → result ≡ 0 → (text : List _) × Shows addr (WasReceived subject n text) (W.seen world.old) (W.seen world.new)
         × Appends (K.written sink.old) (K.written sink.new) text }
     // 9: connecting or the call was refused, or the link ended first, and the text says so.
     ensures not_published { (addr subject payload : List _)

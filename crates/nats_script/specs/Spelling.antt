@@ -13,6 +13,10 @@ use Rattle.nats_names.specs.Names.{is_token}
 abbrev pub is_plain : ℕ → Bool
 is_plain b = nat_le 33 b && nat_le b 125 && not (b == 37)
 
+-- the others
+abbrev pub is_odd : ℕ → Bool
+is_odd b = not (is_plain b)
+
 -- a hexadecimal digit, in upper case
 abbrev pub hex_digit : ℕ → ℕ
 hex_digit n = if nat_lt n 10 then 48 + n else 55 + n

@@ -1,7 +1,9 @@
 //! Bytes and numbers as the fields of a line spell them.
-ghost use Rattle.std.specs.Prelude.{◌≡◌, ◌<◌, ◌++◌, OnOk};
+ghost use Rattle.std.specs.Prelude.{◌≡◌, ◌<◌, ◌≤◌, ◌++◌, length, take, IfOk, OnOk};
+ghost use Rattle.std.specs.List.{flat_map};
 ghost use Rattle.std.specs.Fmt.{decimal};
-ghost use Rattle.nats_script.specs.Spelling.{is_plain, hex_digit, letter, spelled, spelled_or_absent};
+ghost use Rattle.memchr.specs.Find.{Nowhere, Passes};
+ghost use Rattle.nats_script.specs.Spelling.{is_plain, is_odd, hex_digit, letter, spelled, spelled_or_absent};
 
 use itoa::Buffer;
 use nats_names::{NoMemory, Subject};
@@ -31,7 +33,36 @@ fn push_letter(out: &mut Vec<u8>, b: u8) -> Result<(), NoMemory>
     Ok(())
 }
 
-/// Appends the one spelling of `bytes`.
+// How many bytes at the front are plain.
+fn plain_run(bytes: &[u8]) -> usize
+    ensures within { result ≤ length bytes.now }
+    ensures plain { Nowhere (Passes is_odd bytes.now) 0 result }
+{
+    for i in 0..bytes.len() {
+        if !is_plain(bytes[i]) {
+            return i;
+        }
+    }
+    bytes.len()
+}
+
+// Appends the letters of a run of plain bytes at the front and of the byte behind it, and answers how many bytes
+// that were.
+fn push_run(out: &mut Vec<u8>, bytes: &[u8]) -> Result<usize, NoMemory>
+    requires { 0 < length bytes.now }
+    ensures some { IfOk result (λ n. (0 < n) × (n ≤ length bytes.now)) }
+    ensures spelled { IfOk result (λ n. out.new.items ≡ out.old.items ++ flat_map letter (take n bytes.now)) }
+{
+    let run = plain_run(bytes);
+    out.extend_from_slice(&bytes[..run])?;
+    if run == bytes.len() {
+        return Ok(run);
+    }
+    push_letter(out, bytes[run])?;
+    Ok(run + 1)
+}
+
+/// Appends the one spelling of `bytes`: bytes that stand for themselves go out together.
 pub fn push_spelled(out: &mut Vec<u8>, bytes: &[u8]) -> Result<(), NoMemory>
     ensures { OnOk result (out.new.items ≡ out.old.items ++ spelled bytes.now) }
 {
@@ -39,8 +70,9 @@ pub fn push_spelled(out: &mut Vec<u8>, bytes: &[u8]) -> Result<(), NoMemory>
         out.push(b'%')?;
         return Ok(());
     }
-    for b in bytes {
-        push_letter(out, *b)?;
+    let mut at = 0;
+    while at < bytes.len() {
+        at += push_run(out, &bytes[at..])?;
     }
     Ok(())
 }

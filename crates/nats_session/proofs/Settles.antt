@@ -189,7 +189,7 @@ no_calls true [] none = refl
 no_calls false [] none = refl
 no_calls room (call ∷ more) none = absurd (omega (arith, none))
 
-at_rest_none : (p : Parts) → is_at_rest p ≡ true → due p ≡ None
+pub at_rest_none : (p : Parts) → is_at_rest p ≡ true → due p ≡ None
 at_rest_none p rest = by_up p.link.is_up rest
   where
     both : (a b : Bool) → (a && b) ≡ true → (a ≡ true) × (b ≡ true)

@@ -7,6 +7,7 @@ use Rattle.nats_names.specs.declared.state.State.TheVariants as states
 use Rattle.nats_names.specs.declared.event.Event.TheVariants.{Closed, SlowConsumer}
 use Rattle.nats_wire.specs.declared.op.ClientOp.TheVariants as client
 use Rattle.nats_wire.specs.Commands.{command_text}
+use Rattle.nats_info.specs.declared.info.ServerInfo.{ServerInfo}
 use Rattle.nats_wire.specs.declared.message.Message.{Message}
 use Rattle.nats_wire.specs.Operations.{Operation, message, peeked_view, got, front}
 use Rattle.nats_wire.specs.Wire.{Wire, fresh}
@@ -26,7 +27,7 @@ use Rattle.nats_subs.specs.declared.subs.subscription.Delivery.{Delivery}
 use Rattle.nats_subs.specs.declared.subs.subscription.Delivery.TheVariants.{Put, Dropped, Unwanted, Ignored}
 use Rattle.nats_history.specs.Queue.{first}
 use Rattle.nats_tables.specs.Numbers.{at_number, item_of, change}
-use Rattle.nats_history.specs.History.{default_max_payload, Step, cut, read, handled, link_end, History, drained_by, second, kept, events, waiting_bytes}
+use Rattle.nats_history.specs.History.{default_max_payload, limit_told, Step, cut, read, handled, link_end, History, drained_by, second, kept, events, waiting_bytes}
 use Rattle.nats_history.specs.Tickets.{settles, no_tickets, tickets}
 use Rattle.nats_history.specs.Counts.{no_statistics, message_counted}
 use Rattle.nats_history.specs.Parts.{Parts, parts_of}
@@ -92,6 +93,7 @@ idle c = record {
     is_up = false;
     max_payload = default_max_payload;
     info = None;
+    infos = 0;
     reads = 0;
     pings = [];
     wire = fresh;
@@ -145,6 +147,18 @@ counted seen =
       parts = record seen.parts
           { link = record seen.parts.link { reads = cut (suc seen.parts.link.reads) } };
     }
+
+-- an INFO that is read is what the server said last, and where it tells a limit, that holds from here on
+abbrev pub info_kept : ServerInfo → Seen → Seen
+info_kept info seen = record seen {
+  parts = record seen.parts {
+    link = record seen.parts.link {
+      max_payload = limit_told info.max_payload seen.parts.link.max_payload;
+      info = Some info;
+      infos = cut (suc seen.parts.link.infos);
+    };
+  };
+}
 
 -- the first unread bytes are taken away, as one more operation was read
 abbrev pub read_past : ℕ → Seen → Seen

@@ -7,6 +7,7 @@ mod calls;
 mod drains;
 mod due;
 mod ends;
+mod infos;
 mod played;
 mod requests;
 
@@ -27,6 +28,20 @@ const TICK_LIMIT: u64 = 2;
 
 /// A session over one link at a time. The crate's private handler, with its turns as calls. Contracts see its
 /// parts, the events that wait to be handed out, and the settled tickets that do.
+///
+/// To drive it by hand, again and again:
+/// 1. `check` tells whether a turn may be played, which is the condition of the turn's own call: `up` once the
+///    handshake of a link is done, `piece` or `shared_piece` for bytes that it gave, `written` for bytes that it took,
+///    `tick`, `lost`, `give_up` and `deadline` as clock and link tell, `hang_up`, `submit` and `take` as the user asks.
+/// 2. `advance` plays the steps that this made due, one each, until it answers `Nothing`: operations are read, then
+///    calls that wait are handled.
+/// 3. `next_event` hands out events until none is left, `reply_of` the replies of flushes and requests by their
+///    tickets; the messages of a subscription wait for `take`.
+/// 4. `pending_pieces` lends the bytes that wait for the link; as many as it took go with `written`.
+///
+/// What it tells of itself (`is_up`, `state`, `link`, `max_payload`, `server_info`, `statistics`, `pending`, ..) may be
+/// asked at any time. `Core` of `nats_core` does the second step by itself and keeps a journal; `run` plays a whole
+/// list of turns.
 #[derive(Drop)]
 pub struct ConnectionHandler {
     config: Config,
@@ -37,6 +52,7 @@ pub struct ConnectionHandler {
     is_up: bool,
     max_payload: u64,
     info: Option<Box<ServerInfo>>,
+    infos: u64,
     reads: u64,
     pings: Pings,
     connection: Connection,
@@ -64,6 +80,7 @@ impl Model for ConnectionHandler {
           is_up = h.is_up;
           max_payload = h.max_payload;
           info = option_map (λ info. info.value) h.info;
+          infos = h.infos;
           reads = h.reads;
           pings = h.pings;
           wire = h.connection.wire;
@@ -95,6 +112,7 @@ impl ConnectionHandler {
             is_up: false,
             max_payload: DEFAULT_MAX_PAYLOAD,
             info: None,
+            infos: 0,
             reads: 0,
             pings: Pings::new(alloc),
             connection: Connection::new(alloc),

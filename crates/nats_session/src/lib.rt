@@ -5,6 +5,7 @@
 mod handler;
 pub mod laws;
 mod play;
+mod server;
 
 pub use handler::{ConnectionHandler, DEFAULT_MAX_PAYLOAD};
 pub use nats_history::{
@@ -14,3 +15,4 @@ pub use nats_history::{
 };
 pub use nats_names::State;
 pub use play::run;
+pub use server::usual_server;

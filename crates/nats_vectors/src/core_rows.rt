@@ -3,13 +3,12 @@
 use crate::words::{say, say_event, say_number, say_reply, say_take};
 use nats_core::{
     Bytes, Call, CallReply, Config, Core, Entry, LinkRead, LinkWrite, NoMemory, ReadOnce,
-    ServerInfo, StepError, StepReply, Turn, WriteOnce,
+    StepError, StepReply, Turn, WriteOnce, usual_server,
 };
 use nats_outside::{Dialer, FakeDialer, FakeLink, FakeRead, FakeWrite};
 use nats_script::{Script, read_script};
 use std::alloc::Global;
 use std::net::{IpAddr, Ipv4Addr, SocketAddr};
-use std::test::Fail;
 
 // A link that is never up in these rows.
 const OTHER_LINK: u64 = 9;
@@ -172,42 +171,29 @@ const STEPS: &str = "done\nnumbered 1\ndone\nmessage hi\nout of turn\ngone 1\nnu
 
 const KEPT: &str = "journal done numbered 1 done message hi numbered 1 (connected) unsettled";
 
-#[test]
-fn each_turn_is_noted_with_its_reply(rt: HostRuntime) -> Result<(), Fail> {
-    let alloc = rt.alloc();
+/// Whether each turn is noted with its reply, and played so without a journal.
+pub fn are_noted(alloc: Global) -> Result<bool, NoMemory> {
     let kept = steps_of(alloc, SCRIPT, true)?;
-    assert_eq!(rt;
-        kept.as_slice(),
-        format!(in alloc; "{STEPS}{KEPT}")?.as_bytes()
-    );
+    let want = format!(in alloc; "{STEPS}{KEPT}")?;
     let bare = steps_of(alloc, SCRIPT, false)?;
-    assert!(rt; bare.as_slice().starts_with(STEPS.as_bytes()));
-    Ok(())
+    Ok(kept.as_slice() == want.as_bytes() && bare.as_slice().starts_with(STEPS.as_bytes()))
 }
 
 // ---- a link that is lent
 
-fn settings(alloc: Global) -> Result<Config, NoMemory> {
-    match read_script(alloc, b"config 10 10 check _INBOX MUX1\n")? {
-        Script::Good { config, .. } => Ok(config),
-        Script::Bad(_) => Err(NoMemory),
-    }
-}
-
 fn bring_up(alloc: Global, core: &mut Core) -> Result<(), NoMemory> {
     let mut out = Vec::new(alloc);
-    let up = Turn::Up(ServerInfo::default(alloc));
+    let up = Turn::Up(usual_server(alloc));
     step(alloc, core, &mut out, up)
 }
 
 // The halves of a link in memory that gives this text and takes 4 bytes at a write.
-fn halves(alloc: Global, text: &str) -> Result<(FakeRead, FakeWrite), &'static str> {
-    let bytes = Bytes::copy_from_slice(alloc, text.as_bytes());
-    let link = FakeLink::new(alloc, bytes.ok().ok_or("memory")?, 4);
-    let links = vec![in alloc; link.ok().ok_or("memory")?];
+fn halves(alloc: Global, text: &str) -> Result<(FakeRead, FakeWrite), NoMemory> {
+    let bytes = Bytes::copy_from_slice(alloc, text.as_bytes())?;
+    let links = vec![in alloc; FakeLink::new(alloc, bytes, 4)?]?;
     let home = SocketAddr::new(IpAddr::V4(Ipv4Addr::LOCALHOST), 4222);
-    let mut dialer = FakeDialer::told(alloc, links.ok().ok_or("memory")?);
-    dialer.dial(&home).ok().ok_or("no link")
+    let mut dialer = FakeDialer::told(alloc, links);
+    dialer.dial(&home, 5_000).map_err(|_| NoMemory)
 }
 
 fn reads<L: LinkRead>(core: &mut Core, alloc: Global, link: &mut L) -> Option<ReadOnce> {
@@ -234,17 +220,25 @@ fn answers_a_ping(
     Ok(
         writes(core, alloc, write) == Some(WriteOnce::Idle)
             && reads(core, alloc, read) == Some(ReadOnce::Played(4))
-            && reads(core, alloc, read) == Some(ReadOnce::Played(2))
+            && reads(core, alloc, read) == Some(ReadOnce::Played(4))
             && writes(core, alloc, write) == Some(WriteOnce::Wrote(4))
             && core.pending_pieces(alloc)?.len() == 1
             && writes(core, alloc, write) == Some(WriteOnce::Wrote(2)),
     )
 }
 
+fn tells_of_an_info(alloc: Global, core: &mut Core, read: &mut FakeRead) -> Result<bool, NoMemory> {
+    let is_none = core.news(alloc, 0)?.is_none();
+    let is_read = reads(core, alloc, read) == Some(ReadOnce::Played(4))
+        && reads(core, alloc, read) == Some(ReadOnce::Played(3));
+    let is_news = matches!(core.news(alloc, 0)?, Some((1, _)));
+    Ok(is_none && is_read && is_news && core.news(alloc, 1)?.is_none())
+}
+
 fn is_lost(alloc: Global, core: &mut Core, read: &mut FakeRead) -> bool {
     reads(core, alloc, read) == Some(ReadOnce::Lost)
         && !core.handler().is_up()
-        && core.journal().len() == 6
+        && core.journal().len() == 8
 }
 
 fn answers_and_loses(
@@ -253,22 +247,20 @@ fn answers_and_loses(
     read: &mut FakeRead,
     write: &mut FakeWrite,
 ) -> Result<bool, NoMemory> {
-    let answers = answers_a_ping(alloc, core, read, write)?;
+    let answers = answers_a_ping(alloc, core, read, write)? && tells_of_an_info(alloc, core, read)?;
     Ok(answers && write.taken() == b"PONG\r\n".as_slice() && is_lost(alloc, core, read))
 }
 
-fn lends_a_link(alloc: Global, core: &mut Core) -> Result<bool, &'static str> {
-    bring_up(alloc, core).map_err(|_| "memory")?;
-    let (mut read, mut write) = halves(alloc, "PING\r\n")?;
-    answers_and_loses(alloc, core, &mut read, &mut write).map_err(|_| "memory")
+fn lends_a_link(alloc: Global, core: &mut Core) -> Result<bool, NoMemory> {
+    bring_up(alloc, core)?;
+    let (mut read, mut write) = halves(alloc, "PING\r\nINFO {}\r\n")?;
+    answers_and_loses(alloc, core, &mut read, &mut write)
 }
 
-#[test]
-fn a_link_is_read_and_written(rt: HostRuntime) -> Result<(), Fail> {
-    let alloc = rt.alloc();
-    let mut core = new_core(alloc, &settings(alloc)?, true)?;
+/// Whether a link that is lent is read and written.
+pub fn is_lent(alloc: Global) -> Result<bool, NoMemory> {
+    let mut core = Core::new(alloc, Config::new(alloc)?, true)?;
     let is_lent = lends_a_link(alloc, &mut core);
     drop(core);
-    assert!(rt; is_lent?);
-    Ok(())
+    is_lent
 }

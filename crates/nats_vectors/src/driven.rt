@@ -277,6 +277,13 @@ fn say_info(out: &mut Vec<u8>, info: Option<&ServerInfo>) -> Result<(), NoMemory
     }
 }
 
+fn say_infos(out: &mut Vec<u8>, infos: u64) -> Result<(), NoMemory> {
+    if infos == 0 {
+        return Ok(());
+    }
+    say_number(out, " infos", infos)
+}
+
 fn say_counts(out: &mut Vec<u8>, counted: Statistics) -> Result<(), NoMemory> {
     say_number(out, " in", counted.in_messages)?;
     say_number(out, "", counted.in_bytes)?;
@@ -290,6 +297,7 @@ fn say_link(out: &mut Vec<u8>, handler: &ConnectionHandler) -> Result<(), NoMemo
     say_state(out, handler)?;
     say_number(out, " most", handler.max_payload())?;
     say_info(out, handler.server_info())?;
+    say_infos(out, handler.infos())?;
     say_number(out, " reads", handler.reads())?;
     say_counts(out, handler.statistics())?;
     say_number(out, " pending", handler.pending())
@@ -359,9 +367,9 @@ fn drive(
 /// What a session answers to copies of the turns of a script, a line for each: the answer to the turn's own call,
 /// the due steps that `advance` then plays, the events, and the replies of the first tickets; `out of turn` where
 /// `check` refuses the turn, which is then not played. A last line says what the session tells of itself: its link,
-/// the payload's limit that a server said last, how much was read, the messages in and out, each with their bytes,
-/// the links that came up, how much waits, the youngest message of subscription 1, the waiting bytes. Where a line
-/// cannot be read, its number alone.
+/// the payload's limit that a server said last, how many INFOs were read where any was, how much was read, the
+/// messages in and out, each with their bytes, the links that came up, how much waits, the youngest message of
+/// subscription 1, the waiting bytes. Where a line cannot be read, its number alone.
 pub fn answers(alloc: Global, script: &str) -> Result<Vec<u8>, NoMemory> {
     let mut out = Vec::new(alloc);
     match read_script(alloc, script.as_bytes())? {

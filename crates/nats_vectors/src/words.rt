@@ -11,6 +11,18 @@ pub fn say(out: &mut Vec<u8>, word: &str) -> Result<(), NoMemory> {
     Ok(())
 }
 
+/// Whether a row is answered as is wanted; where it is not, the row and its answer are said.
+pub fn agrees(out: &mut Vec<u8>, row: &str, answer: &[u8], want: &[u8]) -> Result<bool, NoMemory> {
+    if answer == want {
+        return Ok(true);
+    }
+    say(out, row)?;
+    say(out, "\n= ")?;
+    out.extend_from_slice(answer)?;
+    say(out, "\n")?;
+    Ok(false)
+}
+
 /// Says a word and, behind a space, a number.
 pub fn say_number(out: &mut Vec<u8>, word: &str, n: u64) -> Result<(), NoMemory> {
     say(out, word)?;

@@ -4,6 +4,7 @@ mod JsonBack
 mod Lines
 mod Numbers
 mod Pieces
+mod PlainLines
 mod Quotes
 pub mod Reading
 mod Scans

@@ -388,3 +388,15 @@ unfolding sight
 needs_line bytes cut count size is awaits fits = λ more h.
     rw (cut_more bytes more cut is)
     (awaits (cut.rest ++ more) (omega (arith, h, fits, cut_length bytes cut is, length-append bytes more, length-append cut.rest more)))
+
+-- ---- a test at one place
+
+pub looked_end : (ended : Bool) (place : ℕ) (bytes : List ℕ) → place ≤ length bytes → clear_to place bytes ≡ true → ended ≡ is_crlf_at bytes place
+    → Looked place ended bytes
+looked_end true place bytes within clear is = (within, clear, sym is)
+looked_end false place bytes within clear is = (within, clear, tt)
+
+-- a byte was tested there
+pub end_paid : (ended : Bool) (place : ℕ) (bytes : List ℕ) → 0 < place → place + 1 < length bytes → untested place ended bytes + 1 ≤ length bytes
+end_paid true place bytes some within = omega arith
+end_paid false place bytes some within = omega arith

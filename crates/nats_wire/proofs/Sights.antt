@@ -122,6 +122,13 @@ reads_refused bytes seen text n (Err e) same sees is =
     subst (λ b. Reads (front b) (takes_memory b) b (Err e) seen) same
     (subst (λ refusal. Reads (front seen) (takes_memory seen) seen (Err refusal) seen) (sym is) (reads_without_memory seen seen (whole_takes seen text n sees)))
 
+pub reads_wanting : (bytes seen : List ℕ) (r : Result (Option ServerOp) WireError) → seen ≡ bytes → IsTrue (takes_memory seen)
+    → IsErrAnd r (λ e. e ≡ NoMemory) → Reads (front bytes) (takes_memory bytes) bytes r seen
+reads_wanting bytes seen (Ok op) same takes is = absurd is
+reads_wanting bytes seen (Err e) same takes is =
+    subst (λ b. Reads (front b) (takes_memory b) b (Err e) seen) same
+    (subst (λ refusal. Reads (front seen) (takes_memory seen) seen (Err refusal) seen) (sym is) (reads_without_memory seen seen takes))
+
 -- what is there takes no more bytes than are there
 pub view_fits : (bytes : List ℕ) (f : code_front.Front) → front_view f ≡ front bytes → taken_by f ≤ length bytes
 view_fits bytes fronts.Unfinished is = omega arith

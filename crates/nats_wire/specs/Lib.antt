@@ -4,5 +4,6 @@ pub mod Decoder
 pub mod Json
 pub mod Laws
 pub mod Operations
+pub mod Plain
 pub mod Scan
 pub mod Wire

@@ -12,6 +12,7 @@ use nats_outbuf::{CHUNK_LEAST, OutBuf};
 use std::alloc::Global;
 
 /// Appends what the client writes for an operation, whole or not at all.
+#[inline(always)]
 pub fn append(alloc: Global, op: &ClientOp, out: &mut OutBuf) -> Result<(), NoMemory>
     ensures ok { OnOk result (out.new ≡ out.old ++ command_text op.now) }
     ensures err { OnErr result (out.new ≡ out.old) }
@@ -50,6 +51,7 @@ pub fn append_each(alloc: Global, ops: &[ClientOp], out: &mut OutBuf) -> Result<
     Ok(())
 }
 
+#[inline(never)]
 fn append_connect(alloc: Global, info: &ConnectInfo, out: &mut OutBuf) -> Result<(), NoMemory>
     ensures ok { OnOk result (out.new ≡ out.old ++ connect_text info.now) }
     ensures err { OnErr result (out.new ≡ out.old) }
@@ -68,6 +70,7 @@ fn word_and_space(word: &Option<Subject>) -> (&[u8], &[u8])
     }
 }
 
+#[inline(never)]
 fn append_subscription<'a>(
     alloc: Global,
     sid: u64,
@@ -89,6 +92,7 @@ fn append_subscription<'a>(
     )
 }
 
+#[inline(never)]
 fn append_unsubscription(
     alloc: Global,
     sid: u64,
@@ -108,6 +112,7 @@ fn append_unsubscription(
     append_all(alloc, &[b"UNSUB ", sid, b" ", max, b"\r\n"], out)
 }
 
+#[inline(always)]
 fn append_publication(
     alloc: Global,
     subject: &Subject,
@@ -129,6 +134,7 @@ fn append_publication(
     }
 }
 
+#[inline(always)]
 fn append_pub<'a>(
     alloc: Global,
     subject: &'a Subject,
@@ -151,6 +157,7 @@ fn append_pub<'a>(
     )
 }
 
+#[inline(never)]
 fn append_hpub<'a>(
     alloc: Global,
     subject: &'a Subject,
@@ -188,6 +195,7 @@ fn append_hpub<'a>(
 }
 
 // Appends the line of a message, the payload and the end of its line, all of it or nothing.
+#[inline(always)]
 fn append_message(
     alloc: Global,
     line: &[&[u8]],
@@ -211,6 +219,7 @@ fn append_message(
 }
 
 // Appends a payload, a large one as a piece that shares its memory.
+#[inline(always)]
 fn append_payload(alloc: Global, payload: &Bytes, out: &mut OutBuf) -> Result<(), NoMemory>
     ensures ok { OnOk result (out.new ≡ out.old ++ payload.now) }
     ensures err { OnErr result (out.new ≡ out.old) }

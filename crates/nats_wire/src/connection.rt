@@ -1,5 +1,6 @@
 //! A connection to a server: bytes in, operations out; commands in, bytes out. It reads and writes nothing itself.
 ghost use Rattle.std.specs.Prelude.{◌≡◌, ◌<◌, ◌≤◌, ◌++◌, length, take, drop, true, false, OnOk, OnErr, IfOk, IfSome, nat_le};
+ghost use Rattle.std.specs.List.{concat};
 ghost use Rattle.nats_outbuf.specs.Buffers.{IsFront};
 ghost use Rattle.nats_wire.specs.Wire.{new_channel, with_fed, with_unread, with_waiting, Paid};
 ghost use Rattle.nats_wire.specs.Operations.{front, takes_memory, is_unfinished};
@@ -153,6 +154,7 @@ impl Connection {
     /// `ReadFault` exactly where the bytes at the front are no operation: a line that begins with no word of the
     /// protocol is taken away, so is a message with a bad header block, and else nothing is. `NoMemory` as in
     /// `peek_op`, and nothing is taken.
+    #[inline(always)]
     pub fn try_read_op<L: Ledger>(
         &mut self,
         alloc: Global,
@@ -171,6 +173,7 @@ impl Connection {
     /// # Errors
     ///
     /// Those of `try_read_op`.
+    #[inline(always)]
     pub fn read_op(&mut self, alloc: Global) -> Result<Option<ServerOp>, WireError>
         ensures reads { Reads (front self.old.wire.unread) (takes_memory self.old.wire.unread)
             self.old.wire.unread result self.new.wire.unread }
@@ -180,6 +183,7 @@ impl Connection {
         self.read_counted::<Brand>(alloc, Blank::new(1))
     }
 
+    #[inline(always)]
     fn read_counted<L: Ledger>(
         &mut self,
         alloc: Global,
@@ -197,6 +201,7 @@ impl Connection {
 
     /// Puts the text of an operation behind the bytes that wait to be written, whole or not at all. A payload of
     /// `CHUNK_LEAST` bytes or more is shared and not copied. The crate's `enqueue_write_op`.
+    #[inline(always)]
     pub fn enqueue_write_op(&mut self, alloc: Global, op: &ClientOp) -> Result<(), NoMemory>
         ensures ok { OnOk result (self.new ≡ with_waiting (self.old.wire.waiting ++ command_text op.now) self.old) }
         ensures err { OnErr result (self.new ≡ self.old) }
@@ -214,6 +219,7 @@ impl Connection {
     }
 
     /// The number of bytes that wait to be written.
+    #[inline(always)]
     pub fn pending(&self) -> usize
         ensures { result ≡ length self.now.wire.waiting }
     {
@@ -221,6 +227,7 @@ impl Connection {
     }
 
     /// Whether `SOFT_WRITE_BUF_LIMIT` bytes or more wait to be written. The crate's call.
+    #[inline(always)]
     pub fn is_write_buf_full(&self) -> bool
         ensures { result ≡ nat_le SOFT_WRITE_BUF_LIMIT (length self.now.wire.waiting) }
     {
@@ -274,10 +281,12 @@ impl Connection {
     }
 
     /// The first waiting bytes in pieces to be written in order: `PIECES_MOST` at most, each nonempty, none where
-    /// nothing waits. They share their memory and stay until `written` takes them. Memory is taken only where
-    /// something waits. Own call.
+    /// nothing waits; all that waits where they are fewer. They share their memory and stay until `written` takes
+    /// them. Memory is taken only where something waits. Own call.
     pub fn pending_pieces(&mut self, alloc: Global) -> Result<Vec<Bytes>, NoMemory>
         ensures front { IfOk result (λ pieces. IsFront PIECES_MOST pieces.items self.old.wire.waiting) }
+        ensures all { IfOk result (λ pieces. length pieces.items < PIECES_MOST
+            → concat pieces.items ≡ self.old.wire.waiting) }
         ensures memory { OnErr result (0 < length self.old.wire.waiting) }
         ensures stays { self.new ≡ self.old }
     {

@@ -20,6 +20,7 @@ const PLAIN: usize = 4;
 
 const HEADED: usize = 5;
 
+#[inline(always)]
 fn optional(alloc: Global, text: Option<&str>) -> Result<Option<Subject>, NoMemory>
     ensures { IfOk result (λ copy. copy ≡ option_map (λ text. text.now) text.entry) }
 {
@@ -29,8 +30,9 @@ fn optional(alloc: Global, text: Option<&str>) -> Result<Option<Subject>, NoMemo
     }
 }
 
-// A message without headers.
-fn plain(subject: Subject, reply: Option<Subject>, payload: Bytes, length: usize) -> Message
+/// A message without headers.
+#[inline(always)]
+pub fn plain(subject: Subject, reply: Option<Subject>, payload: Bytes, length: usize) -> Message
     ensures { result ≡ record {
       subject = subject;
       reply = reply;
@@ -62,6 +64,7 @@ fn message(alloc: Global, text: &MessageText<'_>) -> Result<Message, NoMemory>
 }
 
 // A subject with the text of `text`, which is shared where it stands at `at`, and else copied.
+#[inline(always)]
 fn subject_in(alloc: Global, bytes: &Bytes, at: usize, text: &str) -> Result<Subject, NoMemory>
     ensures { IfOk result (λ s. s ≡ text.now) }
 {
@@ -74,6 +77,7 @@ fn subject_in(alloc: Global, bytes: &Bytes, at: usize, text: &str) -> Result<Sub
 }
 
 // The payload of a text that takes the first `len` of some bytes, which it shares.
+#[inline(always)]
 fn payload_in(bytes: &Bytes, payload: &[u8], len: usize) -> Result<Bytes, NoMemory>
     requires { EndsAt bytes.now len payload.now }
     ensures { IfOk result (λ part. part ≡ payload.now) }
@@ -84,6 +88,7 @@ fn payload_in(bytes: &Bytes, payload: &[u8], len: usize) -> Result<Bytes, NoMemo
 
 // The message of a text that takes the first `len` of some bytes, whose first word takes the first `at`. It shares
 // the bytes.
+#[inline(always)]
 fn message_in(
     alloc: Global,
     bytes: &Bytes,
@@ -155,6 +160,7 @@ fn header_message(
 }
 
 /// The operation of a text; `None` where it turns out to be none. It shares nothing.
+#[inline(never)]
 pub fn operation(alloc: Global, text: &OpText<'_>) -> Result<Option<ServerOp>, NoMemory>
     ensures { IfOk result (λ op. option_map op_view op ≡ op_of (op_text_view text.now)) }
 {
@@ -177,6 +183,7 @@ pub fn operation(alloc: Global, text: &OpText<'_>) -> Result<Option<ServerOp>, N
 }
 
 // The same as `header_message`, of a text that takes the first `len` of some bytes, which the message shares.
+#[inline(never)]
 fn header_message_in(
     alloc: Global,
     bytes: &Bytes,
@@ -228,6 +235,7 @@ fn operation_in(
 
 /// The operation of a text that takes the first `len` of kept bytes, which it shares where they can be shared;
 /// `None` where it turns out to be none.
+#[inline(never)]
 pub fn operation_kept(
     alloc: Global,
     buf: &InBuf,

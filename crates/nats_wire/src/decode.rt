@@ -89,6 +89,7 @@ pub struct Line<'a> {
 }
 
 // A text cut where its first line ends.
+#[inline(always)]
 fn line_at(bytes: &[u8], end: usize) -> Line<'_>
     requires { end + 2 ≤ length bytes.now }
     ensures cut { line_view result ≡ cut_at bytes.now end }
@@ -101,6 +102,7 @@ fn line_at(bytes: &[u8], end: usize) -> Line<'_>
 }
 
 // The words are tested in another order than the grammar names them, since messages are most of what comes.
+#[inline(always)]
 fn first_word(line: &[u8]) -> Word
     ensures word { result ≡ word_of line.now }
     ensures long { word_len result ≤ length line.now }
@@ -125,6 +127,7 @@ fn first_word(line: &[u8]) -> Word
 }
 
 // The payload at the front of `rest`, where the two bytes behind it are there too.
+#[inline(always)]
 fn payload_of(rest: &[u8], count: usize) -> Option<&[u8]>
     ensures payload { option_map (λ payload. payload.now) result
         ≡ (if nat_lt (length rest.now) (count + 2) then None else Some (take count rest.now)) }
@@ -138,6 +141,7 @@ fn payload_of(rest: &[u8], count: usize) -> Option<&[u8]>
     }
 }
 
+#[inline(always)]
 fn message_text<'a>(head: &Head<'a>, payload: &'a [u8]) -> MessageText<'a>
     requires { head.now.count + length_or_0 (head_view head.now).reply + length head.now.subject.now < 2 ^ 64 }
     ensures { message_view result ≡ message_of (head_view head.now) payload.now }
@@ -151,6 +155,7 @@ fn message_text<'a>(head: &Head<'a>, payload: &'a [u8]) -> MessageText<'a>
     }
 }
 
+#[inline(always)]
 fn sight_of_message<'a>(line: &Line<'a>) -> Sight<'a>
     requires long { 4 ≤ length line.now.text.now }
     requires fits { length line.now.text.now + 2 + length line.now.rest.now < 2 ^ 63 }
@@ -171,6 +176,7 @@ fn sight_of_message<'a>(line: &Line<'a>) -> Sight<'a>
     Sight::Whole(op, line.text.len() + head.count + 4)
 }
 
+#[inline(never)]
 fn sight_of_header_message<'a>(line: &Line<'a>) -> Sight<'a>
     requires long { 5 ≤ length line.now.text.now }
     requires fits { length line.now.text.now + 2 + length line.now.rest.now < 2 ^ 63 }
@@ -192,6 +198,7 @@ fn sight_of_header_message<'a>(line: &Line<'a>) -> Sight<'a>
     Sight::Whole(op, line.text.len() + head.count + 4)
 }
 
+#[inline(never)]
 fn sight_of_error(line: &[u8]) -> Sight<'_>
     requires { length line.now + 2 < 2 ^ 63 }
     ensures { sight_view result ≡ error_or_bad (length line.now + 2) (error_of line.now) }
@@ -202,6 +209,7 @@ fn sight_of_error(line: &[u8]) -> Sight<'_>
     }
 }
 
+#[inline(always)]
 fn sight_of_line<'a>(line: &Line<'a>) -> Sight<'a>
     requires { length line.now.text.now + 2 + length line.now.rest.now < 2 ^ 63 }
     ensures { sight_view result
@@ -244,6 +252,7 @@ pub fn needed(bytes: &[u8], end: usize) -> usize
 }
 
 /// What stands at the front of `bytes`, whose first line ends at `end`.
+#[inline(always)]
 pub fn sight_at(bytes: &[u8], end: usize) -> Sight<'_>
     requires fits { end + 2 ≤ length bytes.now }
     requires cut { cut_line bytes.now ≡ Some (cut_at bytes.now end) }

@@ -43,7 +43,8 @@ pub struct HeaderHead<'a> {
 }
 
 // The number of a text of digits, where it fits whatever the next digit is; `None` tells nothing.
-fn short_number(text: &[u8]) -> Option<u64>
+#[inline(always)]
+pub fn short_number(text: &[u8]) -> Option<u64>
     ensures { IfSome result (λ n. number_of text.now ≡ Some n) }
 {
     if text.is_empty() {
@@ -60,6 +61,7 @@ fn short_number(text: &[u8]) -> Option<u64>
     Some(n)
 }
 
+#[inline(always)]
 fn number(text: &str) -> Option<u64>
     ensures { result ≡ number_of text.now }
 {
@@ -70,6 +72,7 @@ fn number(text: &str) -> Option<u64>
 }
 
 // Where the first space stands. A long text is searched many bytes at a time, a short one byte by byte.
+#[inline(always)]
 fn first_space(text: &[u8]) -> Option<usize>
     ensures { IsFirstByte (is_byte 32) text.now result }
 {
@@ -84,6 +87,7 @@ fn first_space(text: &[u8]) -> Option<usize>
     None
 }
 
+#[inline(always)]
 fn next_piece(text: &str) -> Option<Piece<'_>>
     ensures { pieces_from result ≡ pieces_of text.now }
 {
@@ -108,6 +112,7 @@ fn next_piece(text: &str) -> Option<Piece<'_>>
     }
 }
 
+#[inline(always)]
 fn head_with<'a>(
     subject: &'a str,
     reply: Option<&'a str>,
@@ -125,6 +130,7 @@ fn head_with<'a>(
     })
 }
 
+#[inline(always)]
 fn head_of_text(text: &str) -> Option<Head<'_>>
     ensures { option_map head_view result ≡ head_of_pieces (pieces_of text.now) }
 {
@@ -141,6 +147,7 @@ fn head_of_text(text: &str) -> Option<Head<'_>>
 }
 
 /// What the line of a message says behind its first word, in pieces between spaces.
+#[inline(always)]
 pub fn read_head(text: &[u8]) -> Option<Head<'_>>
     ensures { option_map head_view result ≡ head_of text.now }
 {

@@ -12,6 +12,7 @@ mod json;
 pub mod laws;
 mod message;
 mod op;
+mod plain;
 mod search;
 mod unread;
 

@@ -26,6 +26,7 @@ pub struct Found {
 
 impl Found {
     /// What is known once the first `n` bytes are gone.
+    #[inline(always)]
     pub fn behind(self, n: usize) -> Found
         ensures { Behind n self.place self.ended result.place result.ended }
     {
@@ -41,6 +42,7 @@ impl Found {
 
 // Whether the first LF behind a place, which stands at `at`, ends a line. It is one step, or none where the LF
 // stands at the place: that it ends no line is known then.
+#[inline(always)]
 fn ends_line<L: Ledger>(buf: &InBuf, place: usize, at: usize, steps: &mut Steps<L>) -> bool
     requires within { (place ≤ at) × (at < length buf.now) }
     requires clear { IsTrue (clear_to place buf.now) }
@@ -56,8 +58,24 @@ fn ends_line<L: Ledger>(buf: &InBuf, place: usize, at: usize, steps: &mut Steps<
     buf.crlf_at(at - 1, steps)
 }
 
+/// Tests whether a line ends at a place before which none does: what is known of the end of the first line then. It is
+/// one step, and a byte was tested for it.
+#[inline(always)]
+pub fn line_end<L: Ledger>(buf: &InBuf, place: usize, steps: &mut Steps<L>) -> Found
+    requires within { (0 < place) × (place + 1 < length buf.now) }
+    requires clear { IsTrue (clear_to place buf.now) }
+    ensures there { result.place ≡ place }
+    ensures looked { Looked result.place result.ended buf.now }
+    ensures paid { steps.new + untested result.place result.ended buf.now ≤ steps.old + length buf.now }
+    ensures counts { steps.old ≤ steps.new }
+{
+    let ended = buf.crlf_at(place, steps);
+    Found { place, ended }
+}
+
 /// Looks for the end of the first line from a place on, where none stands before it. No byte is tested twice, so
 /// that the steps are at most as many as the bytes that were not tested before and are now.
+#[inline(always)]
 pub fn search<L: Ledger>(buf: &InBuf, from: usize, steps: &mut Steps<L>) -> Found
     requires within { from ≤ length buf.now }
     requires clear { IsTrue (clear_to from buf.now) }

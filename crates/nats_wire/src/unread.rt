@@ -1,8 +1,8 @@
 //! The bytes that came over a link and that no operation took yet, with what is remembered of them: no byte is
 //! tested twice for the end of a line, and a line that announces a body isn't read again while the body comes.
-ghost use Rattle.std.specs.Prelude.{◌≡◌, ◌++◌, ◌+◌, ◌-◌, ◌<◌, ◌≤◌, [], length, drop, option_map, true, None, IsTrue, IfOk, OnOk, OnErr};
+ghost use Rattle.std.specs.Prelude.{◌≡◌, ◌++◌, ◌+◌, ◌-◌, ◌<◌, ◌≤◌, [], length, drop, option_map, true, None, IsTrue, IfOk, IfSome, OnOk, OnErr};
 ghost use Rattle.std.specs.Bool.{OnFalse};
-ghost use Rattle.nats_wire.specs.Operations.{cut_line, sight, front, takes_memory, is_unfinished, got_or_fault, size_of, op_view};
+ghost use Rattle.nats_wire.specs.Operations.{cut_line, sight, front, takes_memory, is_unfinished, got, message, got_or_fault, size_of, op_view};
 ghost use Rattle.nats_wire.specs.Decoder.{sight_view, front_view, taken_by};
 ghost use Rattle.nats_wire.specs.Scan.{Looked, untested, Needs};
 ghost use Rattle.nats_wire.specs.Wire.{Paid};
@@ -12,6 +12,7 @@ use crate::copies;
 use crate::decode::{self, Sight};
 use crate::front::{Front, front_kept};
 use crate::op::{ServerOp, WireError};
+use crate::plain::{Plain, read_plain};
 use crate::search::{Found, NOT_LOOKED, search};
 use nats_names::{Bytes, NoMemory};
 use nats_outbuf::{InBuf, Steps};
@@ -113,6 +114,7 @@ impl Unread {
     }
 
     /// Takes the first `n` bytes away.
+    #[inline(always)]
     pub fn advance(&mut self, n: usize)
         requires { n ≤ length self.old.bytes }
         ensures bytes { self.new.bytes ≡ drop n self.old.bytes }
@@ -125,6 +127,7 @@ impl Unread {
     }
 
     // Looks on for the end of the first line.
+    #[inline(always)]
     fn search_on<L: Ledger>(&self, steps: &mut Steps<L>) -> Found
         ensures looked { Looked result.place result.ended self.now.bytes }
         ensures none { OnFalse result.ended (cut_line self.now.bytes ≡ None) }
@@ -137,6 +140,7 @@ impl Unread {
         }
     }
 
+    #[inline(always)]
     fn sight_counted<L: Ledger>(&self, blank: Blank) -> Sight<'_>
         requires name { blank.name ≡ L.name }
         requires parts { (blank.parts ≡ L.parts) × (0 < L.parts) }
@@ -151,6 +155,7 @@ impl Unread {
     }
 
     /// What stands at their front, where it is told without memory.
+    #[inline(always)]
     pub fn sight(&self) -> Sight<'_>
         ensures { sight_view result ≡ sight self.now.bytes }
     {
@@ -170,6 +175,7 @@ impl Unread {
 
     // What stands at the front is less than an operation: how many bytes it needs is remembered, where its line
     // tells that.
+    #[inline(never)]
     fn await_body(&mut self)
         ensures { self.new ≡ self.old }
     {
@@ -203,6 +209,7 @@ impl Unread {
 
     // Looks on for the end of the first line, and remembers how far. Messages share the bytes from now on where that
     // is worth it.
+    #[inline(always)]
     fn search<L: Ledger>(&mut self, steps: &mut Steps<L>)
         ensures same { self.new.bytes ≡ self.old.bytes }
         ensures paid { Paid steps.old self.old.untested steps.new self.new.untested }
@@ -247,7 +254,25 @@ impl Unread {
         front_kept(alloc, &self.buf, self.sight())
     }
 
+    // The message without headers at their front, where it is such as nearly all come, stands there whole and can
+    // share the bytes: it is read before anything else is thought of. Else it is remembered how far the end of the
+    // first line was looked for.
+    #[inline(always)]
+    fn plain<L: Ledger>(&mut self, steps: &mut Steps<L>) -> Result<Option<Plain>, NoMemory>
+        ensures same { self.new.bytes ≡ self.old.bytes }
+        ensures paid { Paid steps.old self.old.untested steps.new self.new.untested }
+        ensures plain { IfOk result (λ r. IfSome r (λ p. front self.old.bytes ≡ got (message p.sid p.message) p.len)) }
+        ensures fits { IfOk result (λ r. IfSome r (λ p. p.len ≤ length self.old.bytes)) }
+        ensures memory { OnErr result (IsTrue (takes_memory self.old.bytes)) }
+    {
+        if self.found.ended || self.found.place > 0 {
+            return Ok(None);
+        }
+        read_plain(&self.buf, &mut self.found, steps)
+    }
+
     /// Takes the operation at their front, `None` where that is less than an operation.
+    #[inline(always)]
     pub fn read<L: Ledger>(
         &mut self,
         alloc: Global,
@@ -257,7 +282,36 @@ impl Unread {
             self.old.bytes result self.new.bytes }
         ensures paid { Paid steps.old self.old.untested steps.new self.new.untested }
     {
+        match self.plain(steps)? {
+            Some(Plain { sid, message, len }) => {
+                self.advance(len);
+                Ok(Some(ServerOp::Message { sid, message }))
+            }
+            None => self.read_other(alloc, steps),
+        }
+    }
+
+    // The same of any operation.
+    #[inline(never)]
+    fn read_other<L: Ledger>(
+        &mut self,
+        alloc: Global,
+        steps: &mut Steps<L>,
+    ) -> Result<Option<ServerOp>, WireError>
+        ensures reads { Reads (front self.old.bytes) (takes_memory self.old.bytes)
+            self.old.bytes result self.new.bytes }
+        ensures paid { Paid steps.old self.old.untested steps.new self.new.untested }
+    {
         self.search(steps);
+        self.read_any(alloc)
+    }
+
+    // The same, once the end of the first line was looked for.
+    fn read_any(&mut self, alloc: Global) -> Result<Option<ServerOp>, WireError>
+        ensures reads { Reads (front self.old.bytes) (takes_memory self.old.bytes)
+            self.old.bytes result self.new.bytes }
+        ensures untested { self.new.untested ≤ self.old.untested }
+    {
         match self.sight() {
             Sight::Unfinished => {
                 self.await_body();
@@ -276,6 +330,7 @@ impl Unread {
     }
 
     // Takes an operation that was read, with its bytes, or those of a text that turned out to be none.
+    #[inline(never)]
     fn take(
         &mut self,
         found: Option<ServerOp>,

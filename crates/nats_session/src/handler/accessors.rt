@@ -135,8 +135,8 @@ impl ConnectionHandler {
         !is_full
     }
 
-    /// The limit of a payload's size with its header block, in bytes: that of the newest link's server, 1,048,576
-    /// before any.
+    /// The limit of a payload's size with its header block, in bytes: that of the INFO by which the newest link came
+    /// up, or of the last one read since that tells a limit, one that isn't 0; 1,048,576 before any link.
     pub fn max_payload(&self) -> u64
         ensures { result ≡ self.now.parts.link.max_payload }
     {
@@ -151,6 +151,14 @@ impl ConnectionHandler {
             Some(info) => Some(info),
             None => None,
         }
+    }
+
+    /// How many INFOs were read over all links, those by which links came up left out; the count stops at 2^64 - 1. A
+    /// number other than an earlier one says that `server_info` is a newer one. Own call.
+    pub fn infos(&self) -> u64
+        ensures { result ≡ self.now.parts.link.infos }
+    {
+        self.infos
     }
 
     /// How many operations were read over all links; the count stops at 2^64 - 1. Own call.

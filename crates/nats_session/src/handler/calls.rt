@@ -339,13 +339,13 @@ impl ConnectionHandler {
     /// whose subject, or a reply that is there, is empty, or is not publishable and the settings don't skip that; a
     /// request, and the inbox prefix is not publishable, whatever the settings skip; a subscribe whose subject is
     /// not valid. `InvalidQueueName`: a group that is not publishable. `MaxPayloadExceeded`: the payload with its
-    /// header block is larger than the server of the newest link takes, 1,048,576 bytes before any. `Closed`: the
-    /// session closed, or a drain of the whole session was accepted. `NoNumber`: a subscribe, a flush or a request,
-    /// and number or ticket 2^64 - 1 was given. `Full`: as many accepted calls wait as the client capacity. A
-    /// refused call is dropped and changes nothing, but that a `DropSub` lets its subscription go whatever the
-    /// reply. An accepted call is handled by `advance`, in the order of acceptance; an accepted `Unsubscribe` shuts
-    /// its subscription at once, an accepted `DrainAll` the session to further calls. Its condition is `check` of
-    /// that turn. The crate's tests of what is published and subscribed to, and its bounded channel of commands.
+    /// header block is larger than `max_payload`; a call that was accepted is sent, whatever limit a server tells
+    /// later. `Closed`: the session closed, or a drain of the whole session was accepted. `NoNumber`: a subscribe,
+    /// a flush or a request, and number or ticket 2^64 - 1 was given. `Full`: as many accepted calls wait as the
+    /// client capacity. A refused call is dropped and changes nothing, but that a `DropSub` lets its subscription
+    /// go whatever the reply. An accepted call is handled by `advance`, in the order of acceptance; an accepted
+    /// `Unsubscribe` shuts its subscription at once, an accepted `DrainAll` the session to further calls. Its
+    /// condition is `check` of that turn. The crate's tests of what is published and subscribed to, and its bounded channel of commands.
     ///
     /// # Errors
     ///

@@ -8,13 +8,13 @@ ghost use Rattle.nats_history.specs.declared.turn.Due.TheVariants as due_names;
 ghost use Rattle.nats_history.specs.Queue.{first};
 ghost use Rattle.nats_tables.specs.Numbers.{item_of};
 ghost use Rattle.nats_history.specs.declared.transcript.LinkWord.TheVariants as word;
-ghost use Rattle.nats_history.specs.History.{link_end, read, handled, unsubscribe_command, is_open_at, commands, info_events, pings_after};
+ghost use Rattle.nats_history.specs.History.{link_end, read, handled, unsubscribe_command, is_open_at, commands, pings_after};
 ghost use Rattle.nats_history.specs.Parts.{at_with};
 ghost use Rattle.nats_history.specs.Schedule.{due, due_chain, chain, read_end, pong_end};
 ghost use Rattle.nats_history.specs.After.{written, subs_after};
 ghost use Rattle.nats_subs.specs.Delivery.{with_rows, rows_with};
 ghost use Rattle.nats_tickets.specs.Kept.{kept_after};
-ghost use Rattle.nats_session.specs.Handler.{Advances, is_at_rest, Sees, counted, read_past, message_past, command_end, seen_handled, is_nothing, handled_first, seen_all, name_of, coming, delivery_of, delivery_name, played_name, unwanted_seen, after_message, arrived_seen, come_seen, pong_read, end_in, push_all};
+ghost use Rattle.nats_session.specs.Handler.{Advances, is_at_rest, Sees, counted, read_past, message_past, command_end, seen_handled, is_nothing, handled_first, seen_all, name_of, coming, delivery_of, delivery_name, played_name, unwanted_seen, after_message, arrived_seen, come_seen, pong_read, end_in};
 
 use super::ConnectionHandler;
 use super::drains::{
@@ -159,8 +159,10 @@ fn handle_call(
 }
 
 impl ConnectionHandler {
-    /// Whether it takes no look to see that no step is due.
-    pub(crate) fn is_at_rest(&self) -> bool
+    /// Whether no link is up, or no byte is unread and no call waits: no step is due then, which takes no look at what
+    /// is unread to tell. A session that is not at rest may still have no step due. It takes no memory. Own call.
+    #[inline]
+    pub fn is_at_rest(&self) -> bool
         ensures { result ≡ is_at_rest self.now.parts }
     {
         !self.is_up || (self.connection.unread() == 0 && self.calls.is_empty())
@@ -320,12 +322,7 @@ impl ConnectionHandler {
                 self.read_past(len);
                 Ok(Played::Read)
             }
-            PeekedOp::Info(info) => {
-                self.note_info(info.lame_duck_mode)?;
-                self.info = Some(info);
-                self.read_past(len);
-                Ok(Played::Read)
-            }
+            PeekedOp::Info(info) => self.read_info(info, len),
             PeekedOp::Pong => self.read_pong(alloc, len),
             PeekedOp::Ok => {
                 self.read_past(len);
@@ -382,7 +379,7 @@ impl ConnectionHandler {
     }
 
     /// One more operation was read, which took so many bytes.
-    fn read_past(&mut self, len: usize)
+    pub(super) fn read_past(&mut self, len: usize)
         requires { len ≤ length self.old.parts.link.wire.unread }
         ensures { self.new ≡ read_past len self.old }
     {
@@ -398,17 +395,6 @@ impl ConnectionHandler {
     {
         self.statistics = with_message(self.statistics, message_len);
         self.read_past(len);
-    }
-
-    fn note_info(&mut self, is_lame_duck: bool) -> Result<(), NoMemory>
-        ensures ok { OnOk result
-            (self.new ≡ record self.old { events = push_all (info_events is_lame_duck) self.old.events }) }
-        ensures err { OnErr result (self.new ≡ self.old) }
-    {
-        if is_lame_duck {
-            self.events.push(Event::LameDuckMode)?;
-        }
-        Ok(())
     }
 
     /// Brings a message to the request that waits for it, or to its subscription.

@@ -1,18 +1,24 @@
--- What `split_once` cuts off is the first line.
-use Rattle.std.proofs.Common.{Some, None, lit<, sym, ◌∙◌}
-use Rattle.std.proofs.lemmas.Str.Pattern.{split_once_first, split_parts}
-use Rattle.nats_block.proofs.Cuts.{line_first, line_whole}
+-- What stands before the first LF is the first line.
+use Rattle.std.proofs.Common.{◌≡◌, None, take, rules, subst, lit<, sym, ◌∙◌}
+use Rattle.std.specs.Str.{IsUtf8}
+use Rattle.memchr.specs.Find.{IsFirstByte, is_byte}
+use Rattle.nats_block.proofs.Cuts.{behind_byte, line_by_byte, line_whole, no_lf}
 use Rattle.nats_block.proofs.lines.next_line.Goals as goal
+
+pub range_from-requires : goal.range_from-requires
+range_from-requires c =
+    let text = c.args.text.now in
+    λ _. behind_byte 10 text c.in-Some.at (lit< tt) (subst IsUtf8 c.as_bytes.ensures.value c.as_bytes.ensures.utf8) (rw c.as_bytes.ensures.value at c.in-Some.ensures)
 
 pub returns-in-Some : goal.returns-in-Some
 returns-in-Some c =
-    let line = c.in-Some.line in
-    let rest = c.in-Some.rest in
     let text = c.args.text.now in
-    let first = split_once_first 10 text (Some (line, rest)) c.in-Some.ensures.cases (lit< tt) in
-    line_first text line.now rest.now c.without_cr.result.now first.0 first.1 first.2 c.without_cr.ensures
+    let front : c.range.result.now ≡ take c.in-Some.at text = search rules in
+    line_by_byte text c.range.result.now c.range_from.result.now c.without_cr.result.now c.in-Some.at (rw c.as_bytes.ensures.value at c.in-Some.ensures)
+    front c.range_from.ensures.value c.without_cr.ensures
 
 pub returns-in-None-2 : goal.returns-in-None-2
 returns-in-None-2 c =
     let text = c.args.text.now in
-    line_whole text (split_parts 10 text None c.in-None.ensures.cases (lit< tt)) (sym c.is_empty.ensures ∙ c.if-is_empty.false)
+    let none : IsFirstByte (is_byte 10) text None = rw c.as_bytes.ensures.value at c.in-None.ensures in
+    line_whole text (no_lf text none) (sym c.is_empty.ensures ∙ c.if-is_empty.false)

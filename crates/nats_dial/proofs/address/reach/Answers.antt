@@ -10,7 +10,7 @@ returns-in-Err-clause-reaches g c = (
   inl (
     c.start_ms-start.result,
     c.fault.ensures,
-    undialed_is c.args.to.now c.start_ms-start.result (g.W.Reach.seen c.args.world.now) (g.W.Reach.seen c.start_ms-start.new.world)
+    undialed_is c.args.options.now.connection_timeout c.args.to.now c.start_ms-start.result (g.W.Reach.seen c.args.world.now) (g.W.Reach.seen c.start_ms-start.new.world)
         (g.W.Reach.seen c.dial.new.world) c.start_ms-start.ensures.told c.in-Err.ensures.told,
   ),
   inl refl,
@@ -22,11 +22,12 @@ returns-in-Ok-greet_in-clause-reaches g c =
     let up = c.in-Ok-greet_in.ensures.greets c.in-Ok.ensures.fresh in (
       c.start_ms-start.result,
       look,
-      upped_is c.args.to.now c.start_ms-start.result look (g.W.Reach.seen c.args.world.now) (g.W.Reach.seen c.start_ms-start.new.world)
+      upped_is c.args.options.now.connection_timeout c.args.to.now c.start_ms-start.result look (g.W.Reach.seen c.args.world.now) (g.W.Reach.seen c.start_ms-start.new.world)
           (g.W.Reach.seen c.dial.new.world) (g.W.Reach.seen c.greet_in.new.world) c.start_ms-start.ensures.told c.in-Ok.ensures.told
           c.in-Ok-greet_in.ensures.told,
       up.0,
       up.1,
+      up.2,
     )
 
 pub returns-in-Err-greet_in-clause-reaches : goal.returns-in-Err-greet_in-clause-reaches
@@ -41,7 +42,7 @@ returns-in-Err-greet_in-clause-reaches g c =
         look,
         r,
         w,
-        returned_is c.args.to.now start look r w (g.W.Reach.seen c.args.world.now) (g.W.Reach.seen c.start_ms-start.new.world)
+        returned_is c.args.options.now.connection_timeout c.args.to.now start look r w (g.W.Reach.seen c.args.world.now) (g.W.Reach.seen c.start_ms-start.new.world)
             (g.W.Reach.seen c.dial.new.world) (g.W.Reach.seen c.greet_in.new.world) (g.W.Reach.seen c.hang_up.new.world)
             c.start_ms-start.ensures.told c.in-Ok.ensures.told c.in-Err-greet_in.ensures.told c.hang_up.ensures.told,
         unshaken_at g.P.ServerList.Takes

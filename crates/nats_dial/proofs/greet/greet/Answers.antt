@@ -34,7 +34,7 @@ returns-in_err-shake_hands-clause-greets g c = λ fresh.
     (sym c.in_ok-shaking.ensures) refl in
     let line = fresh_line
     (Offers SignerAnswers AuthAnswers c.args.options.now.signer c.args.options.now.auth_callback (auth_value c.args.options.now.auth))
-    c.args.options.now.name c.args.options.now.no_echo c.args.addr.now c.args.options.now.connection_timeout c.args.start
+    c.args.options.now.tls_required c.args.options.now.name c.args.options.now.no_echo c.args.addr.now c.args.options.now.connection_timeout c.args.start
     c.in_ok-shaking.shaking (g.R.LinkRead.read_told c.args.read.now) (g.T.LinkWrite.write_told c.args.write.now)
     c.in_ok-shaking.ensures fresh in
     err_by (λ x. Greets g.P.ServerList.Takes
@@ -54,7 +54,7 @@ returns-clause-greets g c = λ fresh.
     (sym c.in_ok-shaking.ensures) refl in
     let line = fresh_line
     (Offers SignerAnswers AuthAnswers c.args.options.now.signer c.args.options.now.auth_callback (auth_value c.args.options.now.auth))
-    c.args.options.now.name c.args.options.now.no_echo c.args.addr.now c.args.options.now.connection_timeout c.args.start
+    c.args.options.now.tls_required c.args.options.now.name c.args.options.now.no_echo c.args.addr.now c.args.options.now.connection_timeout c.args.start
     c.in_ok-shaking.shaking (g.R.LinkRead.read_told c.args.read.now) (g.T.LinkWrite.write_told c.args.write.now)
     c.in_ok-shaking.ensures fresh in
     let shaken = c.in_ok-shake_hands.ensures.shaken (is_tls c.args.addr.now) c.args.start c.args.options.now.connection_timeout
@@ -66,4 +66,4 @@ returns-clause-greets g c = λ fresh.
     c.args.addr.now c.args.start shaken.1.0 shaken.1.1 c.shake_hands.new.shaking
     (g.R.LinkRead.read_told c.shake_hands.new.read) (g.T.LinkWrite.write_told c.shake_hands.new.write)
     (g.C.Clock.clock_told c.shake_hands.new.clock) c.args.pool.now c.shake_hands.new.pool c.finished.result
-    shaken.0 shaken.1.2 took.1 c.finished.ensures
+    shaken.0 shaken.1.2 shaken.1.3 shaken.1.4 took.1 c.finished.ensures

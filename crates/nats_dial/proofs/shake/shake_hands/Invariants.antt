@@ -13,11 +13,11 @@ invariant-exchanges g l = record {
   beside : g.C.Clock.beside_clock l.clock ≡ g.C.Clock.beside_clock l.initial.clock;
   line : (by_scheme : Bool) (start timeout : ℕ) (text wrote : List ℕ) → IsOpen l.initial.shaking.stage
       → Line (Offers SignerAnswers AuthAnswers l.options.signer l.options.auth_callback (auth_value l.options.auth))
-      l.options.name l.options.no_echo by_scheme start timeout text wrote
+      l.options.tls_required l.options.name l.options.no_echo by_scheme start timeout text wrote
       l.initial.shaking (g.R.LinkRead.read_told l.initial.read) (g.T.LinkWrite.write_told l.initial.write)
       → IsOpen l.shaking.stage × ((text : List ℕ) × (wrote : List ℕ)
       × Line (Offers SignerAnswers AuthAnswers l.options.signer l.options.auth_callback (auth_value l.options.auth))
-      l.options.name l.options.no_echo by_scheme start timeout text wrote
+      l.options.tls_required l.options.name l.options.no_echo by_scheme start timeout text wrote
       l.shaking (g.R.LinkRead.read_told l.read) (g.T.LinkWrite.write_told l.write));
   took : (p : _) → IsOpen l.initial.shaking.stage
       → HasTook g.P.ServerList.Takes l.initial.shaking.stage p l.initial.pool

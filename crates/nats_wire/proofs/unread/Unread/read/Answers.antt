@@ -1,43 +1,12 @@
--- What is read follows from what is seen, and memory is wanting only where it is taken.
-use Rattle.std.proofs.Common.{◌≡◌, ap}
-use Rattle.std.specs.Prelude.{option_map}
-use Rattle.nats_wire.specs.Operations.{got_or_fault, op_view}
-use Rattle.nats_wire.specs.Decoder.{op_text_view}
-use Rattle.nats_wire.specs.Wire.{Unread}
-use Rattle.nats_wire.proofs.Sights.{bad_seen, lost_fits, reads_less, reads_bad, whole_front, found_fits, reads_found, reads_refused}
+-- Memory is wanting only where it is taken.
+use Rattle.std.proofs.Common.{sym, subst}
+use Rattle.std.specs.Prelude.{IsTrue}
+use Rattle.nats_wire.specs.Operations.{takes_memory}
+use Rattle.nats_wire.proofs.Sights.{reads_wanting}
 use Rattle.nats_wire.proofs.unread.Unread.read.Goals as goal
 
-pub advance-requires : goal.advance-requires
-advance-requires g c = lost_fits c.search.new.self.bytes c.in-Fault.n (bad_seen c.search.new.self.bytes c.in-Fault.n c.in-Fault.ensures)
-
-pub returns-in_err-found-in-Whole-clause-reads : goal.returns-in_err-found-in-Whole-clause-reads
-returns-in_err-found-in-Whole-clause-reads g c =
-    let same : c.search.new.self.bytes ≡ c.args.self.now.bytes = c.search.ensures.same in
-    reads_refused c.args.self.now.bytes c.search.new.self.bytes (op_text_view c.in-Whole.text) c.in-Whole.len c.from_residual.result same c.in-Whole.ensures c.from_residual.ensures.1
-
-pub take-requires : goal.take-requires
-take-requires g c =
-    let seen = c.search.new.self.bytes in
-    let found = c.in_ok-found-in-Whole.found in
-    found_fits (got_or_fault c.in-Whole.len c.lost_at-lost.result (option_map op_view found)) seen
-    (whole_front seen (op_text_view c.in-Whole.text) c.in-Whole.len c.lost_at-lost.result found c.in-Whole.ensures c.lost_at-lost.ensures c.in_ok-found-in-Whole.ensures)
-
-pub returns-in-Unfinished-clause-reads : goal.returns-in-Unfinished-clause-reads
-returns-in-Unfinished-clause-reads g c =
-    let same : c.search.new.self.bytes ≡ c.args.self.now.bytes = c.search.ensures.same in
-    reads_less c.args.self.now.bytes c.search.new.self.bytes c.await_body.new.self.bytes same c.in-Unfinished.ensures (ap (λ (u : Unread). u.bytes) c.await_body.ensures)
-
-pub returns-in-Fault-clause-reads : goal.returns-in-Fault-clause-reads
-returns-in-Fault-clause-reads g c =
-    let same : c.search.new.self.bytes ≡ c.args.self.now.bytes = c.search.ensures.same in
-    reads_bad c.args.self.now.bytes c.search.new.self.bytes c.advance.new.self.bytes c.in-Fault.n same c.in-Fault.ensures c.advance.ensures.bytes
-
-pub returns-in_ok-found-in-Whole-clause-reads : goal.returns-in_ok-found-in-Whole-clause-reads
-returns-in_ok-found-in-Whole-clause-reads g c =
-    let same : c.search.new.self.bytes ≡ c.args.self.now.bytes = c.search.ensures.same in
-    let seen = c.search.new.self.bytes in
-    let found = c.in_ok-found-in-Whole.found in
-    reads_found c.args.self.now.bytes seen c.take.new.self.bytes (op_text_view c.in-Whole.text) c.in-Whole.len
-    (got_or_fault c.in-Whole.len c.lost_at-lost.result (option_map op_view found)) c.take.result same c.in-Whole.ensures
-    (whole_front seen (op_text_view c.in-Whole.text) c.in-Whole.len c.lost_at-lost.result found c.in-Whole.ensures c.lost_at-lost.ensures c.in_ok-found-in-Whole.ensures)
-    c.take.ensures.reads
+pub returns-in_err-sid-clause-reads : goal.returns-in_err-sid-clause-reads
+returns-in_err-sid-clause-reads g c =
+    let same = c.plain.ensures.same in
+    reads_wanting c.args.self.now.bytes c.plain.new.self.bytes c.from_residual.result same
+    (subst (λ b. IsTrue (takes_memory b)) (sym same) c.in_err-sid.ensures.memory) c.from_residual.ensures.1

@@ -1,0 +1,131 @@
+//! Addresses, lists of them, and who is asked for them.
+use nats_addr::{AddrError, FakeResolver, ResolveError, ServerAddr, ToServerAddrs, addrs_of_texts};
+use nats_rows::{Bad, push_bytes, push_optional, push_word, string_of};
+use std::alloc::Global;
+use std::net::{IpAddr, Ipv4Addr, SocketAddr};
+
+/// How an address is refused, or that memory was wanting.
+pub fn refusal(error: AddrError) -> Result<&'static str, Bad> {
+    match error {
+        AddrError::Scheme => Ok("!scheme"),
+        AddrError::Url => Ok("!url"),
+        AddrError::NoMemory => Err(Bad::NoMemory),
+    }
+}
+
+/// Appends the scheme, host and port of an address.
+fn push_parts(alloc: Global, addr: &ServerAddr, out: &mut String) -> Result<(), Bad> {
+    let (scheme, host, port) = (addr.scheme(), addr.host(), addr.port());
+    Ok(out.push_str(format!(in alloc; "{scheme} {host} {port}")?.as_str())?)
+}
+
+fn push_addr(alloc: Global, text: &str, out: &mut String) -> Result<(), Bad> {
+    match ServerAddr::parse(alloc, text) {
+        Ok(addr) => push_parts(alloc, &addr, out),
+        Err(error) => Ok(out.push_str(refusal(error)?)?),
+    }
+}
+
+fn parsed(alloc: Global, text: &str) -> Result<ServerAddr, Bad> {
+    ServerAddr::parse(alloc, text).map_err(|_| Bad::Form)
+}
+
+/// Appends what an address tells: its user and password, what is printed of it, whether its copy is equal, and its
+/// kinds.
+fn push_told(alloc: Global, addr: &ServerAddr, out: &mut String) -> Result<(), Bad> {
+    let has_both = addr.has_user_pass();
+    push_optional(out, addr.username())?;
+    out.push(' ')?;
+    push_optional(out, addr.password())?;
+    out.push_str(format!(in alloc; " both={has_both} {addr:?}")?.as_str())?;
+    let is_same = addr.copy(alloc)? == *addr;
+    let (tls, ws) = (addr.tls_required(), addr.is_websocket());
+    Ok(out.push_str(format!(in alloc; " copied={is_same} tls={tls} ws={ws}")?.as_str())?)
+}
+
+/// Appends the text of an address, and again that of the address that its URL is made into.
+fn push_urls(addr: ServerAddr, out: &mut String) -> Result<(), Bad> {
+    push_word(out, addr.as_url_str().as_bytes())?;
+    let again = ServerAddr::from_url(addr.into_inner()).map_err(|_| Bad::Form)?;
+    Ok(push_word(out, again.into_inner().as_str().as_bytes())?)
+}
+
+fn push_secret(alloc: Global, text: &str, out: &mut String) -> Result<(), Bad> {
+    let addr = parsed(alloc, text)?;
+    push_told(alloc, &addr, out)?;
+    push_urls(addr, out)
+}
+
+fn count<A: ToServerAddrs>(alloc: Global, source: &A) -> usize {
+    match source.to_server_addrs(alloc) {
+        Ok(addrs) => addrs.len(),
+        Err(_) => 0,
+    }
+}
+
+/// The texts between spaces as addresses.
+fn push_list(alloc: Global, texts: &str, out: &mut String) -> Result<(), Bad> {
+    let texts: Vec<&str> = texts.split(' ').collect(alloc)?;
+    match addrs_of_texts(alloc, texts.as_slice()) {
+        Ok(addrs) => {
+            let (len, counted) = (addrs.len(), count(alloc, &addrs));
+            Ok(out.push_str(format!(in alloc; "{len} {counted}")?.as_str())?)
+        }
+        Err(error) => Ok(out.push_str(refusal(error)?)?),
+    }
+}
+
+/// Appends how many addresses a text, an address and a list of texts are.
+fn push_counts(alloc: Global, out: &mut String) -> Result<(), Bad> {
+    let text = String::from_str(alloc, "a")?;
+    let (of_text, of_addr) = (count(alloc, &text), count(alloc, &parsed(alloc, "a")?));
+    let of_list = count(alloc, &vec![in alloc; text]?);
+    Ok(out.push_str(format!(in alloc; "{of_text} {of_addr} {of_list}")?.as_str())?)
+}
+
+fn home() -> SocketAddr {
+    SocketAddr::new(IpAddr::V4(Ipv4Addr::LOCALHOST), 4222)
+}
+
+/// Appends what a resolver gives first for the host and the port of an address.
+fn push_first(
+    alloc: Global,
+    addr: &ServerAddr,
+    resolver: &mut FakeResolver,
+    out: &mut String,
+) -> Result<(), Bad> {
+    let word = match addr.socket_addrs(alloc, resolver) {
+        Ok(mut addresses) => match addresses.next() {
+            Some(found) if found == home() => "home ",
+            Some(_) => "elsewhere ",
+            None => "none ",
+        },
+        Err(ResolveError::Failed) => "failed ",
+        Err(ResolveError::NoMemory) => "no memory ",
+    };
+    Ok(out.push_str(word)?)
+}
+
+/// Asks a resolver that fails at the second asking twice, and one that refuses once.
+fn push_resolved(alloc: Global, out: &mut String) -> Result<(), Bad> {
+    let addr = parsed(alloc, "h")?;
+    let mut resolver = FakeResolver::failing(vec![in alloc; home()]?, vec![in alloc; 2]?);
+    push_first(alloc, &addr, &mut resolver, out)?;
+    push_first(alloc, &addr, &mut resolver, out)?;
+    push_first(alloc, &addr, &mut FakeResolver::refusing(alloc), out)?;
+    let text = ResolveError::Failed.to_string(alloc)?;
+    Ok(push_bytes(out, text.as_bytes())?)
+}
+
+/// Answers a question on addresses, and tells whether it is one.
+pub fn answer(alloc: Global, word: &str, rest: &str, out: &mut String) -> Result<bool, Bad> {
+    match word {
+        "addr" => push_addr(alloc, string_of(alloc, rest)?.as_str(), out)?,
+        "secret" => push_secret(alloc, rest, out)?,
+        "list" => push_list(alloc, rest, out)?,
+        "counts" => push_counts(alloc, out)?,
+        "resolver" => push_resolved(alloc, out)?,
+        _ => return Ok(false),
+    }
+    Ok(true)
+}

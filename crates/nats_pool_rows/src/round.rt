@@ -1,0 +1,170 @@
+//! A round of connecting: `round`, the addresses with commas between them, the limit of attempts, which dial and
+//! which asking fail, and what each link gives.
+use crate::handshake::begun;
+use crate::outside::{Memory, home};
+use crate::shake::link;
+use nats_dial::{ConnectError, ConnectOptions, Handshake, Linked, try_connect};
+use nats_outside::{
+    FakeClock, FakeDialer, FakeDraw, FakeLink, FakeRead, FakeResolver, FakeWrite, Joined,
+};
+use nats_pool::{Delay, Pool, PoolOptions, Server, ServerInfo, addrs_of_texts};
+use nats_rows::{Bad, number_of, push_bytes, push_word, spelled_bytes};
+use std::alloc::Global;
+
+type Connected = Result<Linked<FakeRead, FakeWrite>, ConnectError>;
+
+/// The texts between commas, none where nothing stands there.
+fn texts_of(alloc: Global, texts: &str) -> Result<Vec<&str>, Bad> {
+    if texts == "~" {
+        return Ok(Vec::new(alloc));
+    }
+    Ok(texts.split(',').collect(alloc)?)
+}
+
+fn pool(alloc: Global, texts: &str, limit: Option<usize>) -> Result<Pool, Bad> {
+    let texts = texts_of(alloc, texts)?;
+    let addrs = addrs_of_texts(alloc, texts.as_slice()).map_err(|_| Bad::Form)?;
+    let options = PoolOptions {
+        max_reconnects: limit,
+        retain_servers_order: true,
+        ignore_discovered_servers: false,
+        delay: Delay::Default,
+        choice: None,
+    };
+    Ok(Pool::new(alloc, addrs, options, 1)?)
+}
+
+/// A link for each of the words.
+fn links(alloc: Global, words: &[&str]) -> Result<Vec<FakeLink>, Bad> {
+    let mut links = Vec::new(alloc);
+    for word in words {
+        let text = spelled_bytes(alloc, word)?;
+        links.push(link(alloc, text.as_slice())?)?;
+    }
+    Ok(links)
+}
+
+/// A host has two addresses; the dial and the asking of these numbers, counted from 1, fail; the time stands still.
+fn world(alloc: Global, words: &[&str], dial: u64, asking: u64) -> Result<Memory, Bad> {
+    let links = links(alloc, words)?;
+    let addresses = vec![in alloc; home(), home()]?;
+    Ok(Joined {
+        dialer: FakeDialer::failing(alloc, links, vec![in alloc; dial]?),
+        resolver: FakeResolver::failing(addresses, vec![in alloc; asking]?),
+        clock: FakeClock::told(vec![in alloc; 0]?),
+        draw: FakeDraw::told(Vec::new(alloc)),
+    })
+}
+
+fn connects(alloc: Global, pool: &mut Pool, world: &mut Memory) -> Connected {
+    let options = ConnectOptions::new();
+    let last = ServerInfo::default(alloc);
+    let connected = try_connect(alloc, pool, &options, &last, world);
+    drop(last);
+    drop(options);
+    connected
+}
+
+fn push_outcome(alloc: Global, connected: &Connected, out: &mut String) -> Result<(), Bad> {
+    match connected {
+        Ok(linked) => {
+            out.push_str("up")?;
+            Ok(push_word(out, linked.rest.as_slice())?)
+        }
+        Err(error) => Ok(push_bytes(out, format!(in alloc; "{error}")?.as_bytes())?),
+    }
+}
+
+fn push_connected(
+    alloc: Global,
+    pool: &mut Pool,
+    world: &mut Memory,
+    out: &mut String,
+) -> Result<(), Bad> {
+    let connected = connects(alloc, pool, world);
+    let pushed = push_outcome(alloc, &connected, out);
+    drop(connected);
+    pushed
+}
+
+/// Appends how often a server failed, whether it gave a link, and what it keeps of its last failure.
+fn push_server(alloc: Global, server: &Server, out: &mut String) -> Result<(), Bad> {
+    let (failed, did_connect) = (server.failed_attempts, server.did_connect);
+    out.push_str(format!(in alloc; ", {failed} {did_connect}")?.as_str())?;
+    match &server.last_error {
+        Some(text) => push_word(out, text.as_str().as_bytes())?,
+        None => out.push_str(" ~")?,
+    }
+    Ok(())
+}
+
+/// Appends what a pool knows of its first server, and how many servers it has.
+fn push_known(alloc: Global, pool: &Pool, out: &mut String) -> Result<(), Bad> {
+    let servers = pool.server_pool(alloc)?;
+    if let Some(server) = servers.as_slice().first() {
+        push_server(alloc, server, out)?;
+    }
+    let count = servers.len();
+    Ok(out.push_str(format!(in alloc; ", {count}")?.as_str())?)
+}
+
+fn push_in_world(
+    alloc: Global,
+    pool: &mut Pool,
+    words: &[&str],
+    (dial, asking): (u64, u64),
+    out: &mut String,
+) -> Result<(), Bad> {
+    let mut world = world(alloc, words, dial, asking)?;
+    let pushed = push_connected(alloc, pool, &mut world, out);
+    drop(world);
+    pushed?;
+    push_known(alloc, pool, out)
+}
+
+fn limit_of(word: &str) -> Result<Option<usize>, Bad> {
+    match word {
+        "~" => Ok(None),
+        word => Ok(Some(word.parse().map_err(|_| Bad::Form)?)),
+    }
+}
+
+/// Appends what a round comes to: the rest behind the handshake or the error, and what the pool knows then.
+pub fn push_round(alloc: Global, rest: &str, out: &mut String) -> Result<(), Bad> {
+    let words: Vec<&str> = rest.split(' ').collect(alloc)?;
+    let [addrs, limit, dial, asking, links @ ..] = words.as_slice() else {
+        return Err(Bad::Form);
+    };
+    let failing = (number_of(dial)?, number_of(asking)?);
+    let mut pool = pool(alloc, addrs, limit_of(limit)?)?;
+    let pushed = push_in_world(alloc, &mut pool, links, failing, out);
+    drop(pool);
+    pushed
+}
+
+fn takes_in(alloc: Global, shaking: &mut Handshake, pool: &mut Pool, info: &[u8]) -> bool {
+    let options = ConnectOptions::new();
+    let fed = shaking.feed(alloc, info, &options, pool);
+    drop(options);
+    let is_fed = fed.is_ok();
+    drop(fed);
+    is_fed
+}
+
+fn push_taken(alloc: Global, pool: &mut Pool, info: &[u8], out: &mut String) -> Result<(), Bad> {
+    let mut shaking = begun(alloc, "a", 0).map_err(|_| Bad::NoMemory)?;
+    let is_read = takes_in(alloc, &mut shaking, pool, info);
+    drop(shaking);
+    out.push_str(if is_read { "read" } else { "refused" })?;
+    push_known(alloc, pool, out)
+}
+
+/// Appends whether a handshake reads an INFO, whose servers a pool takes in, and what the pool knows then.
+pub fn push_taken_in(alloc: Global, rest: &str, out: &mut String) -> Result<(), Bad> {
+    let (addrs, word) = rest.split_once(' ').ok_or(Bad::Form)?;
+    let info = spelled_bytes(alloc, word)?;
+    let mut pool = pool(alloc, addrs, None)?;
+    let pushed = push_taken(alloc, &mut pool, info.as_slice(), out);
+    drop(pool);
+    pushed
+}

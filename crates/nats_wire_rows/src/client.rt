@@ -1,0 +1,108 @@
+//! The texts of clients: a line for each command would be `ping`, `pong`, `sub`, `unsub` or `pub`; here they stand
+//! behind one another, each with a `;` behind it, and a word on how the text ends comes last.
+use nats_client_text::{
+    ClientEnd, ClientFront, ClientOp, ClientRead, HeaderMap, Subject, read_client_op,
+    read_client_text,
+};
+use nats_rows::{Bad, push_optional, push_word};
+use std::alloc::Global;
+
+fn push_name(subject: &Option<Subject>, out: &mut String) -> Result<(), Bad> {
+    out.push(' ')?;
+    let subject = subject.as_ref().map(|subject| subject.as_str());
+    Ok(push_optional(out, subject)?)
+}
+
+/// Appends each name with its values.
+fn push_headers(headers: &Option<HeaderMap>, out: &mut String) -> Result<(), Bad> {
+    let Some(headers) = headers else {
+        return Ok(out.push_str(" ~")?);
+    };
+    out.push_str(" {")?;
+    for (name, values) in headers.iter() {
+        for value in values {
+            push_word(out, name.as_str().as_bytes())?;
+            push_word(out, value.as_str().as_bytes())?;
+        }
+    }
+    Ok(out.push_str(" }")?)
+}
+
+fn push_numbers(alloc: Global, sid: u64, max: Option<u64>, out: &mut String) -> Result<(), Bad> {
+    match max {
+        Some(max) => out.push_str(format!(in alloc; "unsub {sid} {max}")?.as_str())?,
+        None => out.push_str(format!(in alloc; "unsub {sid} ~")?.as_str())?,
+    }
+    Ok(())
+}
+
+/// Appends a command: a subscription is its number, subject and group, a publish its subject, reply, headers and
+/// payload.
+fn push_op(alloc: Global, op: &ClientOp, out: &mut String) -> Result<(), Bad> {
+    match op {
+        ClientOp::Ping => out.push_str("ping")?,
+        ClientOp::Pong => out.push_str("pong")?,
+        ClientOp::Connect(_) => out.push_str("connect")?,
+        ClientOp::Unsubscribe { sid, max } => push_numbers(alloc, *sid, *max, out)?,
+        ClientOp::Subscribe {
+            sid,
+            subject,
+            queue_group,
+        } => {
+            out.push_str(format!(in alloc; "sub {sid}")?.as_str())?;
+            push_word(out, subject.as_str().as_bytes())?;
+            push_name(queue_group, out)?;
+        }
+        ClientOp::Publish {
+            subject,
+            payload,
+            respond,
+            headers,
+        } => {
+            out.push_str("pub")?;
+            push_word(out, subject.as_str().as_bytes())?;
+            push_name(respond, out)?;
+            push_headers(headers, out)?;
+            push_word(out, payload.as_slice())?;
+        }
+    }
+    Ok(out.push(';')?)
+}
+
+fn end_word(end: ClientEnd) -> &'static str {
+    match end {
+        ClientEnd::Whole => "whole",
+        ClientEnd::Unfinished => "unfinished",
+        ClientEnd::Bad => "bad",
+    }
+}
+
+fn push_ops(alloc: Global, read: &ClientRead, out: &mut String) -> Result<(), Bad> {
+    for op in read.ops.as_slice() {
+        push_op(alloc, op, out)?;
+    }
+    Ok(out.push_str(end_word(read.end))?)
+}
+
+/// Appends the commands that a text is read as.
+pub fn push_read(alloc: Global, text: &[u8], out: &mut String) -> Result<(), Bad> {
+    let read = read_client_text(alloc, text)?;
+    let pushed = push_ops(alloc, &read, out);
+    drop(read);
+    pushed
+}
+
+fn len_of(front: &ClientFront) -> usize {
+    match front {
+        ClientFront::Got(_, len) => *len,
+        ClientFront::Unfinished | ClientFront::Bad => 0,
+    }
+}
+
+/// Appends how many bytes the first command of a text has, 0 where there is none.
+pub fn push_first(alloc: Global, text: &[u8], out: &mut String) -> Result<(), Bad> {
+    let front = read_client_op(alloc, text)?;
+    let len = len_of(&front);
+    drop(front);
+    Ok(out.push_str(format!(in alloc; "{len}")?.as_str())?)
+}
