@@ -39,7 +39,7 @@ fn line_of(script: &[u8], number: u64) -> &[u8] {
     let mut rest = script;
     for _ in 1..number {
         match memchr(b'\n', rest) {
-            Some(at) => rest = &rest[at + 1..],
+            Some(at) => rest = rest.get(at.saturating_add(1)..).unwrap_or(&[]),
             None => return &[],
         }
     }
@@ -71,7 +71,10 @@ fn fields_in(line: &str) -> usize {
 fn has_its_fields(form: &str, line: &str) -> bool {
     let (wanted, has) = (fields_in(form), fields_in(line));
     match form.strip_suffix(" ..") {
-        Some(_) => has + 1 >= wanted && (has + 1 - wanted) % 2 == 0,
+        Some(_) => match has.saturating_add(1).checked_sub(wanted) {
+            Some(behind) => behind % 2 == 0,
+            None => false,
+        },
         None => has == wanted,
     }
 }
