@@ -23,7 +23,9 @@ IsQuiet b = (p : ℕ) → has_due (up_peer (item_of p b.peers)) ≡ false
 abbrev pub AllDone : Type 0
 AllDone = (info : BrokerInfo) (turns : List BrokerTurn) → IsQuiet (played turns (new_broker info))
 
--- a peer's bytes may come in any pieces: two one after another leave what both leave at once, where the peer is up in between
+-- a peer's bytes may come in any pieces: two one after another leave what both leave at once, where the peer is up in
+-- between
 abbrev pub PiecesJoin : Type 0
-PiecesJoin = (b : BrokerSeen) (p : ℕ) (some more : List ℕ) → is_some (up_peer (item_of p (after_turn (Feed p some) b).peers)) ≡ true
+PiecesJoin = (b : BrokerSeen) (p : ℕ) (some more : List ℕ)
+    → is_some (up_peer (item_of p (after_turn (Feed p some) b).peers)) ≡ true
     → after_turn (Feed p more) (after_turn (Feed p some) b) ≡ after_turn (Feed p (some ++ more)) b

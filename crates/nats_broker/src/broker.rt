@@ -144,8 +144,8 @@ impl Broker {
         up_peer(self.peers.as_slice(), self.fed)
     }
 
-    /// Whether a command is due: one that stands whole at the front of the bytes of the peer that was fed last, or what is
-    /// no command there. It takes no memory. Own call.
+    /// Whether a command is due: one that stands whole at the front of the bytes of the peer that was fed last, or
+    /// what is no command there. It takes no memory. Own call.
     pub fn is_due(&self) -> bool
         ensures { result ≡ is_due self.now }
     {
@@ -155,8 +155,8 @@ impl Broker {
         }
     }
 
-    /// Whether a turn may come: no command is due; for `Join` also where there are fewer than 2^64 - 1 peers, for `Feed` and
-    /// `Leave` where the peer is up. It takes no memory. Own call.
+    /// Whether a turn may come: no command is due; for `Join` also where there are fewer than 2^64 - 1 peers, for
+    /// `Feed` and `Leave` where the peer is up. It takes no memory. Own call.
     pub fn check(&self, turn: &BrokerTurn) -> bool
         ensures { result ≡ is_valid_turn turn.now self.now }
     {
@@ -173,9 +173,9 @@ impl Broker {
         }
     }
 
-    /// A peer joins, and is told what the broker is by the protocol's `INFO`. Its number is answered: the first peer's is 1,
-    /// and each next one's is greater by one. It wants an echo of its own messages, and no word where nobody matched. Own
-    /// call.
+    /// A peer joins, and is told what the broker is by the protocol's `INFO`. Its number is answered: the first
+    /// peer's is 1, and each next one's is greater by one. It wants an echo of its own messages, and no word where
+    /// nobody matched. Own call.
     ///
     /// # Errors
     ///
@@ -221,8 +221,8 @@ impl Broker {
         self.router.close_all(p);
     }
 
-    /// Does the command that is due, and answers whether one was. What is no command ends its peer, which is told so. Own
-    /// call.
+    /// Does the command that is due, and answers whether one was. What is no command ends its peer, which is told so.
+    /// Own call.
     ///
     /// # Errors
     ///
@@ -276,8 +276,8 @@ impl Broker {
         Ok(())
     }
 
-    /// The bytes that wait for a peer: what it was told and that were not taken, none where no peer has that number. The
-    /// broker's `INFO` is the first of all. It takes no memory. Own call.
+    /// The bytes that wait for a peer: what it was told and that were not taken, none where no peer has that number.
+    /// The broker's `INFO` is the first of all. It takes no memory. Own call.
     pub fn waiting(&self, p: u64) -> &[u8]
         ensures { result.now ≡ text_of p self.now }
     {

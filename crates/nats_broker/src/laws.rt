@@ -1,5 +1,5 @@
-//! What holds of the words that a broker is proved by, whatever its peers write. Each function does nothing: its contract is
-//! the law, so the law is proved where the function is.
+//! What holds of the words that a broker is proved by, whatever its peers write. Each function does nothing: its
+//! contract is the law, so the law is proved where the function is.
 ghost use Rattle.nats_broker.specs.Laws.{DueIsDone, NoneLeft, AllDone, PiecesJoin};
 
 /// A command is due exactly where there is what it leaves, and once all that is due is done nothing is due.
@@ -13,8 +13,8 @@ pub fn all_is_done()
     ensures { AllDone }
 {}
 
-/// A peer's bytes may come in any pieces: two one after another leave what both leave at once, where the peer is up in between.
-/// So the commands that are done for a peer are those of all its joined bytes.
+/// A peer's bytes may come in any pieces: two one after another leave what both leave at once, where the peer is up
+/// in between. So the commands that are done for a peer are those of all its joined bytes.
 pub fn pieces_join()
     ensures { PiecesJoin }
 {}

@@ -1,5 +1,6 @@
-//! A broker in memory: it routes messages between peers that speak the NATS client protocol. It serves tests and programs
-//! that want a server of their own without a network. Clusters, accounts, `+OK` replies and permissions are left out.
+//! A broker in memory: it routes messages between peers that speak the NATS client protocol. It serves tests and
+//! programs that want a server of their own without a network. Clusters, accounts, `+OK` replies and permissions are
+//! left out.
 #![tactic(auto)]
 
 mod broker;

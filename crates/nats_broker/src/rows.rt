@@ -101,12 +101,13 @@ fn play_all(alloc: Global, broker: &mut Broker, turns: &[BrokerTurn]) -> Result<
     Ok(())
 }
 
-/// Plays turns on a new broker, doing after each all that is due, and answers how each peer stands and what it was told, in
-/// the order of their numbers. Own call.
+/// Plays turns on a new broker, doing after each all that is due, and answers how each peer stands and what it was
+/// told, in the order of their numbers. Own call.
 ///
 /// # Errors
 ///
-/// `OutOfTurn` exactly where a turn may not come, with the place of the first such turn; `NoMemory` for want of memory.
+/// `OutOfTurn` exactly where a turn may not come, with the place of the first such turn; `NoMemory` for want of
+/// memory.
 pub fn route(
     alloc: Global,
     info: BrokerInfo,
