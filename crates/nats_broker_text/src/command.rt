@@ -126,8 +126,8 @@ fn publish(
     Ok(Some(publish_of(alloc, subject, payload, respond, headers)?))
 }
 
-/// The command that a client's operation is for a broker, `None` where it is none: a publish whose subject or reply holds
-/// white space by Unicode.
+/// The command that a client's operation is for a broker, `None` where it is none: a publish whose subject or reply
+/// holds white space by Unicode.
 ///
 /// # Errors
 ///

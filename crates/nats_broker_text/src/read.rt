@@ -61,9 +61,9 @@ fn read_client(alloc: Global, text: &[u8]) -> Result<PeerFront, NoMemory>
     }
 }
 
-/// The command at the front of a peer's bytes. By the NATS client protocol as `nats_client_text` reads it, with one line
-/// more: `CONNECT`, one space, a JSON object in UTF-8 and CR LF. A publish whose subject or reply holds white space by
-/// Unicode is no command here, since the line of an `HMSG` would be read apart there. Own call.
+/// The command at the front of a peer's bytes. By the NATS client protocol as `nats_client_text` reads it, with one
+/// line more: `CONNECT`, one space, a JSON object in UTF-8 and CR LF. A publish whose subject or reply holds white
+/// space by Unicode is no command here, since the line of an `HMSG` would be read apart there. Own call.
 ///
 /// `Unfinished` where no CR LF stands there, or less than a body and its CR LF behind a line that counts it; `Bad` for
 /// any other text that begins with no command.
@@ -91,8 +91,8 @@ fn is_unfinished(front: &PeerFront) -> bool
     }
 }
 
-/// Whether a command stands whole at the front of a peer's bytes, or what is none. It answers that whatever memory there
-/// is: memory is wanting only where a command is there whole.
+/// Whether a command stands whole at the front of a peer's bytes, or what is none. It answers that whatever memory
+/// there is: memory is wanting only where a command is there whole.
 pub fn is_ready(alloc: Global, text: &[u8]) -> bool
     ensures { result ≡ is_ready text.now }
 {

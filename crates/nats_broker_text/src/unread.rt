@@ -10,8 +10,8 @@ use nats_outbuf::InBuf;
 use std::alloc::Global;
 use std::marker::Model;
 
-/// Unread bytes of a peer. Contracts see them as a list. A line that comes in small pieces is searched for its end once,
-/// whatever the pieces. Own type.
+/// Unread bytes of a peer. Contracts see them as a list. A line that comes in small pieces is searched for its end
+/// once, whatever the pieces. Own type.
 #[derive(Drop)]
 pub struct Unread {
     buf: InBuf,

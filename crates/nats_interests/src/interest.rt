@@ -1,7 +1,8 @@
 //! An interest.
 use nats_names::Subject;
 
-/// What a peer wants to hear: the messages whose subject the pattern matches. By the NATS protocol's `SUB` and `UNSUB`.
+/// What a peer wants to hear: the messages whose subject the pattern matches. By the NATS protocol's `SUB` and
+/// `UNSUB`.
 #[derive(Debug, Drop, PartialEq, Eq)]
 pub struct Interest {
     /// The number of the peer, from 1.

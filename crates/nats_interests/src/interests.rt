@@ -115,9 +115,9 @@ impl Interests {
         self.rows.as_slice()
     }
 
-    /// Something happens to the interest of `peer` under the number `sid`, if it has one. One that got as many messages
-    /// as it may closes. It takes no memory, and one step for each interest that is open. Rule of the protocol's
-    /// `UNSUB`: without a maximum an interest closes, as one that may get none.
+    /// Something happens to the interest of `peer` under the number `sid`, if it has one. One that got as many
+    /// messages as it may closes. It takes no memory, and one step for each interest that is open. Rule of the
+    /// protocol's `UNSUB`: without a maximum an interest closes, as one that may get none.
     pub fn alter(&mut self, peer: u64, sid: u64, what: Change)
         ensures { self.new ≡ altered peer sid (changed what) self.old }
     {

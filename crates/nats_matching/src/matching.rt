@@ -47,9 +47,10 @@ fn takes_rest(pattern: Token<'_>) -> bool
     }
 }
 
-/// Whether `pattern` matches `subject`: their tokens, which stand between dots, agree one by one. `*` agrees with any one
-/// token, and a last `>` with all that is left, one token or more; any other token agrees with itself, and wildcards in
-/// the subject are plain tokens. It takes no memory, and time that grows with the two lengths. Rule of the NATS protocol.
+/// Whether `pattern` matches `subject`: their tokens, which stand between dots, agree one by one. `*` agrees with any
+/// one token, and a last `>` with all that is left, one token or more; any other token agrees with itself, and
+/// wildcards in the subject are plain tokens. It takes no memory, and time that grows with the two lengths. Rule of
+/// the NATS protocol.
 pub fn matches(pattern: &str, subject: &str) -> bool
     ensures { result ≡ matches pattern.now subject.now }
 {

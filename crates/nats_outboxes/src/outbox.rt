@@ -7,8 +7,8 @@ use nats_names::NoMemory;
 use std::alloc::Global;
 use std::marker::Model;
 
-/// Bytes that wait for a peer: they grow at their end and are taken from their front. Contracts see them as a list. Own
-/// type.
+/// Bytes that wait for a peer: they grow at their end and are taken from their front. Contracts see them as a list.
+/// Own type.
 #[derive(Drop)]
 pub struct Outbox {
     bytes: BytesMut,

@@ -156,9 +156,10 @@ fn push_each(all: &mut Vec<Target>, picks: &[&Interest]) -> Result<(), NoMemory>
     Ok(())
 }
 
-/// Who gets a message, of the interests that match it: first each that is in no group, in their order; then one member
-/// of each group, by the bytes of the groups' names: the member with the least count, of several such the oldest. Rule of
-/// the protocol's queue groups, which leaves the choice to the server; by the least count is this library's.
+/// Who gets a message, of the interests that match it: first each that is in no group, in their order; then one
+/// member of each group, by the bytes of the groups' names: the member with the least count, of several such the
+/// oldest. Rule of the protocol's queue groups, which leaves the choice to the server; by the least count is this
+/// library's.
 ///
 /// # Errors
 ///
@@ -179,8 +180,8 @@ fn answers(i: &Interest, peer: u64, reply: &str) -> bool
     i.peer == peer && matches(i.pattern.as_str(), reply)
 }
 
-/// Whom to tell that nobody matched: the oldest interest of `peer` that matches the reply which it published. It takes no
-/// memory. Rule of the protocol's `no_responders`.
+/// Whom to tell that nobody matched: the oldest interest of `peer` that matches the reply which it published. It
+/// takes no memory. Rule of the protocol's `no_responders`.
 pub fn told_of(interests: &[Interest], peer: u64, reply: &str) -> Option<Target>
     ensures { result ≡ option_map target_of (find (answers peer reply.now) interests.now) }
 {

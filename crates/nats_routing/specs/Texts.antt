@@ -23,7 +23,8 @@ message_text sid subject respond None payload =
     ++ decimal (length payload) ++ crlf ++ payload ++ crlf
 message_text sid subject respond (Some block) payload =
     codes "HMSG " ++ subject ++ codes " " ++ decimal sid ++ codes " " ++ word_and_space respond
-    ++ decimal (length block) ++ codes " " ++ decimal (length block + length payload) ++ crlf ++ block ++ payload ++ crlf
+    ++ decimal (length block) ++ codes " " ++ decimal (length block + length payload) ++ crlf
+    ++ block ++ payload ++ crlf
 
 -- the block that says that nobody answers
 abbrev pub no_responders : List ℕ

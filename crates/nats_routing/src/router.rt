@@ -205,11 +205,11 @@ impl Router {
         self.send(alloc, &[target], &m)
     }
 
-    /// `peer` publishes a message, which goes to all who are to get it: first to each matching interest without a group,
-    /// in order of making, then for each group name in byte order to one matching member, the one with the least count,
-    /// of several such the oldest. Interests of `peer` itself match only where it wants an `echo`. Where nothing matched,
-    /// a reply is there and `wanted` says that the peer wants to know, its oldest interest that matches the reply gets
-    /// a message with the status 503 and no payload. Rules of the NATS protocol.
+    /// `peer` publishes a message, which goes to all who are to get it: first to each matching interest without a
+    /// group, in order of making, then for each group name in byte order to one matching member, the one with the
+    /// least count, of several such the oldest. Interests of `peer` itself match only where it wants an `echo`. Where
+    /// nothing matched, a reply is there and `wanted` says that the peer wants to know, its oldest interest that
+    /// matches the reply gets a message with the status 503 and no payload. Rules of the NATS protocol.
     ///
     /// # Errors
     ///
