@@ -26,7 +26,8 @@ while IFS= read -r line; do
         "= "*)
             wanted=${line#= }
             timeout 60 "$program" run < "$script" > /dev/null 2> "$said"
-            judge "$(tail -n 1 "$script")" $? "${wanted%% *}" "${wanted#* }"
+            status=$?
+            judge "$(tail -n 1 "$script")" "$status" "${wanted%% *}" "${wanted#* }"
             : > "$script"
             ;;
         '\n') echo >> "$script" ;;
@@ -34,10 +35,11 @@ while IFS= read -r line; do
     esac
 done < "$here/errors/scripts"
 
-while IFS='|' read -r status words wanted; do
+while IFS='|' read -r expected words wanted; do
     # shellcheck disable=SC2086
     timeout 60 "$program" $words > /dev/null 2> "$said" < /dev/null
-    judge "$words" $? "$status" "${wanted# }"
+    status=$?
+    judge "$words" "$status" "$expected" "${wanted# }"
 done < "$here/errors/words"
 
 echo "words on standard error: $passed as stored, $failed differ"
