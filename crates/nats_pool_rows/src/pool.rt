@@ -1,6 +1,7 @@
 //! A pool of servers by its calls: `pool`, its addresses with commas between them, its options, and the calls, each
 //! answered by a word.
 use crate::addr::refusal;
+use crate::handshake::push_texts;
 use nats_pool::{
     AddrError, Choice, ChoiceBox, ConnectOptions, DelayBox, Next, Outcome, Pool, ReconnectToServer,
     Server, ServerAddr, ServerInfo, Text, addrs_of_texts, reconnect_delay_default,
@@ -174,16 +175,20 @@ fn push_set(alloc: Global, pool: &mut Pool, texts: &str, out: &mut String) -> Re
     }
 }
 
-/// A server tells of an address; appends whether it is taken in without a fault.
+/// A server tells of addresses, with commas between; appends which of them are skipped.
 fn push_discovered(
     alloc: Global,
     pool: &mut Pool,
-    text: &str,
+    texts: &str,
     out: &mut String,
 ) -> Result<(), Bad> {
-    let urls = [Text::from_text(alloc, text)?];
-    let is_done = pool.discover(alloc, &urls).is_ok();
-    Ok(out.push_str(if is_done { "told" } else { "refused" })?)
+    let mut urls = Vec::new(alloc);
+    for text in texts.split(',') {
+        urls.push(Text::from_text(alloc, text)?)?;
+    }
+    out.push_str("told")?;
+    let skipped = pool.discover(alloc, urls.as_slice())?;
+    push_texts(skipped.as_slice(), out)
 }
 
 fn push_call(alloc: Global, pool: &mut Pool, call: &str, out: &mut String) -> Result<(), Bad> {
