@@ -53,7 +53,9 @@ module _ (Discovers : List (List ℕ) → List (List ℕ) → Type 0) (Stays : T
         → Greeted Discovers Stays Offers by_option name no_echo said t s new → Kept t new
     greeted_kept greeting.Waits t new s g = rw g.2 (record { start = refl; timeout = refl; is_tls = refl })
     greeted_kept (greeting.Refuses r) t new s g = absurd g
-    greeted_kept (greeting.Greets info n) t new s g = goes_kept info _ (record t { skipped = g.1 }) new s g.3
+    greeted_kept (greeting.Greets info n) t new s g =
+        let k = goes_kept info _ (record t { skipped = g.1 }) new s g.3 in
+        record { start = k.start; timeout = k.timeout; is_tls = k.is_tls }
 
     greeted_at : (said : Greeting) (t new : Talk) (s : Shake) → t.stage ≡ stage.Greets
         → Greeted Discovers Stays Offers by_option name no_echo said t s new → IsAt s new.stage
