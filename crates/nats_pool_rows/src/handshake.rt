@@ -97,7 +97,7 @@ fn fed(alloc: Global, shaking: &mut Handshake, bytes: &[u8]) -> &'static str {
     word
 }
 
-/// The same where a callback signs the nonce.
+/// What a handshake answers to one piece where a callback signs the nonce.
 fn fed_signed(alloc: Global, shaking: &mut Handshake, bytes: &[u8]) -> Result<&'static str, Bad> {
     let callback: AuthBox = Box::new(alloc, signing)?;
     let options = ConnectOptions::with_auth_callback(callback);

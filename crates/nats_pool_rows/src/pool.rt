@@ -125,7 +125,7 @@ fn push_next(alloc: Global, next: &Next, out: &mut String) -> Result<(), Bad> {
     }
 }
 
-/// The same, but of a server that it is one.
+/// What is handed out next, but of a server that it is one.
 fn any_word(next: &Next) -> &'static str {
     match next {
         Next::Try(_) => "one",
