@@ -3,8 +3,8 @@
 
 docs/DEFINITIONS.md and docs/CALLS.md are read off the sources: with --write they are written, else they must be as they
 would be written. Besides, every link and path that a page names must be there, every name in backquotes in
-docs/PROVED.md must stand in the sources, and README.md keeps its size. It prints a line for each fault, and ends with 1
-where there is one.
+docs/PROVED.md must stand in the sources, README.md keeps its size and its code stands in an example. It prints a line for each
+fault, and ends with 1 where there is one.
 """
 import re
 import sys
@@ -111,6 +111,16 @@ def prose(text):
     return "\n".join(line for line in text.splitlines() if not line.startswith(("|", "#", "    ", "<!--")))
 
 
+def strange_code(page):
+    """A page's Rust code is cut out of an example, function by function."""
+    text = page.read_text(encoding="utf-8")
+    examples = [source.read_text(encoding="utf-8") for source in TOP.glob("crates/example_*/src/main.rt")]
+    for block in re.findall(r"^```rust\n(.*?)^```$", text, re.M | re.S):
+        for part in block.rstrip("\n").split("\n\n"):
+            if not any(part in example for example in examples):
+                yield f"{page.name}: this stands in no example: {part.splitlines()[0]}"
+
+
 def wrong_size(page):
     words = len(page.read_text(encoding="utf-8").split())
     if words > README_WORDS:
@@ -132,6 +142,7 @@ def main():
         faults += wrong_paths(page)
     if (TOP / "docs/PROVED.md").is_file():
         faults += wrong_names(TOP / "docs/PROVED.md")
+    faults += strange_code(TOP / "README.md")
     faults += wrong_size(TOP / "README.md")
     for fault in faults:
         print(fault)

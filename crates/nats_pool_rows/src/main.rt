@@ -5,10 +5,8 @@
 #![tactic(auto)]
 
 mod addr;
-mod asked;
 mod credentials;
 mod handshake;
-mod options;
 mod outside;
 mod pool;
 mod round;
@@ -38,8 +36,6 @@ fn answer_word(alloc: Global, word: &str, rest: &str, out: &mut String) -> Resul
 
 fn answer_link(alloc: Global, word: &str, rest: &str, out: &mut String) -> Result<bool, Bad> {
     match word {
-        "options" => options::push_all(alloc, out)?,
-        "asked" => asked::push_all(alloc, out)?,
         "outside" => outside::push_all(alloc, out)?,
         "shake" => shake::push_shaken(alloc, rest, out)?,
         "unread" => shake::push_unread(alloc, rest, out)?,

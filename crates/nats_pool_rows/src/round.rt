@@ -7,7 +7,9 @@ use nats_dial::{ConnectError, ConnectOptions, Handshake, Linked, try_connect};
 use nats_outside::{
     FakeClock, FakeDialer, FakeDraw, FakeLink, FakeRead, FakeResolver, FakeWrite, Joined,
 };
-use nats_pool::{Delay, Pool, PoolOptions, Server, ServerInfo, addrs_of_texts};
+use nats_pool::{
+    Delay, Pool, PoolOptions, Rounds, Server, ServerAddr, ServerInfo, ServerList, addrs_of_texts,
+};
 use nats_rows::{Bad, number_of, push_bytes, push_word, spelled_bytes};
 use std::alloc::Global;
 
@@ -21,17 +23,10 @@ fn texts_of(alloc: Global, texts: &str) -> Result<Vec<&str>, Bad> {
     Ok(texts.split(',').collect(alloc)?)
 }
 
-fn pool(alloc: Global, texts: &str, limit: Option<usize>) -> Result<Pool, Bad> {
+/// The addresses with commas between them.
+fn addrs_of(alloc: Global, texts: &str) -> Result<Vec<ServerAddr>, Bad> {
     let texts = texts_of(alloc, texts)?;
-    let addrs = addrs_of_texts(alloc, texts.as_slice()).map_err(|_| Bad::Form)?;
-    let options = PoolOptions {
-        max_reconnects: limit,
-        retain_servers_order: true,
-        ignore_discovered_servers: false,
-        delay: Delay::Default,
-        choice: None,
-    };
-    Ok(Pool::new(alloc, addrs, options, 1)?)
+    addrs_of_texts(alloc, texts.as_slice()).map_err(|_| Bad::Form)
 }
 
 /// A link for each of the words.
@@ -56,7 +51,7 @@ fn world(alloc: Global, words: &[&str], dial: u64, asking: u64) -> Result<Memory
     })
 }
 
-fn connects(alloc: Global, pool: &mut Pool, world: &mut Memory) -> Connected {
+fn connects<P: Rounds>(alloc: Global, pool: &mut P, world: &mut Memory) -> Connected {
     let options = ConnectOptions::new();
     let last = ServerInfo::default(alloc);
     let connected = try_connect(alloc, pool, &options, &last, world);
@@ -76,9 +71,9 @@ fn push_outcome(alloc: Global, connected: &Connected, out: &mut String) -> Resul
     }
 }
 
-fn push_connected(
+fn push_connected<P: Rounds>(
     alloc: Global,
-    pool: &mut Pool,
+    pool: &mut P,
     world: &mut Memory,
     out: &mut String,
 ) -> Result<(), Bad> {
@@ -109,9 +104,9 @@ fn push_known(alloc: Global, pool: &Pool, out: &mut String) -> Result<(), Bad> {
     Ok(out.push_str(format!(in alloc; ", {count}")?.as_str())?)
 }
 
-fn push_in_world(
+fn push_in_world<P: Rounds>(
     alloc: Global,
-    pool: &mut Pool,
+    pool: &mut P,
     words: &[&str],
     (dial, asking): (u64, u64),
     out: &mut String,
@@ -119,8 +114,7 @@ fn push_in_world(
     let mut world = world(alloc, words, dial, asking)?;
     let pushed = push_connected(alloc, pool, &mut world, out);
     drop(world);
-    pushed?;
-    push_known(alloc, pool, out)
+    pushed
 }
 
 fn limit_of(word: &str) -> Result<Option<usize>, Bad> {
@@ -137,13 +131,28 @@ pub fn push_round(alloc: Global, rest: &str, out: &mut String) -> Result<(), Bad
         return Err(Bad::Form);
     };
     let failing = (number_of(dial)?, number_of(asking)?);
-    let mut pool = pool(alloc, addrs, limit_of(limit)?)?;
+    let addrs = addrs_of(alloc, addrs)?;
+    let options = PoolOptions {
+        max_reconnects: limit_of(limit)?,
+        retain_servers_order: true,
+        ignore_discovered_servers: false,
+        delay: Delay::Default,
+        choice: None,
+    };
+    let mut pool = Pool::new(alloc, addrs, options, 1)?;
     let pushed = push_in_world(alloc, &mut pool, links, failing, out);
+    let known = push_known(alloc, &pool, out);
     drop(pool);
-    pushed
+    pushed?;
+    known
 }
 
-fn takes_in(alloc: Global, shaking: &mut Handshake, pool: &mut Pool, info: &[u8]) -> bool {
+fn takes_in<P: ServerList>(
+    alloc: Global,
+    shaking: &mut Handshake,
+    pool: &mut P,
+    info: &[u8],
+) -> bool {
     let options = ConnectOptions::new();
     let fed = shaking.feed(alloc, info, &options, pool);
     drop(options);
@@ -152,20 +161,34 @@ fn takes_in(alloc: Global, shaking: &mut Handshake, pool: &mut Pool, info: &[u8]
     is_fed
 }
 
-fn push_taken(alloc: Global, pool: &mut Pool, info: &[u8], out: &mut String) -> Result<(), Bad> {
+fn push_taken<P: ServerList>(
+    alloc: Global,
+    pool: &mut P,
+    info: &[u8],
+    out: &mut String,
+) -> Result<(), Bad> {
     let mut shaking = begun(alloc, "a", 0).map_err(|_| Bad::NoMemory)?;
     let is_read = takes_in(alloc, &mut shaking, pool, info);
     drop(shaking);
-    out.push_str(if is_read { "read" } else { "refused" })?;
-    push_known(alloc, pool, out)
+    Ok(out.push_str(if is_read { "read" } else { "refused" })?)
 }
 
 /// Appends whether a handshake reads an INFO, whose servers a pool takes in, and what the pool knows then.
 pub fn push_taken_in(alloc: Global, rest: &str, out: &mut String) -> Result<(), Bad> {
     let (addrs, word) = rest.split_once(' ').ok_or(Bad::Form)?;
     let info = spelled_bytes(alloc, word)?;
-    let mut pool = pool(alloc, addrs, None)?;
+    let addrs = addrs_of(alloc, addrs)?;
+    let options = PoolOptions {
+        max_reconnects: None,
+        retain_servers_order: true,
+        ignore_discovered_servers: false,
+        delay: Delay::Default,
+        choice: None,
+    };
+    let mut pool = Pool::new(alloc, addrs, options, 1)?;
     let pushed = push_taken(alloc, &mut pool, info.as_slice(), out);
+    let known = push_known(alloc, &pool, out);
     drop(pool);
-    pushed
+    pushed?;
+    known
 }

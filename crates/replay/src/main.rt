@@ -3,12 +3,16 @@
 //! server and receive from it. `replay --help` and `replay --version` tell of the program.
 #![tactic(auto)]
 
+mod why;
+
 use nats_client::{NetDialer, NetResolver, SystemClock, SystemDraw, ThreadSpawner, Whole};
+use nats_explain::Kept;
 use nats_outside::Joined;
 use nats_replay::{NO_MEMORY, Reading, WRITE_FAULT, Writing, replay};
 use std::process::ExitCode;
 use std::rt::Env;
 use std::{env, io};
+use why::Run;
 
 /// What `--version` prints.
 const VERSION: &str = "replay 0.1.0, of Wichapok, a port of the core of async-nats 0.51.0\n";
@@ -19,7 +23,7 @@ usage: replay run < SCRIPT
        replay bulk N
        replay pub ADDR SUBJECT PAYLOAD
        replay sub ADDR SUBJECT N
-       replay --help | --version
+       replay --help | -h | help | --version
 
 run reads a script of turns from standard input, plays them and prints their transcript.
 bulk plays N turns that are made by a rule, 1 to 1,000,000, and prints what they came to.
@@ -27,7 +31,7 @@ pub connects to a server and publishes a message, and prints published once it w
 sub connects to a server, receives N messages, 1 to 1,000,000, and prints a line for each.
 An address is as nats://127.0.0.1:4222, or a host alone.
 
-exit status:
+exit status; any but 0 comes with a line on standard error that says why:
   0  what was asked for is printed
   2  the words are no command
   3  standard input failed
@@ -51,7 +55,7 @@ fn about(words: &[String]) -> Option<&'static str> {
         return None;
     };
     match word.as_str() {
-        "--help" => Some(HELP),
+        "--help" | "-h" | "help" => Some(HELP),
         "--version" => Some(VERSION),
         _ => None,
     }
@@ -76,7 +80,7 @@ fn main(rt: HostRuntime) -> ExitCode {
     if let Some(text) = about(words.as_slice()) {
         return tell(&rt, text);
     }
-    let mut source = Reading::new(rt.stdin());
+    let mut source = Kept::new(Reading::new(rt.stdin()), Vec::new(rt.alloc()));
     let mut sink = Writing::new(rt.stdout());
     let mut world = Whole {
         reach: Joined {
@@ -96,5 +100,13 @@ fn main(rt: HostRuntime) -> ExitCode {
         &mut sink,
         &mut world,
     );
+    let run = Run {
+        status,
+        words: words.as_slice(),
+        script: source.bytes(),
+        dialer: &world.reach.dialer,
+        resolver: &world.reach.resolver,
+    };
+    run.tell(&rt, rt.alloc());
     ExitCode::from(status)
 }

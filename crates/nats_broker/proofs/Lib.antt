@@ -1,0 +1,4 @@
+mod Items
+mod Pieces
+mod Quiet
+mod Settling

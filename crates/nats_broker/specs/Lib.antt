@@ -1,0 +1,6 @@
+pub mod Errors
+pub mod Info
+pub mod Laws
+pub mod Peers
+pub mod Playing
+pub mod Routes

@@ -1,0 +1,4 @@
+pub mod Commands
+pub mod Connect
+pub mod Laws
+pub mod Lines

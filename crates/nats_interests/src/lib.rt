@@ -1,0 +1,8 @@
+//! The interests of peers in subjects: how they are made, count their messages, and close.
+#![tactic(auto)]
+
+mod interest;
+mod interests;
+
+pub use interest::Interest;
+pub use interests::{Change, Interests};

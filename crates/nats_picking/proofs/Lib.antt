@@ -1,0 +1,2 @@
+mod Onces
+mod Picks
