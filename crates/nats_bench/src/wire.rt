@@ -21,7 +21,7 @@ pub enum Work {
     Decode,
     /// The operations of a client, made before, are written.
     Encode,
-    /// The same, and each is made, its texts copied, within the time.
+    /// The operations of a client are made, their texts copied, and written, within the time.
     Publish,
 }
 
@@ -362,7 +362,7 @@ pub fn come_to(alloc: Global, work: Work, mix: Mix, count: usize) -> Result<Outc
     Ok(outcome_of(work, mix, tally, bytes))
 }
 
-/// The same, measured some times over.
+/// What the first operations of a stream come to, measured some times over.
 pub fn measure_wire<R: Clock + AllocGlobal>(
     rt: &R,
     work: Work,

@@ -30,7 +30,7 @@ pub fn id_text<G: Rng>(alloc: Global, rng: &mut G) -> Result<String, NoMemory>
     Ok(text)
 }
 
-/// The same as a token.
+/// A text that names a client, as a token.
 ///
 /// # Errors
 ///

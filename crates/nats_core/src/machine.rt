@@ -165,7 +165,7 @@ impl Core {
         )
     }
 
-    /// The same of a call, which comes back where memory is wanting.
+    /// Plays and notes a call, which comes back where memory is wanting.
     fn note_call(&mut self, alloc: Global, call: Call) -> Result<CallReply, Call>
         requires { IsTrue (can_play (parts_in self.old) (turns.Do call)) }
         ensures reply { IfOk result (λ reply. reply ≡ call_reply (parts_in self.old) call) }

@@ -111,7 +111,7 @@ pub(crate) fn play_own(
     }
 }
 
-/// The same of a piece, whose bytes are copied for the journal alone.
+/// Plays and notes a piece, whose bytes are copied for the journal alone.
 pub(crate) fn piece_own(
     alloc: Global,
     is_kept: bool,

@@ -25,7 +25,7 @@ pub(crate) fn submit(
     handler.submit(alloc, call)
 }
 
-/// The same as a turn.
+/// Plays a call as a turn.
 fn play_call(
     alloc: Global,
     handler: &mut ConnectionHandler,

@@ -4,7 +4,6 @@ use Rattle.std.proofs.lemmas.Bool.{false≢true}
 use Rattle.std.specs.List.{concat}
 use Rattle.std.specs.declared.net.socket_addr.SocketAddr.{SocketAddr}
 use Rattle.url.specs.Parts.{Parts}
-use Rattle.nats_names.specs.declared.addr_error.AddrError.{AddrError}
 use Rattle.nats_info.specs.declared.info.ServerInfo.{ServerInfo}
 use Rattle.nats_addr.specs.Addr.{is_tls, is_websocket, host_name, port_of}
 use Rattle.nats_addr.specs.Resolving.{ResolverTold, risen, gave}
@@ -113,7 +112,7 @@ rested_onward delay a = record {
   starts = omega arith;
 }
 
-module _ {P R T : Type 0} (Takes : P → P → List (List ℕ) → Result (Unit {0}) AddrError → Type 0)
+module _ {P R T : Type 0} (Takes : P → P → List (List ℕ) → List (List ℕ) → Type 0)
     (Counts : Parts → Outcome → P → P → Type 0) (Hands : P → P → Next → Type 0) (Begins : ServerInfo → P → P → Choice → Type 0)
     (told : P → RoundTold)
     (Offers : List ℕ → Result AuthValue (List ℕ) → Type 0) (by_option : Bool) (name : Option (List ℕ)) (no_echo : Bool)
@@ -157,13 +156,13 @@ module _ {P R T : Type 0} (Takes : P → P → List (List ℕ) → Result (Unit 
       broke_cause (is_tls addr) to start look r w a e broke,
     )
 
-    module _ (takes_round : (a b : P) (urls : List (List ℕ)) (r : Result (Unit {0}) AddrError)
-        → Takes a b urls r → told b ≡ told a)
+    module _ (takes_round : (a b : P) (urls skipped : List (List ℕ))
+        → Takes a b urls skipped → told b ≡ told a)
         (counts_round : (addr : Parts) (outcome : Outcome) (a b : P) → Counts addr outcome a b → told b ≡ told_of outcome (told a))
       where
         pub took_told : (p q : P) → TookIn Takes p q → told q ≡ told p
         took_told p q (inl eq) = ap told eq
-        took_told p q (inr (urls, r, took)) = takes_round p q urls r took
+        took_told p q (inr (urls, skipped, took)) = takes_round p q urls skipped took
 
         noted_told : (addr : Parts) (f : Failure) (p : P) (e : Failure) (q : P) → Notes Counts addr f p e q → told q ≡ told p
         noted_told addr f p e q (inl (is, eq)) = ap told eq

@@ -2,7 +2,6 @@
 use Rattle.std.proofs.Common.{◌≡◌, refl, ◌∙◌, sym, ap, subst, ◌⊎◌, inl, inr, ℕ, zero, suc, ◌<◌, ◌≤◌, Bool, false, List, [], ◌∷◌, ◌++◌, take, append-nil, arith, Option, Some, None, Result, Ok, Err, IfSome}
 use Rattle.std.specs.List.{concat}
 use Rattle.std.proofs.lemmas.List.Folds.{concat-append}
-use Rattle.nats_names.specs.declared.addr_error.AddrError.{AddrError}
 use Rattle.nats_names.specs.declared.cause.Cause.TheVariants as cause
 use Rattle.nats_info.specs.declared.info.ServerInfo.{ServerInfo}
 use Rattle.nats_pool.specs.Auths.{AuthValue}
@@ -47,26 +46,28 @@ goes_at : (info : ServerInfo) (c : Course) (t new : Talk) (s : Shake) → Goes i
 goes_at info c t new shake.More g = rw g.1 tt
 goes_at info c t new shake.Done g = rw g.1 (info, refl)
 
-module _ (Discovers : List (List ℕ) → Result (Unit {0}) AddrError → Type 0) (Stays : Type 0)
+module _ (Discovers : List (List ℕ) → List (List ℕ) → Type 0) (Stays : Type 0)
     (Offers : List ℕ → Result AuthValue (List ℕ) → Type 0) (by_option : Bool) (name : Option (List ℕ)) (no_echo : Bool)
   where
     greeted_kept : (said : Greeting) (t new : Talk) (s : Shake)
         → Greeted Discovers Stays Offers by_option name no_echo said t s new → Kept t new
     greeted_kept greeting.Waits t new s g = rw g.2 (record { start = refl; timeout = refl; is_tls = refl })
     greeted_kept (greeting.Refuses r) t new s g = absurd g
-    greeted_kept (greeting.Greets info n) t new s g = goes_kept info _ t new s g.2
+    greeted_kept (greeting.Greets info n) t new s g =
+        let k = goes_kept info _ (record t { skipped = g.1 }) new s g.3 in
+        record { start = k.start; timeout = k.timeout; is_tls = k.is_tls }
 
     greeted_at : (said : Greeting) (t new : Talk) (s : Shake) → t.stage ≡ stage.Greets
         → Greeted Discovers Stays Offers by_option name no_echo said t s new → IsAt s new.stage
     greeted_at greeting.Waits t new s e g = rw (g.1, g.2, e) tt
     greeted_at (greeting.Refuses r) t new s e g = absurd g
-    greeted_at (greeting.Greets info n) t new s e g = goes_at info _ t new s g.2
+    greeted_at (greeting.Greets info n) t new s e g = goes_at info _ (record t { skipped = g.1 }) new s g.3
 
     greeted_plain : (said : Greeting) (t new : Talk) (s : Shake) → t.stage ≡ stage.Greets
         → Greeted Discovers Stays Offers by_option name no_echo said t s new → IsPlain by_option t.is_tls new.stage
     greeted_plain greeting.Waits t new s e g = rw (g.2, e) tt
     greeted_plain (greeting.Refuses r) t new s e g = absurd g
-    greeted_plain (greeting.Greets info n) t new s e g = goes_plain by_option t.is_tls info _ t new s g.2 g.1.0
+    greeted_plain (greeting.Greets info n) t new s e g = goes_plain by_option t.is_tls info _ (record t { skipped = g.1 }) new s g.3 g.2.0
 
     heeds_plain : (at : Stage) (t new : Talk) (s : Shake) → IsOpen at → t.stage ≡ at → IsPlain by_option t.is_tls at
         → Heeds Discovers Stays Offers by_option name no_echo at t (Ok s) new → IsPlain by_option t.is_tls new.stage
@@ -144,7 +145,7 @@ took_by : (taken : Option (List ℕ)) (wrote more : List ℕ) → IfSome taken (
 took_by None wrote more t = tt
 took_by (Some bytes) wrote more t = ap (λ (l : List ℕ). l ++ more) t
 
-module _ {P : Type 0} (Takes : P → P → List (List ℕ) → Result (Unit {0}) AddrError → Type 0)
+module _ {P : Type 0} (Takes : P → P → List (List ℕ) → List (List ℕ) → Type 0)
     (Offers : List ℕ → Result AuthValue (List ℕ) → Type 0) (by_option : Bool) (name : Option (List ℕ)) (no_echo : Bool)
     (by_scheme : Bool) (start timeout : ℕ)
   where

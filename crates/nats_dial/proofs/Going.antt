@@ -3,7 +3,6 @@ use Rattle.std.proofs.Common.{◌≡◌, refl, ◌∙◌, ap, subst, inl, inr, �
 use Rattle.std.proofs.lemmas.List.{drop_more, drop_all}
 use Rattle.std.specs.declared.net.socket_addr.SocketAddr.{SocketAddr}
 use Rattle.url.specs.Parts.{Parts}
-use Rattle.nats_names.specs.declared.addr_error.AddrError.{AddrError}
 use Rattle.nats_addr.specs.Addr.{host_name, port_of}
 use Rattle.nats_addr.specs.Resolving.{gave, failed, wanted}
 use Rattle.nats_addr.specs.declared.resolver.ResolveError.TheVariants as refusal
@@ -26,7 +25,7 @@ some_left n [] le = absurd (omega (arith, le))
 some_left zero (x ∷ xs) le = (x, xs, refl)
 some_left (suc n) (x ∷ xs) le = some_left n xs (omega (arith, le))
 
-module _ {P R T : Type 0} (Takes : P → P → List (List ℕ) → Result (Unit {0}) AddrError → Type 0)
+module _ {P R T : Type 0} (Takes : P → P → List (List ℕ) → List (List ℕ) → Type 0)
     (Counts : Parts → Outcome → P → P → Type 0) (Hands : P → P → Next → Type 0) (Begins : ServerInfo → P → P → Choice → Type 0)
     (told : P → RoundTold)
     (Offers : List ℕ → Result AuthValue (List ℕ) → Type 0) (by_option : Bool) (name : Option (List ℕ)) (no_echo : Bool)

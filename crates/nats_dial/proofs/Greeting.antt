@@ -4,7 +4,6 @@ use Rattle.std.specs.Global.{Vec}
 use Rattle.std.specs.List.{concat}
 use Rattle.url.specs.Parts.{Parts}
 use Rattle.nats_addr.specs.Addr.{is_tls, is_websocket}
-use Rattle.nats_names.specs.declared.addr_error.AddrError.{AddrError}
 use Rattle.nats_info.specs.declared.info.ServerInfo.{ServerInfo}
 use Rattle.nats_pool.specs.Auths.{AuthValue}
 use Rattle.nats_outside.specs.Told.{ReadTold, WriteTold, ClockTold, IsFresh}
@@ -17,8 +16,9 @@ use Rattle.nats_handshake.specs.Errors.{Failure}
 use Rattle.nats_wire.specs.Operations.{front, sight}
 use Rattle.nats_handshake.specs.Heard.{Heard}
 use Rattle.nats_handshake.specs.Opened.{opened, opened_in}
-use Rattle.nats_handshake.specs.Shaking.{Talk, finished, by_content, new_talk}
+use Rattle.nats_handshake.specs.Shaking.{Talk, finished, new_talk}
 use Rattle.nats_dial.specs.Lines.{Line, IsAt, IsPlain, InTime}
+use Rattle.nats_dial.specs.declared.linked.Greeted.{Greeted}
 use Rattle.nats_dial.specs.Taking.{HasTook, TookIn}
 use Rattle.nats_dial.specs.Tries.{no_websocket}
 use Rattle.nats_dial.specs.Greets.{Begun, Finished, Greets}
@@ -86,23 +86,23 @@ abbrev rest_or : List ℕ → Option (ServerInfo × List ℕ) → List ℕ
 rest_or rest None = rest
 rest_or rest (Some pair) = pair.1
 
-module _ {P : Type 0} (Takes : P → P → List (List ℕ) → Result (Unit {0}) AddrError → Type 0)
+module _ {P : Type 0} (Takes : P → P → List (List ℕ) → List (List ℕ) → Type 0)
     (Offers : List ℕ → Result AuthValue (List ℕ) → Type 0) (by_option : Bool) (name : Option (List ℕ)) (no_echo : Bool)
     (timeout : ℕ) (addr : Parts) (start : ℕ)
   where
     up_of : (info : ServerInfo) (text wrote : List ℕ) (t : Talk) (r : ReadTold) (w : WriteTold) (c : ClockTold) (p q : P)
-        (ended : ServerInfo × Vec ℕ) → t.stage ≡ stage.Linked info
+        (ended : Greeted) → t.stage ≡ stage.Linked info
         → Line Offers by_option name no_echo (is_tls addr) start timeout text wrote t r w → InTime start timeout c → r.wait ≡ None
-        → HasTook Takes t.stage p q
-        → Some (by_content ended) ≡ finished t.stage t.unread
+        → HasTook Takes t.stage t.skipped p q
+        → Some (ended.info, ended.rest.items) ≡ finished t.stage t.unread → ended.skipped.items ≡ t.skipped
         → Greets Takes Offers by_option name no_echo timeout addr start p (Ok ended) r w c q
-    up_of info text wrote t r w c p q ended at line in_time no_wait took is =
+    up_of info text wrote t r w c p q ended at line in_time no_wait took is skipped_is =
         let heard = subst (λ (s : Stage). Heard Offers name no_echo s t.unread wrote text) at line.heard in
-        let had = subst (λ (s : Stage). HasTook Takes s p q) at took in
+        let had = subst (λ (s : Stage). HasTook Takes s t.skipped p q) at took in
         let same = is ∙ ap (λ (s : Stage). finished s t.unread) at in
-        let info_is : ended.0 ≡ info = ap (info_or info) same in
-        let rest_is : ended.1.items ≡ t.unread = ap (rest_or t.unread) same in
-        rw (info_is, rest_is) (
+        let info_is : ended.info ≡ info = ap (info_or info) same in
+        let rest_is : ended.rest.items ≡ t.unread = ap (rest_or t.unread) same in
+        rw (info_is, rest_is, skipped_is) (
           record {
             text = text;
             wrote = wrote;
@@ -124,10 +124,10 @@ module _ {P : Type 0} (Takes : P → P → List (List ℕ) → Result (Unit {0})
 
     -- a handshake that succeeded
     pub greeted : (text wrote : List ℕ) (t : Talk) (r : ReadTold) (w : WriteTold) (c : ClockTold) (p q : P)
-        (result : Result (ServerInfo × Vec ℕ) Failure) → IsAt shake.Done t.stage
+        (result : Result Greeted Failure) → IsAt shake.Done t.stage
         → Line Offers by_option name no_echo (is_tls addr) start timeout text wrote t r w → InTime start timeout c → r.wait ≡ None
-        → HasTook Takes t.stage p q
+        → HasTook Takes t.stage t.skipped p q
         → Finished t result → Greets Takes Offers by_option name no_echo timeout addr start p result r w c q
     greeted text wrote t r w c p q (Ok ended) at line in_time no_wait took is =
-        up_of at.0 text wrote t r w c p q ended at.1 line in_time no_wait took is
+        up_of at.0 text wrote t r w c p q ended at.1 line in_time no_wait took is.0 is.1
     greeted text wrote t r w c p q (Err e) at line in_time no_wait took never = absurd (never at.0 at.1)

@@ -1,7 +1,6 @@
 -- Counts that rise, and causes that go on from an earlier moment.
 use Rattle.std.proofs.Common.{◌≡◌, refl, ap, ◌≢◌, inl, inr, ℕ, zero, suc, ◌+◌, ◌-◌, ◌≤◌, arith, Bool, true, false, List, ◌∷◌, Option, Result, if◌then◌else◌}
 use Rattle.std.proofs.lemmas.Bool.{false≢true}
-use Rattle.nats_names.specs.declared.addr_error.AddrError.{AddrError}
 use Rattle.nats_addr.specs.Resolving.{risen}
 use Rattle.nats_pool.specs.Auths.{AuthValue}
 use Rattle.nats_pool.specs.declared.pool_parts.Planned.{Planned}
@@ -79,7 +78,7 @@ ended_word zero zero (suc e) le = λ is. false≢true (ap is_fine is)
 ended_word zero (suc g) e le = λ is. false≢true (ap is_fine is)
 ended_word (suc f) g e le = λ is. false≢true (ap is_fine is)
 
-module _ {P : Type 0} (Takes : P → P → List (List ℕ) → Result (Unit {0}) AddrError → Type 0)
+module _ {P : Type 0} (Takes : P → P → List (List ℕ) → List (List ℕ) → Type 0)
     (Offers : List ℕ → Result AuthValue (List ℕ) → Type 0) (by_option : Bool) (name : Option (List ℕ)) (no_echo : Bool)
     (timeout : ℕ)
   where

@@ -2,7 +2,6 @@
 use Rattle.std.proofs.Common.{◌≡◌, ◌∙◌, ap, subst, ℕ, Bool, List, Option, Result, Ok, Err}
 use Rattle.std.specs.declared.net.socket_addr.SocketAddr.{SocketAddr}
 use Rattle.url.specs.Parts.{Parts}
-use Rattle.nats_names.specs.declared.addr_error.AddrError.{AddrError}
 use Rattle.nats_pool.specs.Auths.{AuthValue}
 use Rattle.nats_outside.specs.Told.{Seen, ReadTold, WriteTold, ClockTold, dialed, hung_up, started, looked}
 use Rattle.nats_handshake.specs.Errors.{Failure}
@@ -39,7 +38,7 @@ pub returned_is : (within : ℕ) (to : SocketAddr) (start look : ℕ) (r : ReadT
 returned_is within to start look r w a s d g b first second third fourth =
     fourth ∙ ap (λ (x : Seen). record x { dialer = hung_up r w x.dialer }) (upped_is within to start look a s d g first second third)
 
-module _ {P : Type 0} (Takes : P → P → List (List ℕ) → Result (Unit {0}) AddrError → Type 0)
+module _ {P : Type 0} (Takes : P → P → List (List ℕ) → List (List ℕ) → Type 0)
     (Offers : List ℕ → Result AuthValue (List ℕ) → Type 0) (by_option : Bool) (name : Option (List ℕ)) (no_echo : Bool)
     (timeout : ℕ) (addr : Parts)
   where

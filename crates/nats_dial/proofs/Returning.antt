@@ -2,7 +2,6 @@
 use Rattle.std.proofs.Common.{◌≡◌, refl, ◌∙◌, sym, ap, arith, inl, inr, ℕ, zero, suc, ◌+◌, ◌<◌, Bool, true, false, List, [], ◌∷◌, ◌++◌, drop, append_assoc, append-nil, Option, Some, None, Result, Ok, Err}
 use Rattle.std.specs.declared.net.socket_addr.SocketAddr.{SocketAddr}
 use Rattle.url.specs.Parts.{Parts}
-use Rattle.nats_names.specs.declared.addr_error.AddrError.{AddrError}
 use Rattle.nats_info.specs.declared.info.ServerInfo.{ServerInfo}
 use Rattle.nats_addr.specs.Addr.{is_tls, is_websocket, host_name, port_of}
 use Rattle.nats_addr.specs.Resolving.{risen}
@@ -92,7 +91,7 @@ out_back a b c pieces taken out links backs ended = record {
       (grew_ended pieces taken b.dialer.ended));
 }
 
-module _ {P R T : Type 0} (Takes : P → P → List (List ℕ) → Result (Unit {0}) AddrError → Type 0)
+module _ {P R T : Type 0} (Takes : P → P → List (List ℕ) → List (List ℕ) → Type 0)
     (Counts : Parts → Outcome → P → P → Type 0) (Hands : P → P → Next → Type 0) (Begins : ServerInfo → P → P → Choice → Type 0)
     (told : P → RoundTold)
     (Offers : List ℕ → Result AuthValue (List ℕ) → Type 0) (by_option : Bool) (name : Option (List ℕ)) (no_echo : Bool)
@@ -194,8 +193,8 @@ module _ {P R T : Type 0} (Takes : P → P → List (List ℕ) → Result (Unit 
       same.1 ∙ ap (λ (t : RoundTold). t.limit) is,
     )
 
-    module _ (takes_round : (a b : P) (urls : List (List ℕ)) (r : Result (Unit {0}) AddrError)
-        → Takes a b urls r → told b ≡ told a)
+    module _ (takes_round : (a b : P) (urls skipped : List (List ℕ))
+        → Takes a b urls skipped → told b ≡ told a)
         (counts_round : (addr : Parts) (outcome : Outcome) (a b : P) → Counts addr outcome a b → told b ≡ told_of outcome (told a))
       where
         tried_up : (addr : Parts) (to : SocketAddr) (a : Seen) (p : P) (l : Linked R T) (b : Seen) (q : P)
@@ -211,7 +210,7 @@ module _ {P R T : Type 0} (Takes : P → P → List (List ℕ) → Result (Unit 
             less,
             up,
           ),
-          same_on p m q (takes_round p m l.info.connect_urls (Ok tt) takes) (
+          same_on p m q (takes_round p m l.info.connect_urls l.skipped.items takes) (
             ap (λ (t : RoundTold). t.round) (counts_round addr outcome.Connected m q counts),
             ap (λ (t : RoundTold). t.limit) (counts_round addr outcome.Connected m q counts),
           ),

@@ -2,7 +2,6 @@
 use Rattle.std.specs.Prelude.{◌≡◌, ◌⊎◌, ℕ, zero, suc, ◌+◌, ◌≤◌, ◌<◌, Bool, false, List, [], length, Option, Some, None, Result, Ok, Err, IfSome}
 use Rattle.std.specs.List.{concat}
 use Rattle.std.specs.Io.KnownBytes.{append_known}
-use Rattle.nats_names.specs.declared.addr_error.AddrError.{AddrError}
 use Rattle.nats_names.specs.declared.cause.Cause.TheVariants as cause
 use Rattle.nats_names.specs.declared.failed.Failed.{Failed}
 use Rattle.nats_info.specs.declared.info.ServerInfo.{ServerInfo}
@@ -120,10 +119,10 @@ abbrev pub IsAt : Shake → Stage → Type 0
 IsAt shake.More at = IsOpen at
 IsAt shake.Done at = (info : ServerInfo) × (at ≡ stage.Linked info)
 
--- `Takes p q urls r` says what becomes of a list of servers p at the addresses of an INFO; `Offers nonce r` that r
+-- `Takes p q urls skipped` says what becomes of a list of servers p at the addresses of an INFO; `Offers nonce r` that r
 -- is what the client authenticates by for a nonce; it wants TLS by an option, or doesn't; it has this name; it
 -- wants no echo; the address is of `tls`, or isn't; the handshake began then and may take so long
-module _ {P : Type 0} (Takes : P → P → List (List ℕ) → Result (Unit {0}) AddrError → Type 0)
+module _ {P : Type 0} (Takes : P → P → List (List ℕ) → List (List ℕ) → Type 0)
     (Offers : List ℕ → Result AuthValue (List ℕ) → Type 0) (by_option : Bool) (name : Option (List ℕ)) (no_echo : Bool)
     (by_scheme : Bool) (start timeout : ℕ)
   where

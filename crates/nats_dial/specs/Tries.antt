@@ -2,7 +2,6 @@
 use Rattle.std.specs.Prelude.{◌≡◌, ◌⊎◌, ℕ, ◌+◌, ◌<◌, Bool, true, false, List, [], ◌∷◌, Option, Some, None, Result, Ok, Err}
 use Rattle.std.specs.declared.net.socket_addr.SocketAddr.{SocketAddr}
 use Rattle.url.specs.Parts.{Parts}
-use Rattle.nats_names.specs.declared.addr_error.AddrError.{AddrError}
 use Rattle.nats_names.specs.declared.cause.Cause.TheVariants as cause
 use Rattle.nats_names.specs.Causes.{source_text}
 use Rattle.nats_info.specs.declared.info.ServerInfo.{ServerInfo}
@@ -124,7 +123,7 @@ abbrev pub rested : ℕ → Seen → Seen
 rested ms a = record a { clock = slept ms a.clock }
 
 -- why a handshake with a server gave no link: it is a websocket's, or the handshake broke
-abbrev pub Unshaken : {P : Type 0} → (P → P → List (List ℕ) → Result (Unit {0}) AddrError → Type 0)
+abbrev pub Unshaken : {P : Type 0} → (P → P → List (List ℕ) → List (List ℕ) → Type 0)
     → (List ℕ → Result AuthValue (List ℕ) → Type 0) → Bool → Option (List ℕ) → Bool → ℕ → Parts → ℕ → Failure
     → ReadTold → WriteTold → ClockTold → Type 0
 Unshaken Takes Offers by_option name no_echo timeout addr start e r w c =
@@ -140,7 +139,7 @@ Notes Counts addr f p e q =
 -- authenticates by; it wants
 -- TLS by an option, or doesn't; it has this name; it wants no echo; a handshake may take so long; `read_of` and
 -- `write_of` say what its halves told
-module _ {P R T : Type 0} (Takes : P → P → List (List ℕ) → Result (Unit {0}) AddrError → Type 0)
+module _ {P R T : Type 0} (Takes : P → P → List (List ℕ) → List (List ℕ) → Type 0)
     (Counts : Parts → Outcome → P → P → Type 0) (Hands : P → P → Next → Type 0)
     (Begins : ServerInfo → P → P → Choice → Type 0)
     (told : P → RoundTold)
@@ -158,7 +157,7 @@ module _ {P R T : Type 0} (Takes : P → P → List (List ℕ) → Result (Unit 
     abbrev pub Reaches : Parts → SocketAddr → Seen → P → Result (Linked R T) Failure → Seen → P → Type 0
     Reaches addr to a p (Ok l) b q = (start : ℕ) × (look : ℕ) × (b ≡ upped timeout to start look a)
         × IsUp Offers by_option (is_tls addr) name no_echo l.info l.rest.items (read_of l.read) (write_of l.write)
-        × Takes p q l.info.connect_urls (Ok tt) × (look < start + timeout)
+        × Takes p q l.info.connect_urls l.skipped.items × (look < start + timeout)
     Reaches addr to a p (Err e) b q = Unreached addr to a e b × TookIn Takes p q
 
     -- the same, and the pool was told how it went

@@ -7,6 +7,7 @@ ghost use Rattle.nats_dial.specs.Tries.{Reaches, Tries, Notes, failure_text};
 
 use crate::greet::greet_in;
 use crate::link::{fault, wanting};
+use crate::linked::Greeted;
 use crate::{Linked, Rounds};
 use nats_handshake::{ConnectError, ConnectErrorKind, ConnectOptions};
 use nats_names::{Failed, NoMemory, Text};
@@ -39,11 +40,16 @@ fn reach<P: Rounds, W: Reach>(
             match greet_in(
                 alloc, addr, start, options, pool, &mut read, &mut write, world,
             ) {
-                Ok((info, rest)) => Ok(Linked {
+                Ok(Greeted {
+                    info,
+                    rest,
+                    skipped,
+                }) => Ok(Linked {
                     info,
                     rest,
                     read,
                     write,
+                    skipped,
                 }),
                 Err(error) => {
                     seen::hang_up(world, read, write);

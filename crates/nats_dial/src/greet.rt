@@ -7,18 +7,25 @@ ghost use Rattle.nats_dial.specs.Lines.{Looked};
 ghost use Rattle.nats_dial.specs.Greets.{Begun, Finished, Greets};
 
 use crate::link::wanting;
+use crate::linked::Greeted;
 use crate::shake::shake_hands;
 use nats_handshake::{ConnectError, ConnectOptions, Handshake};
 use nats_outside::{Clock, LinkRead, LinkWrite, Reach};
-use nats_pool::{ServerAddr, ServerInfo, ServerList};
+use nats_pool::{ServerAddr, ServerList};
 use std::alloc::Global;
 
-// What a handshake leaves that succeeded: the INFO and the rest.
-fn finished(shaking: Handshake) -> Result<(ServerInfo, Vec<u8>), ConnectError>
+// What a handshake leaves that succeeded.
+fn finished(alloc: Global, shaking: Handshake) -> Result<Greeted, ConnectError>
     ensures { Finished shaking result }
 {
+    let mut shaking = shaking;
+    let skipped = shaking.take_skipped(alloc);
     match shaking.finish() {
-        Some(ended) => Ok(ended),
+        Some((info, rest)) => Ok(Greeted {
+            info,
+            rest,
+            skipped,
+        }),
         None => Err(wanting()),
     }
 }
@@ -45,7 +52,7 @@ fn greet<R: LinkRead, T: LinkWrite, C: Clock, P: ServerList>(
     read: &mut R,
     write: &mut T,
     clock: &mut C,
-) -> Result<(ServerInfo, Vec<u8>), ConnectError>
+) -> Result<Greeted, ConnectError>
     ensures looked { Looked (C.clock_told clock.old) (C.clock_told clock.new) }
     ensures beside { C.beside_clock clock.new ≡ C.beside_clock clock.old }
     ensures greets { IsFresh (R.read_told read.old) (T.write_told write.old) → Greets P.Takes
@@ -55,7 +62,7 @@ fn greet<R: LinkRead, T: LinkWrite, C: Clock, P: ServerList>(
 {
     let mut shaking = begin(alloc, addr, start, options)?;
     shake_hands(alloc, &mut shaking, options, pool, read, write, clock)?;
-    finished(shaking)
+    finished(alloc, shaking)
 }
 
 // The same over all that the world tells.
@@ -68,7 +75,7 @@ pub(crate) fn greet_in<R: LinkRead, T: LinkWrite, W: Reach, P: ServerList>(
     read: &mut R,
     write: &mut T,
     world: &mut W,
-) -> Result<(ServerInfo, Vec<u8>), ConnectError>
+) -> Result<Greeted, ConnectError>
     ensures told { W.seen world.new ≡ record (W.seen world.old) {
       clock = looked ((W.seen world.new).clock.last) ((W.seen world.old).clock);
     } }

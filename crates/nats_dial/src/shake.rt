@@ -47,8 +47,8 @@ pub fn shake_hands<R: LinkRead, T: LinkWrite, C: Clock, P: ServerList>(
         (Offers SignerAnswers AuthAnswers options.now.signer options.now.auth_callback (auth_value options.now.auth))
         options.now.tls_required options.now.name options.now.no_echo by_scheme start timeout
         result shaking.new (R.read_told read.new) (T.write_told write.new) (C.clock_told clock.new) }
-    ensures took { (p : P) → IsOpen shaking.old.stage → HasTook P.Takes shaking.old.stage p pool.old
-        → TookShaken P.Takes p result shaking.new.stage pool.new }
+    ensures took { (p : P) → IsOpen shaking.old.stage → HasTook P.Takes shaking.old.stage shaking.old.skipped p pool.old
+        → TookShaken P.Takes p result shaking.new pool.new }
 {
     'exchanges: for _ in 0..u64::MAX {
         match exchange(alloc, shaking, options, pool, read, write, clock) {

@@ -1,7 +1,6 @@
 -- A handshake that is fed a text in pieces heard the whole text.
 use Rattle.std.proofs.Common.{◌≡◌, refl, ◌∙◌, sym, ap, subst, inl, inr, ℕ, Bool, List, [], ◌++◌, drop, append_assoc, append-nil, Option, Result, Ok, Err}
 use Rattle.std.proofs.lemmas.List.{drop-append-le}
-use Rattle.nats_names.specs.declared.addr_error.AddrError.{AddrError}
 use Rattle.nats_info.specs.declared.info.ServerInfo.{ServerInfo}
 use Rattle.nats_pool.specs.Auths.{AuthValue}
 use Rattle.nats_wire.specs.Operations.{message, info_op, error_op, ok_op, ping_op, pong_op, Front, unfinished, got, fault, front}
@@ -124,7 +123,7 @@ ends_behind Offers name no_echo (stage.Asks info left) unread wrote text going h
 ends_behind Offers name no_echo (stage.Linked info) unread wrote text going h = absurd going
 ends_behind Offers name no_echo (stage.Refused kind) unread wrote text going h = absurd going
 
-module _ (Discovers : List (List ℕ) → Result (Unit {0}) AddrError → Type 0) (Stays : Type 0)
+module _ (Discovers : List (List ℕ) → List (List ℕ) → Type 0) (Stays : Type 0)
     (Offers : List ℕ → Result AuthValue (List ℕ) → Type 0) (by_option : Bool) (name : Option (List ℕ)) (no_echo : Bool)
   where
     greeted_by : (f : Front) (t new : Talk) (s : Shake) → t.stage ≡ stage.Greets → front t.unread ≡ f
@@ -134,7 +133,8 @@ module _ (Discovers : List (List ℕ) → Result (Unit {0}) AddrError → Type 0
         rw (h.2, g) ([], sym (append-nil t.out), (refl, refl, ap greeting_at e))
     greeted_by (fault k) t new s g e h = absurd h
     greeted_by (got (info_op info) n) t new s g e h =
-        goes_first Offers name no_echo s info n h.0 t new (course operations_most (drop n t.unread)) refl e h.1.2 h.2
+        goes_first Offers name no_echo s info n h.0 (record t { skipped = h.1 }) new (course operations_most (drop n t.unread))
+        refl e h.2.2 h.3
     greeted_by (got (message sid m) k) t new s g e h = absurd h
     greeted_by (got (error_op error) k) t new s g e h = absurd h
     greeted_by (got ok_op k) t new s g e h = absurd h
@@ -161,7 +161,7 @@ module _ (Discovers : List (List ℕ) → Result (Unit {0}) AddrError → Type 0
     repels greeting.Waits t text e same (s, w) = w
     repels (greeting.Refuses r) t text e same (s, w) = w
     repels (greeting.Greets info n) t text e same (inl d) = inl d
-    repels (greeting.Greets info n) t text e same (inr (auth, takes, stops)) =
+    repels (greeting.Greets info n) t text e same (inr (auth, skipped, takes, stops)) =
         inr (inl (subst (λ (u : List ℕ). Stops ((course operations_most (drop n u)).verdict) e) same stops))
 
     -- why a handshake refuses that heard this text

@@ -2,7 +2,6 @@
 use Rattle.std.proofs.Common.{◌≡◌, refl, ◌∙◌, sym, ap, Bool, ℕ, List, [], ◌∷◌, ◌++◌, drop, append_assoc, Option, Some, None, Result, Ok}
 use Rattle.std.specs.List.{concat}
 use Rattle.std.specs.Option.{option_or}
-use Rattle.nats_names.specs.declared.addr_error.AddrError.{AddrError}
 use Rattle.nats_info.specs.declared.info.ServerInfo.{ServerInfo}
 use Rattle.nats_pool.specs.Auths.{AuthValue}
 use Rattle.nats_wire.specs.Operations.{info_op, front}
@@ -111,7 +110,7 @@ succeeds_opened info rest said text later s =
     ap (λ (f : _). opened_at (greeting_at f) text later) s.first
     ∙ ap (λ (c : Course). opened_by c.verdict info c later) s.all
 
-module _ (Discovers : List (List ℕ) → Result (Unit {0}) AddrError → Type 0) (Stays : Type 0)
+module _ (Discovers : List (List ℕ) → List (List ℕ) → Type 0) (Stays : Type 0)
     (Offers : List ℕ → Result AuthValue (List ℕ) → Type 0) (by_option : Bool) (name : Option (List ℕ)) (no_echo : Bool)
   where
     greeted_none : (said : Greeting) (t new : Talk) (later : List (List ℕ))
@@ -120,7 +119,7 @@ module _ (Discovers : List (List ℕ) → Result (Unit {0}) AddrError → Type 0
     greeted_none (greeting.Refuses r) t new later g = absurd g
     greeted_none (greeting.Greets info n) t new later g =
         let c = course operations_most (drop n t.unread) in
-        ap (λ (v : Verdict). opened_by v info c later) (answer_waits c.verdict g.2.0)
+        ap (λ (v : Verdict). opened_by v info c later) (answer_waits c.verdict g.3.0)
 
     -- while more is due the text holds no success
     pub more_unopened : (at : Stage) (t new : Talk) (unread wrote text bytes : List ℕ) (later : List (List ℕ)) → IsOpen at

@@ -1,7 +1,6 @@
 -- What a handshake makes of want of memory.
 use Rattle.std.proofs.Common.{◌≡◌, refl, ◌∙◌, sym, ap, subst, inl, inr, ℕ, ◌+◌, Bool, false, List, ◌++◌, drop, take, length, Option, Result, Ok, Err, Some, None}
 use Rattle.std.proofs.lemmas.List.{drop-drop, take_at}
-use Rattle.nats_names.specs.declared.addr_error.AddrError.{AddrError}
 use Rattle.nats_pool.specs.Auths.{AuthValue}
 use Rattle.nats_wire.specs.Operations.{front}
 use Rattle.nats_handshake.specs.Errors.{Failure}
@@ -18,7 +17,7 @@ use Rattle.nats_info.specs.declared.info.ServerInfo.{ServerInfo}
 use Rattle.nats_handshake.specs.declared.error.ConnectErrorKind.{ConnectErrorKind}
 use Rattle.nats_handshake.specs.declared.error.ConnectErrorKind.TheVariants as kind
 use Rattle.nats_handshake.specs.Credentials.{RefusedAs}
-use Rattle.nats_handshake.specs.Shaking.{Talk, wanting, wants_tls, operations_most, opening, staged, advanced, DiscoverFails, Takes, Declines, Welcomes, Opens, Goes, Follows, StopsOrWants, Took, WentOn, first_course, Repelled, Hears, Heeds, Settles, FedOpen, FedAt, left_by, refused_of, with_bytes}
+use Rattle.nats_handshake.specs.Shaking.{Talk, wanting, wants_tls, operations_most, opening, staged, advanced, Takes, HasTaken, Declines, Welcomes, Opens, Goes, Follows, Entered, StopsOrWants, Took, WentOn, first_course, Repelled, Hears, Heeds, Settles, FedOpen, FedAt, left_by, refused_of, with_bytes}
 
 abbrev refusal_of : ConnectErrorKind → Result Shake Failure
 refusal_of k = Err (k, None)
@@ -34,7 +33,7 @@ entered info n t mid new c k s e took same = rw (← e) (
       (sym (drop-drop c.taken n t.unread)),
 )
 
-module _ (Discovers : List (List ℕ) → Result (Unit {0}) AddrError → Type 0) (Stays : Type 0)
+module _ (Discovers : List (List ℕ) → List (List ℕ) → Type 0) (Stays : Type 0)
     (Offers : List ℕ → Result AuthValue (List ℕ) → Type 0) (by_option : Bool) (name : Option (List ℕ)) (no_echo : Bool)
   where
     pub repelled_wanting : (said : Greeting) (t : Talk) → Stays → Repelled Discovers Stays Offers by_option name no_echo said t wanting
@@ -54,21 +53,9 @@ module _ (Discovers : List (List ℕ) → Result (Unit {0}) AddrError → Type 0
     heeds_same (stage.Linked info) t mid e h = h.1.1
     heeds_same (stage.Refused kind) t mid e h = h
 
-    pub declines_undiscovered : (by_scheme : Bool) (info : ServerInfo) (k : ConnectErrorKind) (source : Option Cause)
-        → wants_tls by_option by_scheme info ≡ false → DiscoverFails Discovers Stays info.connect_urls k source
-        → Declines Discovers Stays Offers by_option name no_echo by_scheme info k source
-    declines_undiscovered by_scheme info kind.ServerParse source t d = (t, d)
-    declines_undiscovered by_scheme info kind.NoMemory source t d = (d.0, inl d.1)
-    declines_undiscovered by_scheme info kind.Dns source t d = absurd d
-    declines_undiscovered by_scheme info kind.Authentication source t d = absurd d
-    declines_undiscovered by_scheme info kind.AuthorizationViolation source t d = absurd d
-    declines_undiscovered by_scheme info kind.TimedOut source t d = absurd d
-    declines_undiscovered by_scheme info kind.Tls source t d = absurd d
-    declines_undiscovered by_scheme info kind.Io source t d = absurd d
-    declines_undiscovered by_scheme info kind.MaxReconnects source t d = absurd d
-
-    declines_unoffered : (by_scheme : Bool) (info : ServerInfo) (k : ConnectErrorKind) (source : Option Cause)
-        → wants_tls by_option by_scheme info ≡ false → Discovers info.connect_urls (Ok tt) → RefusedAs k source (Offers info.nonce)
+    pub declines_unoffered : (by_scheme : Bool) (info : ServerInfo) (k : ConnectErrorKind) (source : Option Cause)
+        → wants_tls by_option by_scheme info ≡ false → HasTaken Discovers Stays Offers by_option name no_echo info
+        → RefusedAs k source (Offers info.nonce)
         → Declines Discovers Stays Offers by_option name no_echo by_scheme info k source
     declines_unoffered by_scheme info kind.Authentication source t d r = (t, d, r)
     declines_unoffered by_scheme info kind.NoMemory source t d r = (r, inr d)
@@ -80,28 +67,28 @@ module _ (Discovers : List (List ℕ) → Result (Unit {0}) AddrError → Type 0
     declines_unoffered by_scheme info kind.Io source t d r = absurd r
     declines_unoffered by_scheme info kind.MaxReconnects source t d r = absurd r
 
-    pub welcomes_opened : (by_scheme : Bool) (info : ServerInfo) (res : Result (Vec ℕ) Failure)
-        → wants_tls by_option by_scheme info ≡ false → Discovers info.connect_urls (Ok tt) → Opens Offers name no_echo info.nonce res
-        → Welcomes Discovers Stays Offers by_option name no_echo by_scheme info res
-    welcomes_opened by_scheme info (Ok out) t d o = (o.0, (t, d, o.1), o.2)
-    welcomes_opened by_scheme info (Err e) t d o = declines_unoffered by_scheme info e.0 e.1 t d o
+    pub takes_opened : (by_scheme : Bool) (info : ServerInfo) (skipped : Vec (List ℕ)) (out : Vec ℕ)
+        → wants_tls by_option by_scheme info ≡ false → Discovers info.connect_urls skipped.items
+        → Opens Offers name no_echo info.nonce (Ok out)
+        → Welcomes Discovers Stays Offers by_option name no_echo by_scheme info (Ok (out, skipped))
+    takes_opened by_scheme info skipped out t d o = (o.0, (t, d, o.1), o.2)
 
-    repelled_entered : (info : ServerInfo) (n : ℕ) (auth : AuthValue) (t : Talk) (e : Failure)
-        → Takes Discovers Stays Offers by_option name no_echo t.is_tls info auth
+    repelled_entered : (info : ServerInfo) (n : ℕ) (auth : AuthValue) (skipped : List (List ℕ)) (t : Talk) (e : Failure)
+        → Takes Discovers Stays Offers by_option name no_echo t.is_tls info skipped auth
         → StopsOrWants ((first_course Discovers Stays Offers by_option name no_echo n auth t.unread).verdict) e
         → Repelled Discovers Stays Offers by_option name no_echo (greeting.Greets info n) t e
-    repelled_entered info n auth t e takes (inl stops) = inr (auth, takes, stops)
-    repelled_entered info n auth t e takes (inr w) = rw w (inl (refl, inr takes.1))
+    repelled_entered info n auth skipped t e takes (inl stops) = inr (auth, skipped, takes, stops)
+    repelled_entered info n auth skipped t e takes (inr w) = rw w (inl (refl, inr (skipped, takes.1)))
 
     -- what comes of the INFO and what stands behind it
     pub hears_entered : (said : Greeting) (info : ServerInfo) (n : ℕ) (auth : AuthValue) (t new : Talk) (out : List ℕ)
-        (res : Result Shake Failure) → said ≡ greeting.Greets info n
-        → Takes Discovers Stays Offers by_option name no_echo t.is_tls info auth → out ≡ opening name no_echo auth
-        → Follows info (behind_out out (course operations_most (drop n t.unread))) t res new
+        (skipped : List (List ℕ)) (res : Result Shake Failure) → said ≡ greeting.Greets info n
+        → Takes Discovers Stays Offers by_option name no_echo t.is_tls info skipped auth → out ≡ opening name no_echo auth
+        → Entered info (behind_out out (course operations_most (drop n t.unread))) skipped t res new
         → Hears Discovers Stays Offers by_option name no_echo said t res new
-    hears_entered said info n auth t new out (Ok s) e takes o f = rw e (auth, takes, rw o at f)
-    hears_entered said info n auth t new out (Err r) e takes o f =
-        rw e (repelled_entered info n auth t r takes f.0, f.1)
+    hears_entered said info n auth t new out skipped (Ok s) e takes o f = rw e (auth, skipped, takes, rw o at f)
+    hears_entered said info n auth t new out skipped (Err r) e takes o f =
+        rw e (repelled_entered info n auth skipped t r takes f.0, f.1)
 
     -- one that knows the INFO goes on
     pub heeds_on : (info : ServerInfo) (left : ℕ) (t new : Talk) (res : Result Shake Failure) → t.stage ≡ stage.Asks info left

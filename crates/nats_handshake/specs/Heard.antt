@@ -1,6 +1,5 @@
 -- What a handshake makes of the whole text that it was fed, however that was cut.
 use Rattle.std.specs.Prelude.{◌≡◌, ◌⊎◌, ℕ, Bool, List, [], ◌++◌, drop, Option, Result, Ok}
-use Rattle.nats_names.specs.declared.addr_error.AddrError.{AddrError}
 use Rattle.nats_names.specs.declared.cause.Cause.{Cause}
 use Rattle.nats_names.specs.declared.cause.Cause.TheVariants as cause
 use Rattle.nats_info.specs.declared.info.ServerInfo.{ServerInfo}
@@ -68,7 +67,7 @@ module _ (Offers : List ℕ → Result AuthValue (List ℕ) → Type 0) (name : 
   HeardMore old new wrote text =
       (more : List ℕ) × (new.out ≡ old.out ++ more) × Heard new.stage new.unread (wrote ++ more) text
 
-module _ (Discovers : List (List ℕ) → Result (Unit {0}) AddrError → Type 0) (Stays : Type 0)
+module _ (Discovers : List (List ℕ) → List (List ℕ) → Type 0) (Stays : Type 0)
     (Offers : List ℕ → Result AuthValue (List ℕ) → Type 0) (by_option : Bool) (name : Option (List ℕ)) (no_echo : Bool)
   where
     -- a text is refused with this error, by what its first operation is

@@ -5,8 +5,6 @@ use Rattle.url.specs.Parts.{Parts}
 use Rattle.nats_addr.specs.Addr.{is_tls, is_websocket}
 use Rattle.nats_names.specs.declared.cause.Cause.{Cause}
 use Rattle.nats_names.specs.declared.cause.Cause.TheVariants as cause
-use Rattle.nats_names.specs.declared.addr_error.AddrError.{AddrError}
-use Rattle.nats_names.specs.declared.addr_error.AddrError.TheVariants as addr
 use Rattle.nats_info.specs.declared.info.ServerInfo.{ServerInfo}
 use Rattle.nats_connect.specs.Connect.{connect_text}
 use Rattle.nats_pool.specs.Auths.{AuthValue}
@@ -34,8 +32,8 @@ abbrev pub operations_most : ℕ
 operations_most = 16
 
 -- what contracts see of a handshake: how far it came, the bytes from the server that no operation took yet, the
--- bytes for the server that wait to be taken, when it began and how long it may take, and whether the address wants
--- TLS
+-- bytes for the server that wait to be taken, when it began and how long it may take, whether the address wants
+-- TLS, and the texts of the INFO that spell no address
 pub record Talk : Type 0 where
   pub stage : Stage
   pub unread : List ℕ
@@ -43,6 +41,7 @@ pub record Talk : Type 0 where
   pub start : ℕ
   pub timeout : ℕ
   pub is_tls : Bool
+  pub skipped : List (List ℕ)
 
 -- ---- the INFO
 
@@ -59,12 +58,6 @@ opening name no_echo auth = connect_text (connect_info_of name no_echo auth) ++ 
 -- want of memory
 abbrev pub wanting : Failure
 wanting = (kind.NoMemory, None)
-
--- a text spells no address
-abbrev pub IsUnspelled : AddrError → Type 0
-IsUnspelled addr.Url = Unit {0}
-IsUnspelled addr.Scheme = Unit {0}
-IsUnspelled addr.NoMemory = ⊥
 
 -- once these bytes came
 abbrev pub with_bytes : Talk → List ℕ → Talk
@@ -92,19 +85,6 @@ Stops (verdict.Refuses r) e = e ≡ r
 Stops verdict.Waits e = ⊥
 Stops verdict.Succeeds e = ⊥
 
--- the pool takes these addresses in, or why it doesn't
-abbrev pub DiscoverFails : (List (List ℕ) → Result (Unit {0}) AddrError → Type 0) → Type 0 → List (List ℕ)
-    → ConnectErrorKind → Option Cause → Type 0
-DiscoverFails Discovers Stays urls kind.ServerParse source =
-    (e : AddrError) × IsUnspelled e × (source ≡ Some (cause.Addr e)) × Discovers urls (Err e)
-DiscoverFails Discovers Stays urls kind.NoMemory source = (source ≡ None) × Stays
-DiscoverFails Discovers Stays urls other source = ⊥
-
-abbrev pub Discovered : (List (List ℕ) → Result (Unit {0}) AddrError → Type 0) → Type 0 → List (List ℕ)
-    → Result (Unit {0}) Failure → Type 0
-Discovered Discovers Stays urls (Ok done) = Discovers urls (Ok tt)
-Discovered Discovers Stays urls (Err e) = DiscoverFails Discovers Stays urls e.0 e.1
-
 -- the code's answer by a verdict
 abbrev pub Shakes : Verdict → Result Shake Failure → Type 0
 Shakes v (Ok s) = IsAnswer v s
@@ -118,6 +98,12 @@ StopsOrWants v e = Stops v e ⊎ (e ≡ wanting)
 abbrev pub Follows : ServerInfo → Course → Talk → Result Shake Failure → Talk → Type 0
 Follows info c t (Ok s) new = Goes info c t s new
 Follows info c t (Err e) new = StopsOrWants c.verdict e × (new ≡ t)
+
+-- what comes of a course for one that knows the INFO just now, of which these texts were skipped; a refusal changes
+-- nothing
+abbrev pub Entered : ServerInfo → Course → List (List ℕ) → Talk → Result Shake Failure → Talk → Type 0
+Entered info c skipped t (Ok s) new = Goes info c (record t { skipped = skipped }) s new
+Entered info c skipped t (Err e) new = StopsOrWants c.verdict e × (new ≡ t)
 
 -- the code's course is followed, but for how far the handshake came
 abbrev pub Took : code.Course → Talk → Result Shake Failure → Talk → Type 0
@@ -167,32 +153,33 @@ Opens Offers name no_echo nonce (Ok out) =
     (auth : AuthValue) × Offers nonce (Ok auth) × (out.items ≡ opening name no_echo auth)
 Opens Offers name no_echo nonce (Err e) = RefusedAs e.0 e.1 (Offers nonce)
 
--- `Discovers urls r` says that the pool takes the addresses of these texts in with the answer r, `Stays` that it is
--- as it was, `Offers nonce r` that r is what the client authenticates by for a nonce; TLS is wanted by option, or
--- isn't; the client has this name, or wants no echo
-module _ (Discovers : List (List ℕ) → Result (Unit {0}) AddrError → Type 0) (Stays : Type 0)
+-- `Discovers urls skipped` says that the pool takes the addresses of these texts in but for the skipped ones, `Stays`
+-- that it is as it was, `Offers nonce r` that r is what the client authenticates by for a nonce; TLS is wanted by
+-- option, or isn't; the client has this name, or wants no echo
+module _ (Discovers : List (List ℕ) → List (List ℕ) → Type 0) (Stays : Type 0)
     (Offers : List ℕ → Result AuthValue (List ℕ) → Type 0) (by_option : Bool) (name : Option (List ℕ)) (no_echo : Bool)
   where
-    -- an INFO is taken, and the client offers this
-    abbrev pub Takes : Bool → ServerInfo → AuthValue → Type 0
-    Takes by_scheme info auth = (wants_tls by_option by_scheme info ≡ false) × Discovers info.connect_urls (Ok tt)
-        × Offers info.nonce (Ok auth)
+    -- an INFO is taken but for these texts, and the client offers this
+    abbrev pub Takes : Bool → ServerInfo → List (List ℕ) → AuthValue → Type 0
+    Takes by_scheme info skipped auth = (wants_tls by_option by_scheme info ≡ false)
+        × Discovers info.connect_urls skipped × Offers info.nonce (Ok auth)
+
+    -- the addresses of an INFO are in the pool
+    abbrev pub HasTaken : ServerInfo → Type 0
+    HasTaken info = (skipped : List (List ℕ)) × Discovers info.connect_urls skipped
 
     -- an INFO is not taken, with an error of this kind and source
     abbrev pub Declines : Bool → ServerInfo → ConnectErrorKind → Option Cause → Type 0
     Declines by_scheme info kind.Tls source = (wants_tls by_option by_scheme info ≡ true) × (source ≡ None) × Stays
-    Declines by_scheme info kind.ServerParse source = (wants_tls by_option by_scheme info ≡ false)
-        × ((e : AddrError) × IsUnspelled e × (source ≡ Some (cause.Addr e)) × Discovers info.connect_urls (Err e))
     Declines by_scheme info kind.Authentication source = (wants_tls by_option by_scheme info ≡ false)
-        × Discovers info.connect_urls (Ok tt)
-        × ((e : List ℕ) × (source ≡ Some (cause.Auth e)) × Offers info.nonce (Err e))
-    Declines by_scheme info kind.NoMemory source = (source ≡ None) × (Stays ⊎ Discovers info.connect_urls (Ok tt))
+        × HasTaken info × ((e : List ℕ) × (source ≡ Some (cause.Auth e)) × Offers info.nonce (Err e))
+    Declines by_scheme info kind.NoMemory source = (source ≡ None) × (Stays ⊎ HasTaken info)
     Declines by_scheme info other source = ⊥
 
-    -- the opening for an INFO, or why there is none
-    abbrev pub Welcomes : Bool → ServerInfo → Result (Vec ℕ) Failure → Type 0
-    Welcomes by_scheme info (Ok out) =
-        (auth : AuthValue) × Takes by_scheme info auth × (out.items ≡ opening name no_echo auth)
+    -- the opening for an INFO with the texts that were skipped, or why there is none
+    abbrev pub Welcomes : Bool → ServerInfo → Result (Vec ℕ × Vec (List ℕ)) Failure → Type 0
+    Welcomes by_scheme info (Ok both) = (auth : AuthValue) × Takes by_scheme info both.1.items auth
+        × (both.0.items ≡ opening name no_echo auth)
     Welcomes by_scheme info (Err e) = Declines by_scheme info e.0 e.1
 
     -- what the operations behind an INFO of n bytes come to, for a client that offers this
@@ -203,15 +190,17 @@ module _ (Discovers : List (List ℕ) → Result (Unit {0}) AddrError → Type 0
     abbrev pub Greeted : Greeting → Talk → Shake → Talk → Type 0
     Greeted greeting.Waits t s new = Stays × (s ≡ shake.More) × (new ≡ t)
     Greeted (greeting.Refuses r) t s new = ⊥
-    Greeted (greeting.Greets info n) t s new = (auth : AuthValue) × Takes t.is_tls info auth
-        × Goes info (first_course n auth t.unread) t s new
+    Greeted (greeting.Greets info n) t s new = (auth : AuthValue) × (skipped : List (List ℕ))
+        × Takes t.is_tls info skipped auth
+        × Goes info (first_course n auth t.unread) (record t { skipped = skipped }) s new
 
     -- a refusal of it
     abbrev pub Repelled : Greeting → Talk → Failure → Type 0
     Repelled greeting.Waits t e = Stays × (e ≡ wanting)
     Repelled (greeting.Refuses r) t e = Stays × ((e ≡ r) ⊎ (e ≡ wanting))
     Repelled (greeting.Greets info n) t e = Declines t.is_tls info e.0 e.1
-        ⊎ ((auth : AuthValue) × Takes t.is_tls info auth × Stops ((first_course n auth t.unread).verdict) e)
+        ⊎ ((auth : AuthValue) × (skipped : List (List ℕ)) × Takes t.is_tls info skipped auth
+        × Stops ((first_course n auth t.unread).verdict) e)
 
     -- what comes of the first thing that the server says
     abbrev pub Hears : Greeting → Talk → Result Shake Failure → Talk → Type 0
@@ -312,6 +301,7 @@ new_talk addr timeout start = record {
   start = start;
   timeout = timeout;
   is_tls = is_tls addr;
+  skipped = [];
 }
 
 -- websockets are refused

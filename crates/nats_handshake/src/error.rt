@@ -10,7 +10,7 @@ use std::marker::Model;
 /// Why no link to a server came about. The crate's `ConnectErrorKind`.
 #[derive(Clone, Copy, Debug, PartialEq, Eq)]
 pub enum ConnectErrorKind {
-    /// An address, or one that a server told of, does not parse, or the chosen one is of `ws` or `wss`.
+    /// An address that was handed in does not parse, or the chosen one is of `ws` or `wss`.
     ServerParse,
     /// The resolver failed, or gave no address.
     Dns,

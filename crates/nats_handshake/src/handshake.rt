@@ -1,11 +1,10 @@
 //! The handshake of a link, as a machine that is fed what the server sends and says what is to be written.
-ghost use Rattle.std.specs.Prelude.{◌≡◌, ◌≤◌, Some, length, take, drop, option_map, IfOk, OnOk, OnErr};
+ghost use Rattle.std.specs.Prelude.{◌≡◌, ◌≤◌, [], length, take, drop, option_map, IfOk, OnOk, OnErr};
 ghost use Rattle.nats_pool.specs.Auths.{auth_value};
-ghost use Rattle.nats_names.specs.declared.cause.Cause.TheVariants as cause;
 ghost use Rattle.nats_handshake.specs.declared.error.ConnectErrorKind.TheVariants as kind;
 ghost use Rattle.nats_handshake.specs.Course.{greeting_at, greeted_within, course, behind_out};
 ghost use Rattle.nats_handshake.specs.Credentials.{SignerAnswers, AuthAnswers, Offers};
-ghost use Rattle.nats_handshake.specs.Shaking.{IsNew, Discovered, Opens, Welcomes, opening, Shakes, Took, WentOn, Follows, Hears, operations_most, Heeds, Settles, FedOpen, Feeds, Expires, ExpiresOpen, advanced, closed, is_late, is_wanting, end_cause, finished, by_content, left_at, left_by, refused_of, with_bytes};
+ghost use Rattle.nats_handshake.specs.Shaking.{IsNew, Opens, Welcomes, opening, Shakes, Took, WentOn, Entered, Hears, operations_most, Heeds, Settles, FedOpen, Feeds, Expires, ExpiresOpen, advanced, closed, is_late, is_wanting, end_cause, finished, by_content, left_at, left_by, refused_of, with_bytes};
 ghost use Rattle.nats_handshake.specs.Following.{Followed};
 ghost use Rattle.nats_wire.specs.Operations.{front};
 
@@ -17,11 +16,12 @@ use crate::greeting::connect_info;
 use crate::offer::credentials;
 use crate::stage::{Shake, Stage, staged};
 use nats_connect::connect_text;
-use nats_names::{AddrError, Cause, NoMemory};
+use nats_names::{NoMemory, Text};
 use nats_pool::{Auth, ConnectOptions, ServerAddr, ServerList};
 use nats_wire::ServerInfo;
 use std::alloc::Global;
 use std::marker::Model;
+use std::mem;
 
 /// What asks for the PONG that ends a handshake.
 const PING: &[u8] = b"PING\r\n";
@@ -36,6 +36,7 @@ pub struct Handshake {
     start: u64,
     timeout: u64,
     is_tls: bool,
+    skipped: Vec<Text>,
 }
 
 impl Model for Handshake {
@@ -50,6 +51,7 @@ impl Model for Handshake {
       start = h.start;
       timeout = h.timeout;
       is_tls = h.is_tls;
+      skipped = h.skipped.items;
     } };
 }
 
@@ -61,23 +63,6 @@ fn drop_front(text: &mut Vec<u8>, len: usize)
     let left = text.len() - len;
     text.rotate_left(len);
     text.truncate(left);
-}
-
-fn unspelled(error: AddrError) -> Refusal
-    ensures { result ≡ (kind.ServerParse, Some (cause.Addr error)) }
-{
-    Refusal::by(ConnectErrorKind::ServerParse, Cause::Addr(error))
-}
-
-fn discover<P: ServerList>(alloc: Global, info: &ServerInfo, pool: &mut P) -> Result<(), Refusal>
-    ensures { Discovered (P.Takes pool.old pool.new) (pool.new ≡ pool.old) info.now.connect_urls result }
-{
-    match pool.take_in(alloc, info.connect_urls.as_slice()) {
-        Ok(()) => Ok(()),
-        Err(AddrError::NoMemory) => Err(Refusal::new(ConnectErrorKind::NoMemory)),
-        Err(AddrError::Url) => Err(unspelled(AddrError::Url)),
-        Err(AddrError::Scheme) => Err(unspelled(AddrError::Scheme)),
-    }
 }
 
 // The text of a client that takes part.
@@ -107,14 +92,14 @@ fn offer_opening(
     }
 }
 
-// What a client writes for an INFO, or why it ends the handshake.
+// What a client writes for an INFO, with the texts that the pool skipped, or why it ends the handshake.
 fn welcome<P: ServerList>(
     alloc: Global,
     info: &ServerInfo,
     is_tls: bool,
     options: &ConnectOptions,
     pool: &mut P,
-) -> Result<Vec<u8>, Refusal>
+) -> Result<(Vec<u8>, Vec<Text>), Refusal>
     ensures { Welcomes (P.Takes pool.old pool.new) (pool.new ≡ pool.old)
         (Offers SignerAnswers AuthAnswers options.now.signer options.now.auth_callback (auth_value options.now.auth))
         options.now.tls_required options.now.name options.now.no_echo is_tls info.now result }
@@ -122,9 +107,12 @@ fn welcome<P: ServerList>(
     if options.tls_required || is_tls || info.tls_required {
         return Err(Refusal::new(ConnectErrorKind::Tls));
     }
-    match discover(alloc, info, pool) {
-        Ok(()) => offer_opening(alloc, info, options),
-        Err(refusal) => Err(refusal),
+    match pool.take_in(alloc, info.connect_urls.as_slice()) {
+        Ok(skipped) => match offer_opening(alloc, info, options) {
+            Ok(out) => Ok((out, skipped)),
+            Err(refusal) => Err(refusal),
+        },
+        Err(NoMemory) => Err(Refusal::new(ConnectErrorKind::NoMemory)),
     }
 }
 
@@ -182,6 +170,7 @@ impl Handshake {
             start,
             timeout: options.connection_timeout,
             is_tls: addr.tls_required(),
+            skipped: Vec::new(alloc),
         })
     }
 
@@ -234,20 +223,29 @@ impl Handshake {
         Ok((left, shake))
     }
 
-    // The same, and the INFO is known from now on.
+    // The INFO is known from now on, and which of its texts were skipped.
+    fn know(&mut self, stage: Stage, skipped: Vec<Text>)
+        ensures { self.new ≡ record self.old { stage = stage; skipped = skipped.items } }
+    {
+        self.stage.put(stage);
+        self.skipped = skipped;
+    }
+
+    // What the text behind an INFO of `len` bytes comes to, which is known from now on. A refusal changes nothing.
     fn enter(
         &mut self,
         alloc: Global,
         info: ServerInfo,
         len: usize,
         out: Vec<u8>,
+        skipped: Vec<Text>,
     ) -> Result<Shake, Refusal>
         requires { len ≤ length self.old.unread }
-        ensures { Follows info (behind_out out.items (course operations_most (drop len self.old.unread)))
-            self.old result self.new }
+        ensures { Entered info (behind_out out.items (course operations_most (drop len self.old.unread)))
+            skipped.items self.old result self.new }
     {
         let (left, shake) = self.follow(alloc, len, out)?;
-        self.stage.put(staged(info, left, shake));
+        self.know(staged(info, left, shake), skipped);
         Ok(shake)
     }
 
@@ -284,7 +282,7 @@ impl Handshake {
             Ok(Greeting::Refuses(refusal)) => Err(refusal),
             Ok(Greeting::Greets(info, len)) => {
                 match welcome(alloc, &info, self.wants_tls(), options, pool) {
-                    Ok(out) => self.enter(alloc, info, len, out),
+                    Ok((out, skipped)) => self.enter(alloc, info, len, out, skipped),
                     Err(refusal) => Err(refusal),
                 }
             }
@@ -333,16 +331,15 @@ impl Handshake {
     /// The server's first operation is its INFO. Then CONNECT and PING are to be written, and the server's
     /// operations are read until its PONG comes, 16 at most: `+OK` and a further INFO are skipped, a PING is
     /// answered. What comes behind the PONG is the rest. The addresses that the INFO tells of are put into the
-    /// pool, as `Pool::discover` does.
+    /// pool, as `Pool::discover` does; `skipped` has those of its texts that spell no address.
     ///
     /// # Errors
     ///
     /// `Io` where the first operation is another, where a message or what is no operation comes, where the server
     /// sends an error, or no PONG; the cause says which. `AuthorizationViolation` where the server says so. `Tls`
-    /// where TLS is wanted by an option, the scheme of the address or the INFO. `ServerParse` where an address that
-    /// the INFO tells of does not parse. `Authentication` where the signer or the authentication callback refuses.
-    /// After each of these the handshake refuses with the same kind. `NoMemory` leaves the handshake as it was; the
-    /// pool may have the INFO's addresses.
+    /// where TLS is wanted by an option, the scheme of the address or the INFO. `Authentication` where the signer or
+    /// the authentication callback refuses. After each of these the handshake refuses with the same kind. `NoMemory`
+    /// leaves the handshake as it was; the pool may have the INFO's addresses.
     pub fn feed<P: ServerList>(
         &mut self,
         alloc: Global,
@@ -495,6 +492,21 @@ impl Handshake {
         ensures { self.new ≡ record self.old { out = drop n self.old.out } }
     {
         drop_front(&mut self.out, n);
+    }
+
+    /// Those of the INFO's texts of addresses that spell none, in order; none before the INFO.
+    pub fn skipped(&self) -> &[Text]
+        ensures { result.now ≡ self.now.skipped }
+    {
+        self.skipped.as_slice()
+    }
+
+    /// Gives away what `skipped` tells of, which tells of none from now on. Own call of this library.
+    pub fn take_skipped(&mut self, alloc: Global) -> Vec<Text>
+        ensures given { result.items ≡ self.old.skipped }
+        ensures after { self.new ≡ record self.old { skipped = [] } }
+    {
+        mem::replace(&mut self.skipped, Vec::new(alloc))
     }
 
     /// The INFO, and the bytes that came behind the PONG; none exactly where the handshake has not succeeded.

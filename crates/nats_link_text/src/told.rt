@@ -147,7 +147,7 @@ pub(crate) fn tell_turns(turns: &[Turn])
     }
 }
 
-/// The same of settings.
+/// Tells what the type of settings keeps of them.
 pub(crate) fn tell_config(config: &Config)
     ensures { IsTypedConfig config.now }
 {

@@ -9,8 +9,6 @@ use Rattle.rand_core.specs.Stream.{Stream}
 use Rattle.url.specs.Parts.{Parts}
 use Rattle.nats_addr.specs.Addr.{addr_of, is_tls, is_websocket}
 use Rattle.nats_info.specs.declared.info.ServerInfo.{ServerInfo}
-use Rattle.nats_names.specs.declared.addr_error.AddrError.{AddrError}
-use Rattle.nats_names.specs.declared.addr_error.AddrError.TheVariants as refusal
 use Rattle.nats_names.specs.declared.cause.Cause.{Cause}
 use Rattle.nats_wire.specs.Operations.{front}
 use Rattle.nats_pool.specs.Auths.{AuthValue}
@@ -20,7 +18,6 @@ use Rattle.nats_pool.specs.declared.pool_parts.Planned.{Planned}
 use Rattle.nats_pool.specs.declared.pool_parts.Pool.{Pool}
 use Rattle.nats_pool.specs.declared.server.Server.{Server}
 use Rattle.nats_pool.specs.declared.server.ReconnectToServer.{ReconnectToServer}
-use Rattle.nats_pool.specs.Discovery.{Discovers, DiscoversWhere}
 use Rattle.nats_pool.specs.declared.callbacks.ChoiceFn.{ChoiceFn}
 use Rattle.nats_pool.specs.Handing.{RoundTold, pool_told}
 use Rattle.nats_pool.specs.Pools.{NamedBy, numbers_left, options_of, round_of, servers_of}
@@ -109,19 +106,6 @@ module _ {Y : Type 0} {G : Y → Type 0}
   none_named Answers servers last named None is names = names
   none_named Answers servers last named (Some f) is names = cc
 
-module _ {X Y : Type 0} {F : X → Type 0} {G : Y → Type 0} {g : Mut ((x : X) × F x) (ℕ × Unit {0}) ℕ}
-    {h : Mut ((y : Y) × G y) (Vec Server × (ServerInfo × Unit {0})) (Option ReconnectToServer)} where
-  refuses_where : (ignores : Bool) (urls : List (List ℕ)) (p q : Pool X Y F G g h) (e : AddrError)
-      → DiscoversWhere ignores urls p q (Err e) → TakesTexts tt tt urls (Err e)
-  refuses_where true urls p q e (is, same) = cc
-  refuses_where false urls p q refusal.Url d = d.0
-  refuses_where false urls p q refusal.Scheme d = d.0
-  refuses_where false urls p q refusal.NoMemory d = d.0
-
-  pub refuses_texts : (urls : List (List ℕ)) (p q : Pool X Y F G g h) (e : AddrError) → Discovers urls p q (Err e)
-      → TakesTexts tt tt urls (Err e)
-  refuses_texts urls p q e d = refuses_where (options_of p).ignore_discovered_servers urls p q e d
-
 -- ---- a round, without its pool
 
 module _ (Offers : List ℕ → Result AuthValue (List ℕ) → Type 0)
@@ -180,9 +164,7 @@ module _ (Offers : List ℕ → Result AuthValue (List ℕ) → Type 0)
           out = came.out;
         }
 
-module _ {P : Type 0} (Takes : P → P → List (List ℕ) → Result (Unit {0}) AddrError → Type 0)
-    (refuses : (p q : P) (urls : List (List ℕ)) (e : AddrError) → Takes p q urls (Err e)
-    → TakesTexts tt tt urls (Err e))
+module _ {P : Type 0} (Takes : P → P → List (List ℕ) → List (List ℕ) → Type 0)
     (Offers : List ℕ → Result AuthValue (List ℕ) → Type 0)
     (offers : (nonce : List ℕ) (r : Result AuthValue (List ℕ)) → Offers nonce r → OffersNothing nonce r)
   where
@@ -195,8 +177,7 @@ module _ {P : Type 0} (Takes : P → P → List (List ℕ) → Result (Unit {0})
           → ((k, source) ≡ wanting)
           ⊎ Declines (TakesTexts tt tt) (tt {0} ≡ tt {0}) OffersNothing by_option name no_echo by_scheme info k source
       declines by_scheme info p q kind.Tls source d = inr (d.0, d.1, refl)
-      declines by_scheme info p q kind.ServerParse source d =
-          inr (d.0, (d.1.0, d.1.1, d.1.2, refuses p q info.connect_urls d.1.0 d.1.3))
+      declines by_scheme info p q kind.ServerParse source d = absurd d
       declines by_scheme info p q kind.Authentication source d =
           no_refusal d.2.0 (Err d.2.0) refl (offers info.nonce (Err d.2.0) d.2.2)
       declines by_scheme info p q kind.NoMemory source d = inl (ap (λ (s : Option Cause). (kind.NoMemory, s)) d.0)
@@ -330,23 +311,21 @@ if_err_to P Q (Err e) p f = f e p
 -- ---- a round of connecting on default options
 
 -- why none came
-pub failed_default : {P : Type 0} (Takes : P → P → List (List ℕ) → Result (Unit {0}) AddrError → Type 0)
-    (refuses : (p q : P) (urls : List (List ℕ)) (e : AddrError) → Takes p q urls (Err e)
-    → TakesTexts tt tt urls (Err e))
+pub failed_default : {P : Type 0} (Takes : P → P → List (List ℕ) → List (List ℕ) → Type 0)
     (Offers : List ℕ → Result AuthValue (List ℕ) → Type 0)
     (offers : (nonce : List ℕ) (r : Result AuthValue (List ℕ)) → Offers nonce r → OffersNothing nonce r)
     (by_option : Bool) (name : Option (List ℕ)) (no_echo : Bool) (timeout : ℕ)
     → by_option ≡ false → name ≡ None → no_echo ≡ false → timeout ≡ default_timeout
     → (before after : RoundTold) (a : Seen) (e : Failure) (b : Seen)
     → RoundCause Takes Offers by_option name no_echo timeout before after a e b → RoundFailed before after a e b
-failed_default Takes refuses Offers offers by_option name no_echo timeout plain unnamed echoes time before after a e b
+failed_default Takes Offers offers by_option name no_echo timeout plain unnamed echoes time before after a e b
     cause =
     subst (λ (t : ℕ). RoundCause TakesTexts OffersNothing false None false t before after a e b) time
     (subst (λ (o : Bool). RoundCause TakesTexts OffersNothing o None false timeout before after a e b) plain
     (subst (λ (n : Option (List ℕ)). RoundCause TakesTexts OffersNothing by_option n false timeout before after a e b)
     unnamed
     (subst (λ (x : Bool). RoundCause TakesTexts OffersNothing by_option name x timeout before after a e b) echoes
-    (plain_round Takes refuses Offers offers by_option name no_echo timeout before after a e b cause))))
+    (plain_round Takes Offers offers by_option name no_echo timeout before after a e b cause))))
 
 -- the round that began was that server's alone
 pub began_alone : {P : Type 0} (Begins : ServerInfo → P → P → Choice → Type 0) (told : P → RoundTold)

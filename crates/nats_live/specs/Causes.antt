@@ -1,15 +1,15 @@
 -- Why a command on a live link was refused, over what the world told before and after it.
 use Rattle.std.specs.Prelude.{◌≡◌, ◌⊎◌, ◌<◌, ◌≤◌, ℕ, true, false, List, [], ◌∷◌, length, Some, None, Result, Ok, Err, IfSome, codes, if◌then◌else◌}
 use Rattle.nats_names.specs.declared.addr_error.AddrError.{AddrError}
-use Rattle.nats_names.specs.declared.addr_error.AddrError.TheVariants as addr_error
 use Rattle.nats_names.specs.declared.cause.Cause.TheVariants as cause
 use Rattle.nats_names.specs.Causes.{source_text}
 use Rattle.nats_names.specs.Names.{is_publishable, is_valid}
 use Rattle.url.specs.Parts.{Parts}
 use Rattle.nats_info.specs.declared.info.ServerInfo.{ServerInfo}
-use Rattle.nats_addr.specs.Addr.{addr_of, addrs_of, is_tls, is_websocket}
+use Rattle.nats_addr.specs.Addr.{addr_of, is_tls, is_websocket}
 use Rattle.nats_pool.specs.Auths.{AuthValue}
 use Rattle.nats_pool.specs.declared.pool_parts.Planned.{Planned}
+use Rattle.nats_pool.specs.Discovery.{skipped_of}
 use Rattle.nats_pool.specs.Handing.{RoundTold}
 use Rattle.nats_outside.specs.Counts.{Rose}
 use Rattle.nats_outside.specs.Told.{Seen, ReadTold, WriteTold}
@@ -56,12 +56,9 @@ IsRoundWith server t = (planned : Planned) × (planned.addr ≡ server) × (t.ro
 abbrev pub IsRoundOf : List ℕ → RoundTold → Type 0
 IsRoundOf addr t = (server : Parts) × (addr_of addr ≡ Ok server) × IsRoundWith server t
 
--- what comes of the addresses of servers that an INFO tells of: the first text that spells none decides
-abbrev pub TakesTexts : Unit {0} → Unit {0} → List (List ℕ) → Result (Unit {0}) AddrError → Type 0
-TakesTexts before after urls (Ok done) = (addrs : List Parts) × (addrs_of urls ≡ Ok addrs)
-TakesTexts before after urls (Err addr_error.Url) = addrs_of urls ≡ Err addr_error.Url
-TakesTexts before after urls (Err addr_error.Scheme) = addrs_of urls ≡ Err addr_error.Scheme
-TakesTexts before after urls (Err addr_error.NoMemory) = 1 ≤ length urls
+-- what comes of the addresses of servers that an INFO tells of: those that spell none are skipped
+abbrev pub TakesTexts : Unit {0} → Unit {0} → List (List ℕ) → List (List ℕ) → Type 0
+TakesTexts before after urls skipped = skipped ≡ skipped_of urls
 
 -- a round of connecting on default options gave no link, whose servers are those of that round
 abbrev pub RoundFailed : RoundTold → RoundTold → Seen → Failure → Seen → Type 0

@@ -72,6 +72,7 @@ pub fn publish<R: Wait, W: World>(
         rest,
         read,
         mut write,
+        skipped: _,
     } = dial(alloc, addr, world)?;
     let seed = seen::draw(world);
     let result = publish_over(rt, alloc, info, rest, seed, subject, payload, &mut write);
@@ -133,6 +134,7 @@ pub fn receive<R: Wait, W: World>(
         rest,
         mut read,
         mut write,
+        skipped: _,
     } = dial(alloc, addr, world)?;
     let seed = seen::draw(world);
     let result = receive_over(

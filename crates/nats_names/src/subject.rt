@@ -73,7 +73,7 @@ impl Subject {
         }
     }
 
-    /// The same of a text that may be subscribed to: the caller has proved it. The crate's call, which stops the
+    /// The subject with a text that may be subscribed to: the caller has proved it. The crate's call, which stops the
     /// build or the program at another text.
     pub fn from_static_validated(subject: &'static str) -> Subject
         requires { IsTrue (is_valid subject.now) }

@@ -58,7 +58,7 @@ impl Store {
         }
     }
 
-    /// The same bytes, which can be shared where memory for the count of their owners is found.
+    /// Equal bytes, which can be shared where memory for the count of their owners is found.
     pub fn shared(self) -> Store
         ensures { store_bytes result ≡ store_bytes self }
     {

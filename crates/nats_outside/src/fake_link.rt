@@ -21,7 +21,7 @@ impl FakeLink {
         FakeLink::failing(alloc, bytes, most, Vec::new(alloc), Vec::new(alloc))
     }
 
-    /// The same, whose reads and writes of these numbers, counted from 1, fail.
+    /// A link as `new` makes it, whose reads and writes of these numbers, counted from 1, fail.
     pub fn failing(
         alloc: Global,
         bytes: Bytes,
@@ -47,7 +47,7 @@ impl FakeLink {
         })
     }
 
-    /// The same link, whose first reads give at most so many bytes each, though at least one where one is left.
+    /// This link, whose first reads give at most so many bytes each, though at least one where one is left.
     pub fn with_cuts(self, cuts: Vec<usize>) -> FakeLink
         ensures { result ≡ record self { cuts = cuts } }
     {

@@ -1,12 +1,10 @@
 -- The calls of a pool change what it tells of its round as each call on a round does.
-use Rattle.std.specs.Prelude.{◌≡◌, refl, ℕ, true, false, Bool, List, Option, Result, Ok, Err}
+use Rattle.std.specs.Prelude.{◌≡◌, refl, ℕ, true, false, Bool, List, Option}
 use Rattle.std.proofs.Common.{ap}
 use Rattle.std.specs.Global.{Vec}
 use denote.Param.Members.{Mut}
 use Rattle.url.specs.Parts.{Parts}
 use Rattle.nats_info.specs.declared.info.ServerInfo.{ServerInfo}
-use Rattle.nats_names.specs.declared.addr_error.AddrError.{AddrError}
-use Rattle.nats_names.specs.declared.addr_error.AddrError.TheVariants as refusal
 use Rattle.nats_pool.specs.declared.callbacks.ChoiceFn.{ChoiceFn}
 use Rattle.nats_pool.specs.declared.callbacks.DelayFn.{DelayFn}
 use Rattle.nats_pool.specs.declared.pool_parts.Choice.{Choice}
@@ -22,17 +20,14 @@ use Rattle.nats_pool.specs.Handing.{IsBegun, HandsNext, told_of, pool_told}
 
 module _ {X Y : Type 0} {F : X → Type 0} {G : Y → Type 0} {g : Mut ((x : X) × F x) (ℕ × Unit {0}) ℕ}
     {h : Mut ((y : Y) × G y) (Vec Server × (ServerInfo × Unit {0})) (Option ReconnectToServer)} where
-  takes_where : (ignores : Bool) (urls : List (List ℕ)) (a b : Pool X Y F G g h) (r : Result (Unit {0}) AddrError)
-      → DiscoversWhere ignores urls a b r → pool_told b ≡ pool_told a
-  takes_where true urls a b r d = ap pool_told d.1
-  takes_where false urls a b (Ok done) d = ap pool_told d.3
-  takes_where false urls a b (Err refusal.Url) d = ap pool_told d.1
-  takes_where false urls a b (Err refusal.Scheme) d = ap pool_told d.1
-  takes_where false urls a b (Err refusal.NoMemory) d = ap pool_told d.1
+  takes_where : (ignores : Bool) (urls : List (List ℕ)) (a b : Pool X Y F G g h) (skipped : List (List ℕ))
+      → DiscoversWhere ignores urls a b skipped → pool_told b ≡ pool_told a
+  takes_where true urls a b skipped d = ap pool_told d.1
+  takes_where false urls a b skipped d = ap pool_told d.2
 
-  pub pool_takes : (a b : Pool X Y F G g h) (urls : List (List ℕ)) (r : Result (Unit {0}) AddrError)
-      → Discovers urls a b r → pool_told b ≡ pool_told a
-  pool_takes a b urls r d = takes_where (options_of a).ignore_discovered_servers urls a b r d
+  pub pool_takes : (a b : Pool X Y F G g h) (urls skipped : List (List ℕ))
+      → Discovers urls a b skipped → pool_told b ≡ pool_told a
+  pool_takes a b urls skipped d = takes_where (options_of a).ignore_discovered_servers urls a b skipped d
 
   pub pool_begins : (Answers : ChoiceFn Y G h → Vec Server → ServerInfo → Option ReconnectToServer → Type 0)
       (last : ServerInfo) (a b : Pool X Y F G g h) (chosen : Choice)

@@ -15,6 +15,7 @@ mod pool_parts;
 mod round;
 mod rounds;
 mod server;
+mod server_pool;
 
 pub use auth::Auth;
 pub use callbacks::{
@@ -34,3 +35,4 @@ pub use pool_options::{Delay, PoolOptions};
 pub use pool_parts::{Attempt, Choice, Next, Outcome, Planned, Pool};
 pub use rounds::Rounds;
 pub use server::{ReconnectToServer, Server};
+pub use server_pool::ServerPool;

@@ -1,7 +1,6 @@
 //! What hands out the servers of a round and is told how it went with them.
-ghost use Rattle.std.specs.Prelude.{◌≡◌, ℕ, List, Result, IfOk, OnErr};
+ghost use Rattle.std.specs.Prelude.{◌≡◌, ℕ, List, IfOk, OnErr};
 ghost use Rattle.url.specs.Parts.{Parts};
-ghost use Rattle.nats_names.specs.declared.addr_error.AddrError.{AddrError};
 ghost use Rattle.nats_info.specs.declared.info.ServerInfo.{ServerInfo};
 ghost use Rattle.nats_pool.specs.declared.pool_parts.Choice.{Choice};
 ghost use Rattle.nats_pool.specs.declared.pool_parts.Next.{Next};
@@ -42,8 +41,8 @@ pub trait Rounds: ServerList {
     fn note(&mut self, addr: &ServerAddr, outcome: Outcome)
         ensures counts { Counts addr.now outcome self.old self.new };
 
-    ghost takes_round: { (a b : Self) (urls : List (List ℕ)) (r : Result (Unit {0}) AddrError)
-        → Self.Takes a b urls r → round_told b ≡ round_told a };
+    ghost takes_round: { (a b : Self) (urls skipped : List (List ℕ))
+        → Self.Takes a b urls skipped → round_told b ≡ round_told a };
 
     ghost begins_round: { (last : ServerInfo) (a b : Self) (chosen : Choice)
         → Begins last a b chosen → IsBegun (round_told a) (round_told b) };

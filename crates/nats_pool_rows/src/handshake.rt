@@ -4,7 +4,7 @@ use nats_handshake::{
     ConnectError, ConnectErrorKind, ConnectOptions, Course, Greeting, HANDSHAKE_OPERATIONS,
     Handshake, Shake, Verdict, read_course, read_greeting,
 };
-use nats_names::{AddrError, AuthError, Text};
+use nats_names::{AuthError, NoMemory, Text};
 use nats_pool::{Auth, AuthBox, ServerAddr, ServerInfo, ServerList};
 use nats_rows::{Bad, number_of, push_bytes, push_word, spelled_bytes};
 use std::alloc::Global;
@@ -31,19 +31,19 @@ fn error_word(error: ConnectError) -> &'static str {
     kind_word(error.kind())
 }
 
-/// Takes no server in, and refuses where it is told of one.
+/// Takes no server in: it skips each text.
 #[derive(Drop)]
 pub struct NoServers;
 
 impl ServerList for NoServers {
-    ghost Takes = { λ before after urls result. Unit {0} };
+    ghost Takes = { λ before after urls skipped. Unit {0} };
 
-    fn take_in(&mut self, _alloc: Global, urls: &[Text]) -> Result<(), AddrError> {
-        if urls.is_empty() {
-            Ok(())
-        } else {
-            Err(AddrError::Scheme)
+    fn take_in(&mut self, alloc: Global, urls: &[Text]) -> Result<Vec<Text>, NoMemory> {
+        let mut skipped = Vec::new(alloc);
+        for url in urls {
+            skipped.push(url.copy(alloc)?)?;
         }
+        Ok(skipped)
     }
 }
 
@@ -97,7 +97,7 @@ fn fed(alloc: Global, shaking: &mut Handshake, bytes: &[u8]) -> &'static str {
     word
 }
 
-/// The same where a callback signs the nonce.
+/// What a handshake answers to one piece where a callback signs the nonce.
 fn fed_signed(alloc: Global, shaking: &mut Handshake, bytes: &[u8]) -> Result<&'static str, Bad> {
     let callback: AuthBox = Box::new(alloc, signing)?;
     let options = ConnectOptions::with_auth_callback(callback);
@@ -137,6 +137,15 @@ fn called(
     }
 }
 
+/// Appends texts, each behind `!`.
+pub fn push_texts(texts: &[Text], out: &mut String) -> Result<(), Bad> {
+    for text in texts {
+        out.push('!')?;
+        out.push_str(text.as_str())?;
+    }
+    Ok(())
+}
+
 fn push_call(
     alloc: Global,
     shaking: &mut Handshake,
@@ -145,6 +154,9 @@ fn push_call(
 ) -> Result<(), Bad> {
     if call == "out" {
         return Ok(push_bytes(out, shaking.out())?);
+    }
+    if call == "skipped" {
+        return push_texts(shaking.skipped(), out);
     }
     let (verb, word) = call.split_once(',').ok_or(Bad::Form)?;
     Ok(out.push_str(called(alloc, shaking, verb, word)?)?)

@@ -1,6 +1,6 @@
 //! A round of connecting: `round`, the addresses with commas between them, the limit of attempts, which dial and
 //! which asking fail, and what each link gives.
-use crate::handshake::begun;
+use crate::handshake::{begun, push_texts};
 use crate::outside::{Memory, home};
 use crate::shake::link;
 use nats_dial::{ConnectError, ConnectOptions, Handshake, Linked, try_connect};
@@ -64,7 +64,8 @@ fn push_outcome(alloc: Global, connected: &Connected, out: &mut String) -> Resul
     match connected {
         Ok(linked) => {
             out.push_str("up")?;
-            Ok(push_word(out, linked.rest.as_slice())?)
+            push_word(out, linked.rest.as_slice())?;
+            push_texts(linked.skipped.as_slice(), out)
         }
         Err(error) => Ok(push_bytes(out, format!(in alloc; "{error}")?.as_bytes())?),
     }

@@ -168,16 +168,29 @@ fn push_set(alloc: Global, pool: &mut Pool, texts: &str, out: &mut String) -> Re
     }
 }
 
-/// A server tells of an address; appends whether it is taken in without a fault.
+/// Appends texts, each behind `!`.
+fn push_texts(texts: &[Text], out: &mut String) -> Result<(), Bad> {
+    for text in texts {
+        out.push('!')?;
+        out.push_str(text.as_str())?;
+    }
+    Ok(())
+}
+
+/// A server tells of addresses, with commas between; appends which of them are skipped.
 fn push_discovered(
     alloc: Global,
     pool: &mut Pool,
-    text: &str,
+    texts: &str,
     out: &mut String,
 ) -> Result<(), Bad> {
-    let urls = [Text::from_text(alloc, text)?];
-    let is_done = pool.discover(alloc, &urls).is_ok();
-    Ok(out.push_str(if is_done { "told" } else { "refused" })?)
+    let mut urls = Vec::new(alloc);
+    for text in texts.split(',') {
+        urls.push(Text::from_text(alloc, text)?)?;
+    }
+    out.push_str("told")?;
+    let skipped = pool.discover(alloc, urls.as_slice())?;
+    push_texts(skipped.as_slice(), out)
 }
 
 fn push_call(alloc: Global, pool: &mut Pool, call: &str, out: &mut String) -> Result<(), Bad> {

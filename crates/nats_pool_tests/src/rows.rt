@@ -5,7 +5,11 @@ use std::alloc::Global;
 use std::test::Fail;
 
 /// Calls of a pool with their answers: its addresses, its options, and the calls in order.
-const POOLS: [(&str, &str); 11] = [
+const POOLS: [(&str, &str); 12] = [
+    (
+        "a default fails,a fails,a servers discover,nats://b,http://c,nats://a servers",
+        "failed failed a=2; told!http://c a=2;b=0; ",
+    ),
     (
         "a,b,c order fails,a begin next next next next",
         "failed default/default a/0 b/2 c/4 over ",

@@ -66,7 +66,7 @@ pub fn field_bytes(alloc: Global, field: &[u8]) -> Result<Option<Vec<u8>>, NoMem
     }
 }
 
-/// The same, in a buffer that copies share.
+/// The bytes that a field spells, in a buffer that copies share; `None` where it spells none.
 pub fn bytes_field(alloc: Global, field: &[u8]) -> Result<Option<Bytes>, NoMemory>
     ensures { IfOk result (λ b. b ≡ field_bytes field.now) }
 {

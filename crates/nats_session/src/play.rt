@@ -297,7 +297,7 @@ fn note_all(handler: &mut ConnectionHandler, draft: &mut Draft, place: u64) -> R
     Ok(())
 }
 
-/// The same, at little cost where nothing waits.
+/// Notes what waits to be handed out, at little cost where nothing does.
 fn note_news(handler: &mut ConnectionHandler, draft: &mut Draft, place: u64) -> Result<(), NoMemory>
     ensures written { OnOk result
         (draft.new ≡ write_tickets place handler.old.ready (write_events place handler.old.events draft.old)) }
@@ -452,7 +452,7 @@ fn play_all(
     Ok(())
 }
 
-/// The same with a draft of its own, and what it comes to.
+/// Plays all turns on a draft of its own, and answers what it comes to.
 fn run_on(
     alloc: Global,
     handler: &mut ConnectionHandler,

@@ -33,7 +33,7 @@ fn source(alloc: Global, text: &str, most: usize) -> Result<MemorySource, NoMemo
     Ok(MemorySource::new(bytes, most))
 }
 
-/// The same as `replay` in a world without links.
+/// The status of `replay` in a world without links.
 fn plays<R: Wait, S: Source, K: Sink>(
     rt: &R,
     alloc: Global,

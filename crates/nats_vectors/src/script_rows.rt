@@ -16,7 +16,7 @@ fn bad_line_of(script: &Script) -> u64 {
     }
 }
 
-/// The same of a text.
+/// The number of the first line of a text that cannot be read, 0 where each can.
 fn bad_line(alloc: Global, text: &str) -> Result<u64, NoMemory> {
     let script = read_script(alloc, text.as_bytes())?;
     Ok(bad_line_of(&script))
@@ -94,7 +94,7 @@ fn under_k(headers: &Option<HeaderMap>) -> Option<usize> {
     Some(count)
 }
 
-/// The same of the headers of a turn, where it is a publish.
+/// How many values the headers of a turn have under `K`, where it is a publish.
 fn under_k_of(turn: Option<&Turn>) -> Option<usize> {
     match turn {
         Some(Turn::Do(Call::Publish(message))) => under_k(&message.headers),
@@ -102,7 +102,7 @@ fn under_k_of(turn: Option<&Turn>) -> Option<usize> {
     }
 }
 
-/// The same of a line's turn.
+/// How many values the headers of a line's turn have under `K`, where it is a publish.
 fn values_under_k(alloc: Global, line: &str) -> Result<Option<usize>, NoMemory> {
     let script = script_of(alloc, line)?;
     Ok(under_k_of(only_turn(&script)))
@@ -134,7 +134,7 @@ fn max_payload_of(turn: Option<&Turn>) -> Option<u64> {
     }
 }
 
-/// The same of a line's turn.
+/// The greatest size of a message that the server of a line's turn takes.
 fn max_payload(alloc: Global, line: &str) -> Result<Option<u64>, NoMemory> {
     let script = script_of(alloc, line)?;
     Ok(max_payload_of(only_turn(&script)))

@@ -19,7 +19,7 @@ fn say_bytes(out: &mut Vec<u8>, bytes: &[u8]) -> Result<(), NoMemory> {
     say(out, ">")
 }
 
-/// The same of a name, a dash where it is left out.
+/// Appends a name, a dash where it is left out.
 fn say_name(out: &mut Vec<u8>, name: &Option<Subject>) -> Result<(), NoMemory> {
     match name {
         Some(name) => say_bytes(out, name.as_str().as_bytes()),
@@ -27,7 +27,7 @@ fn say_name(out: &mut Vec<u8>, name: &Option<Subject>) -> Result<(), NoMemory> {
     }
 }
 
-/// The same of the first value of the header `K`.
+/// Appends the first value of the header `K`, a dash where there is none.
 fn say_value(out: &mut Vec<u8>, headers: &HeaderMap) -> Result<(), NoMemory> {
     match headers.get("K") {
         Some(value) => say_bytes(out, value.as_str().as_bytes()),

@@ -93,7 +93,7 @@ fn play<R: Wait>(
     Ok(replay(rt, alloc, words.as_slice(), &mut source, sink, world))
 }
 
-/// The same in a world that has no links.
+/// Plays a script through `replay` in a world that has no links, and answers its status.
 fn play_alone<R: Wait>(
     rt: &R,
     alloc: Global,
@@ -116,7 +116,7 @@ fn told(alloc: Global, status: u8, bytes: &[u8]) -> Result<Vec<u8>, NoMemory> {
     Ok(out)
 }
 
-/// The same as `carried`, played by `replay` from the bytes of a script, and read out of the bytes that it writes
+/// What `carried` tells, played by `replay` from the bytes of a script, and read out of the bytes that it writes
 /// alone: the replies to calls, then the commands of each link. Where it does not end with 0, what it writes.
 pub fn carried_through<R: Wait>(rt: &R, alloc: Global, script: &str) -> Result<Vec<u8>, NoMemory> {
     let mut sink = MemorySink::new(alloc, AT_ONCE);

@@ -49,7 +49,7 @@ pub enum PeekedOp {
 }
 
 impl PeekedOp {
-    /// The same operation, a message in a box. Memory is taken for a message alone.
+    /// An operation with its message in a box. Memory is taken for a message alone.
     pub fn boxed(alloc: Global, op: ServerOp) -> Result<PeekedOp, NoMemory>
         ensures { IfOk result (λ boxed. peeked_view boxed ≡ op_view op) }
     {

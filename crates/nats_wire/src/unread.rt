@@ -100,7 +100,7 @@ impl Unread {
         Ok(())
     }
 
-    /// The same of bytes in a buffer that may be shared.
+    /// Appends bytes in a buffer that may be shared.
     pub fn feed_shared(&mut self, alloc: Global, bytes: &Bytes) -> Result<(), NoMemory>
         ensures ok { OnOk result (self.new ≡ record {
           bytes = self.old.bytes ++ bytes.now;

@@ -31,7 +31,7 @@ fn read_by_bytes<L: Ledger>(
     Ok(count)
 }
 
-/// The same by a counter of its own.
+/// How many operations are read of bytes that come one by one, their steps counted.
 fn count_by_bytes<L: Ledger>(alloc: Global, blank: Blank, bytes: &[u8]) -> Result<usize, WireError>
     requires name { blank.name ≡ L.name }
     requires parts { (blank.parts ≡ L.parts) × (0 < L.parts) }

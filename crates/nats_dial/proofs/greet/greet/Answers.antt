@@ -30,7 +30,7 @@ returns-in_err-shaking-clause-greets g c = λ fresh. err_by (λ x. Greets g.P.Se
 pub returns-in_err-shake_hands-clause-greets : goal.returns-in_err-shake_hands-clause-greets
 returns-in_err-shake_hands-clause-greets g c = λ fresh.
     let going = subst (λ (t : Talk). IsOpen t.stage) (sym c.in_ok-shaking.ensures) tt in
-    let had = subst (λ (t : Talk). HasTook g.P.ServerList.Takes t.stage c.args.pool.now c.args.pool.now)
+    let had = subst (λ (t : Talk). HasTook g.P.ServerList.Takes t.stage t.skipped c.args.pool.now c.args.pool.now)
     (sym c.in_ok-shaking.ensures) refl in
     let line = fresh_line
     (Offers SignerAnswers AuthAnswers c.args.options.now.signer c.args.options.now.auth_callback (auth_value c.args.options.now.auth))
@@ -50,7 +50,7 @@ returns-in_err-shake_hands-clause-greets g c = λ fresh.
 pub returns-clause-greets : goal.returns-clause-greets
 returns-clause-greets g c = λ fresh.
     let going = subst (λ (t : Talk). IsOpen t.stage) (sym c.in_ok-shaking.ensures) tt in
-    let had = subst (λ (t : Talk). HasTook g.P.ServerList.Takes t.stage c.args.pool.now c.args.pool.now)
+    let had = subst (λ (t : Talk). HasTook g.P.ServerList.Takes t.stage t.skipped c.args.pool.now c.args.pool.now)
     (sym c.in_ok-shaking.ensures) refl in
     let line = fresh_line
     (Offers SignerAnswers AuthAnswers c.args.options.now.signer c.args.options.now.auth_callback (auth_value c.args.options.now.auth))

@@ -53,4 +53,4 @@ returns-in-Err-clause-took g c = λ p going had.
 pub returns-clause-took : goal.returns-clause-took
 returns-clause-took g c = λ p going had.
     let i = c.exchanges.invariant.took p going had in
-    took_in g.P.ServerList.Takes c.exchanges.shaking.stage p c.exchanges.pool i.1
+    took_in g.P.ServerList.Takes c.exchanges.shaking.stage c.exchanges.shaking.skipped p c.exchanges.pool i.1

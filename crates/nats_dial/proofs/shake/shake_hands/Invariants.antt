@@ -20,6 +20,6 @@ invariant-exchanges g l = record {
       l.options.tls_required l.options.name l.options.no_echo by_scheme start timeout text wrote
       l.shaking (g.R.LinkRead.read_told l.read) (g.T.LinkWrite.write_told l.write));
   took : (p : _) → IsOpen l.initial.shaking.stage
-      → HasTook g.P.ServerList.Takes l.initial.shaking.stage p l.initial.pool
-      → IsOpen l.shaking.stage × HasTook g.P.ServerList.Takes l.shaking.stage p l.pool;
+      → HasTook g.P.ServerList.Takes l.initial.shaking.stage l.initial.shaking.skipped p l.initial.pool
+      → IsOpen l.shaking.stage × HasTook g.P.ServerList.Takes l.shaking.stage l.shaking.skipped p l.pool;
 }

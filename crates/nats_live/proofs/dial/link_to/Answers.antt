@@ -6,7 +6,7 @@ use Rattle.nats_pool.specs.Handing.{pool_told}
 use Rattle.nats_pool.specs.Servers.{new_server}
 use Rattle.nats_handshake.specs.Credentials.{SignerAnswers, AuthAnswers, Offers}
 use Rattle.nats_dial.proofs.Returning.{back_kept}
-use Rattle.nats_live.proofs.Dialing.{began_alone, began_well, begun_alone, failed_default, not_linked, offers_default, linked_default, on_err, refuses_texts}
+use Rattle.nats_live.proofs.Dialing.{began_alone, began_well, begun_alone, failed_default, not_linked, offers_default, linked_default, on_err}
 use Rattle.nats_live.proofs.dial.link_to.Goals as goal
 
 pub returns-in-Ok-clause-up : goal.returns-in-Ok-clause-up
@@ -45,7 +45,7 @@ returns-clause-refused g c =
     (not_linked c.args.server (g.W.Reach.seen c.args.world.now) (g.W.Reach.seen c.try_connect.new.world)
     c.in-Err.error (pool_told p) (pool_told c.try_connect.new.pool)
     (began_alone _ _ c.default-last.result p c.try_connect.new.pool c.in-Err.error c.args.server _
-    (failed_default (λ p q urls r. Discovers urls p q r) (λ p q urls x d. refuses_texts urls p q x d)
+    (failed_default (λ p q urls skipped. Discovers urls p q skipped)
     (Offers SignerAnswers AuthAnswers o.signer o.auth_callback (auth_value o.auth))
     (offers_default SignerAnswers AuthAnswers o.signer o.auth_callback (auth_value o.auth)
     (ap (λ (x : _). x.signer) rest ∙ c.new-options.ensures.signer)

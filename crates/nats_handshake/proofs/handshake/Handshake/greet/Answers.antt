@@ -31,7 +31,7 @@ returns-in-Ok g c = hears_entered (g.P.ServerList.Takes c.args.pool.now c.welcom
     (Offers SignerAnswers AuthAnswers c.args.options.now.signer c.args.options.now.auth_callback (auth_value c.args.options.now.auth))
     c.args.options.now.tls_required c.args.options.now.name c.args.options.now.no_echo
     (greeting_at (front c.args.self.now.unread)) c.in-Ok-Greets.info c.in-Ok-Greets.len c.in-Ok.ensures.0 c.args.self.now c.enter.new.self c.in-Ok.out.items
-    c.enter.result (sym c.in-Ok-Greets.ensures.says ∙ c.in-Ok-Greets.field-0-is)
+    c.in-Ok.skipped.items c.enter.result (sym c.in-Ok-Greets.ensures.says ∙ c.in-Ok-Greets.field-0-is)
     (rw c.wants_tls.ensures at c.in-Ok.ensures.1) c.in-Ok.ensures.2 c.enter.ensures
 
 pub returns-in-Err-welcome : goal.returns-in-Err-welcome
