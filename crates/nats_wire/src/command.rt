@@ -70,8 +70,9 @@ fn word_and_space(word: &Option<Subject>) -> (&[u8], &[u8])
     }
 }
 
+/// Appends what the client writes to subscribe, of parts that are lent, whole or not at all.
 #[inline(never)]
-fn append_subscription<'a>(
+pub fn append_subscription<'a>(
     alloc: Global,
     sid: u64,
     subject: &'a Subject,
@@ -112,8 +113,9 @@ fn append_unsubscription(
     append_all(alloc, &[b"UNSUB ", sid, b" ", max, b"\r\n"], out)
 }
 
+/// Appends what the client writes to publish, of parts that are lent, whole or not at all.
 #[inline(always)]
-fn append_publication(
+pub fn append_publication(
     alloc: Global,
     subject: &Subject,
     respond: &Option<Subject>,

@@ -2,6 +2,7 @@
 ghost use Rattle.std.specs.Prelude.{◌≡◌, ◌<◌, ◌≤◌, ◌++◌, length, take, drop, true, false, OnOk, OnErr, IfOk, IfSome, nat_le};
 ghost use Rattle.std.specs.List.{concat};
 ghost use Rattle.nats_outbuf.specs.Buffers.{IsFront};
+ghost use Rattle.nats_wire.specs.declared.op.ClientOp.TheVariants as client;
 ghost use Rattle.nats_wire.specs.Wire.{new_channel, with_fed, with_unread, with_waiting, Paid};
 ghost use Rattle.nats_wire.specs.Operations.{front, takes_memory, is_unfinished};
 ghost use Rattle.nats_wire.specs.Commands.{command_text, command_texts};
@@ -11,7 +12,8 @@ use crate::command;
 use crate::front::Front;
 use crate::op::{ClientOp, PeekedOp, ServerOp, WireError};
 use crate::unread::Unread;
-use nats_names::{Bytes, NoMemory};
+use nats_header::HeaderMap;
+use nats_names::{Bytes, NoMemory, Subject};
 use nats_outbuf::{OutBuf, PIECES_MOST, SOFT_WRITE_BUF_LIMIT, ShouldFlush, Steps};
 use std::alloc::Global;
 use std::marker::{Brand, Model};
@@ -207,6 +209,41 @@ impl Connection {
         ensures err { OnErr result (self.new ≡ self.old) }
     {
         command::append(alloc, op, &mut self.out)
+    }
+
+    /// What `enqueue_write_op` does of a `ClientOp::Publish` of these parts, which are lent: no header map is copied.
+    /// Own call.
+    pub fn enqueue_publish(
+        &mut self,
+        alloc: Global,
+        subject: &Subject,
+        respond: &Option<Subject>,
+        headers: &Option<HeaderMap>,
+        payload: &Bytes,
+    ) -> Result<(), NoMemory>
+        ensures ok { OnOk result (self.new ≡ with_waiting
+            (self.old.wire.waiting
+            ++ command_text (client.Publish subject.now payload.now respond.now headers.now))
+            self.old) }
+        ensures err { OnErr result (self.new ≡ self.old) }
+    {
+        command::append_publication(alloc, subject, respond, headers, payload, &mut self.out)
+    }
+
+    /// What `enqueue_write_op` does of a `ClientOp::Subscribe` of these parts, which are lent. Own call.
+    pub fn enqueue_subscribe(
+        &mut self,
+        alloc: Global,
+        sid: u64,
+        subject: &Subject,
+        queue_group: &Option<Subject>,
+    ) -> Result<(), NoMemory>
+        ensures ok { OnOk result (self.new ≡ with_waiting
+            (self.old.wire.waiting ++ command_text (client.Subscribe sid subject.now queue_group.now))
+            self.old) }
+        ensures err { OnErr result (self.new ≡ self.old) }
+    {
+        command::append_subscription(alloc, sid, subject, queue_group, &mut self.out)
     }
 
     /// Puts the texts of some operations in order behind the bytes that wait to be written, all of them or none.
