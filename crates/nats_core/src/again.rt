@@ -1,4 +1,4 @@
-//! Replies a second time, for the journal. What that takes memory for is copied before the turn is played.
+//! Replies a second time, for a journal. What that takes memory for is copied before the turn is played.
 ghost use Rattle.std.specs.Prelude.{◌≡◌, IfOk};
 ghost use Rattle.std.specs.Option.{option_copied};
 ghost use Rattle.nats_core.specs.Replies.{IsPlain, IsPlainReply, message_of, taken_message, waiting_for};
@@ -48,8 +48,9 @@ fn take_again(reply: &TakeReply, message: Option<Message>) -> TakeReply
     }
 }
 
-/// A reply again, with a copy of the message that was taken, if one was.
-pub(crate) fn reply_again(reply: &StepReply, message: Option<Message>) -> StepReply
+/// The reply of a turn again, for a journal of one's own, with a copy of the message that was taken, if one was. It takes
+/// no memory: `message_for` took it before the turn was played. Own call.
+pub fn reply_again(reply: &StepReply, message: Option<Message>) -> StepReply
     requires plain { IsPlainReply reply.now }
     requires message { message ≡ message_of reply.now }
     ensures { result ≡ reply.now }
@@ -71,8 +72,9 @@ fn copied(alloc: Global, message: Option<&Message>) -> Result<Option<Message>, N
     }
 }
 
-/// A copy of the message that a turn is to take, if it is a take and one waits for it.
-pub(crate) fn message_for(
+/// A copy of the message that a turn is to take next, if it is a take and one waits for it; out of memory otherwise.
+/// Own call.
+pub fn message_for(
     alloc: Global,
     handler: &ConnectionHandler,
     turn: &Turn,

@@ -3,7 +3,7 @@
 //! Lengths are in bytes; subscriptions, tickets and links are numbered from 1.
 #![tactic(auto)]
 
-mod again;
+pub mod again;
 mod answers;
 mod entry;
 mod machine;

@@ -3,7 +3,6 @@
 //! journal.
 #![tactic(auto)]
 
-mod again;
 mod desk;
 mod entry;
 mod errors;

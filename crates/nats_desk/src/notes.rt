@@ -8,9 +8,9 @@ ghost use Rattle.nats_core.specs.Replies.{IsPlainReply, message_of, waiting_for}
 ghost use Rattle.nats_desk.specs.Journal.{IsNoted, entry, plain_entry, may_come, reply_at};
 ghost use Rattle.nats_desk.specs.Refusals.{Refused};
 
-use crate::again::{message_for, reply_again};
 use crate::entry::SeatEntry;
 use crate::errors::PlayError;
+use nats_core::again::{message_for, reply_again};
 use nats_core::{Core, Message, NoMemory, StepReply, Turn};
 use std::alloc::Global;
 
@@ -27,7 +27,7 @@ fn note_for(alloc: Global, core: &Core, turn: &Turn) -> Result<Note, NoMemory>
     ensures message { IfOk result (λ note. note.message ≡ waiting_for (parts_in core.now) turn.now) }
 {
     let noted = turn.copy(alloc)?;
-    let message = message_for(alloc, core, turn)?;
+    let message = message_for(alloc, core.handler(), turn)?;
     Ok(Note {
         turn: noted,
         message,
