@@ -1,6 +1,6 @@
 -- Which request waits for a reply to a subject, and since when.
 use Rattle.std.specs.Prelude.{◌≡◌, ℕ, suc, Bool, true, false, ◌⊎◌, List, [], ◌∷◌, Option, Some}
-use Rattle.nats_wire.specs.Operations.{message}
+use Rattle.nats_lines.specs.Operations.{message}
 use Rattle.nats_history.specs.declared.config.Config.{Config}
 use Rattle.nats_history.specs.declared.call.Call.TheVariants.{Request}
 use Rattle.nats_history.specs.declared.waits.Waits.{Waits}

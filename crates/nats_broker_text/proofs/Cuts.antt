@@ -2,8 +2,8 @@
 use Rattle.std.proofs.Common.{◌≡◌, ℕ, zero, suc, ◌+◌, ◌<◌, ◌≤◌, Bool, true, false, List, [], ◌∷◌, length, take, drop, Option, Some, None, refl, ap, arith, tests, lit<, option_map}
 use Rattle.std.specs.Prelude.{◌==◌, ◌&&◌, slice_index, if◌then◌else◌}
 use Rattle.memchr.specs.Find.{OccursAt, FindsNeedle}
-use Rattle.nats_wire.specs.Operations.{Cut, onto_line, cut_line}
-use Rattle.nats_wire.specs.Commands.{crlf}
+use Rattle.nats_lines.specs.Operations.{Cut, onto_line, cut_line}
+use Rattle.nats_commands.specs.Commands.{crlf}
 
 reads_both : (a b : ℕ) (rest : List ℕ) → a ≡ 13 → b ≡ 10 → (j : ℕ) → j < 2 → slice_index (a ∷ b ∷ rest) (0 + j) ≡ slice_index crlf j
 reads_both a b rest p q zero h = p

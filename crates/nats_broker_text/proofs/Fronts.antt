@@ -3,9 +3,9 @@ use Rattle.std.proofs.Common.{◌≡◌, ℕ, zero, suc, ◌+◌, ◌-◌, ◌�
 use Rattle.std.specs.Prelude.{◌==◌, ◌&&◌, ◌||◌, is_some, option_map, if◌then◌else◌, IsTrue, OnErr, Result, Ok, Err}
 use Rattle.std.specs.Bool.{OnFalse}
 use Rattle.memchr.specs.Find.{FindsNeedle}
-use Rattle.nats_wire.specs.Operations.{Cut, onto_line, cut_line}
-use Rattle.nats_wire.specs.Commands.{crlf}
-use Rattle.nats_wire.specs.declared.op.ClientOp.{ClientOp}
+use Rattle.nats_lines.specs.Operations.{Cut, onto_line, cut_line}
+use Rattle.nats_commands.specs.Commands.{crlf}
+use Rattle.nats_message.specs.declared.op.ClientOp.{ClientOp}
 use Rattle.nats_client_text.specs.Grammar as grammar
 use Rattle.nats_client_text.specs.Grammar.{Sight, less, whole, wrong, sight, sight_of_cut, front_of_sight, front, op_of, memory_taken, takes_memory}
 use Rattle.nats_broker_text.specs.Connect.{wishes_at}

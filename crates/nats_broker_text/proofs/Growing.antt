@@ -2,10 +2,10 @@
 use Rattle.std.proofs.Common.{◌≡◌, ℕ, zero, suc, ◌+◌, ◌<◌, ◌≤◌, Bool, true, false, nat_lt, nat_eq, List, [], ◌∷◌, ◌++◌, length, take, drop, Option, Some, None, refl, ap, sym, ◌∙◌, arith, length-append, if◌then◌else◌}
 use Rattle.std.proofs.lemmas.Bool.{false≢true, le-ltb, ltb-false}
 use Rattle.std.specs.List.{starts_with}
-use Rattle.nats_wire.specs.Operations.{Cut, cut_line}
-use Rattle.nats_wire.specs.Commands.{crlf}
-use Rattle.nats_wire.proofs.Fronts.{cut_more, grown}
-use Rattle.nats_wire.specs.declared.op.ClientOp.{ClientOp}
+use Rattle.nats_lines.specs.Operations.{Cut, cut_line}
+use Rattle.nats_commands.specs.Commands.{crlf}
+use Rattle.nats_lines.proofs.Fronts.{cut_more, grown}
+use Rattle.nats_message.specs.declared.op.ClientOp.{ClientOp}
 use Rattle.nats_broker_text.specs.Commands.{behind_word, connect_text, of_client, front_by, peer_front, is_unfinished}
 use Rattle.nats_broker_text.specs.Laws.{FrontStays}
 use Rattle.nats_client_text.specs.Grammar.{OpText, Line, alone, counted, Publishes, Body, short, torn, body, body_of, Sight, less, whole, wrong, sight_of_body, sight_of_line, sight_of_cut, sight, line_of, front_of_sight, front}

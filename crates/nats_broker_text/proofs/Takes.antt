@@ -5,10 +5,10 @@ use Rattle.std.specs.List.{starts_with}
 use Rattle.std.specs.Cmp.Lexicographic.{pointwise}
 use Rattle.std.proofs.lemmas.List.{length-take}
 use Rattle.std.proofs.lemmas.Bool.{false≢true, ltb-false}
-use Rattle.nats_wire.specs.Operations.{Cut, cut_line}
-use Rattle.nats_wire.specs.Commands.{crlf}
-use Rattle.nats_wire.specs.declared.op.ClientOp.{ClientOp}
-use Rattle.nats_wire.proofs.Fronts.{cut_length}
+use Rattle.nats_lines.specs.Operations.{Cut, cut_line}
+use Rattle.nats_commands.specs.Commands.{crlf}
+use Rattle.nats_message.specs.declared.op.ClientOp.{ClientOp}
+use Rattle.nats_lines.proofs.Fronts.{cut_length}
 use Rattle.nats_client_text.specs.Grammar as grammar
 use Rattle.nats_client_text.specs.Grammar.{OpText, Publishes, Line, alone, counted, Body, short, torn, body, body_of, sight_of_body, Sight, less, whole, wrong, sight_of_line, line_of, sight_of_cut, sight, op_of, front_of_sight, front}
 use Rattle.nats_client_text.specs.declared.read.ClientFront.{ClientFront}

@@ -5,10 +5,10 @@ use Rattle.std.specs.List.{starts_with, list_any}
 use Rattle.std.specs.Str.{chars}
 use Rattle.nats_header.specs.Headers.{Headers}
 use Rattle.nats_header.specs.Block.{block_text}
-use Rattle.nats_wire.specs.Operations.{Cut, cut_line}
-use Rattle.nats_wire.specs.Commands.{sent_block}
-use Rattle.nats_wire.specs.declared.op.ClientOp.{ClientOp}
-use Rattle.nats_wire.specs.declared.op.ClientOp.TheVariants as op
+use Rattle.nats_lines.specs.Operations.{Cut, cut_line}
+use Rattle.nats_commands.specs.Commands.{sent_block}
+use Rattle.nats_message.specs.declared.op.ClientOp.{ClientOp}
+use Rattle.nats_message.specs.declared.op.ClientOp.TheVariants as op
 use Rattle.nats_client_text.specs.Grammar.{front}
 use Rattle.nats_client_text.specs.declared.read.ClientFront.{ClientFront}
 use Rattle.nats_client_text.specs.declared.read.ClientFront.TheVariants as client

@@ -1,7 +1,7 @@
 -- Lines of a text.
 use Rattle.std.specs.Prelude.{◌≡◌, ℕ, Bool, false, List, Option, None, is_some}
 use Rattle.std.specs.Bool.{OnFalse}
-use Rattle.nats_wire.specs.Operations.{Cut, cut_line}
+use Rattle.nats_lines.specs.Operations.{Cut, cut_line}
 use Rattle.nats_broker_text.specs.Commands.{is_ready}
 
 -- whether a text has a line's end

@@ -1,7 +1,7 @@
 //! Commands as a broker takes them.
 ghost use Rattle.std.specs.Prelude.{◌≡◌, ◌+◌, ◌^◌, ◌<◌, ◌||◌, length, IfOk, Some, None, if◌then◌else◌};
 ghost use Rattle.nats_header.specs.Headers.{Headers};
-ghost use Rattle.nats_wire.specs.Commands.{sent_block};
+ghost use Rattle.nats_commands.specs.Commands.{sent_block};
 ghost use Rattle.nats_broker_text.specs.Commands.{holds_white, may_hold_white, block_len, publish_of, command_of};
 
 use crate::connect::Wishes;

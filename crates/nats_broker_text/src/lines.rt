@@ -1,6 +1,6 @@
 //! Lines of a text, by their CR LF.
 ghost use Rattle.std.specs.Prelude.{◌≡◌, ◌+◌, ◌≤◌, length, IfSome, option_map};
-ghost use Rattle.nats_wire.specs.Operations.{cut_line};
+ghost use Rattle.nats_lines.specs.Operations.{cut_line};
 ghost use Rattle.nats_broker_text.specs.Lines.{has_line};
 
 use memchr::memmem;

@@ -1,6 +1,6 @@
 //! Reads the command at the front of a peer's bytes.
 ghost use Rattle.std.specs.Prelude.{◌≡◌, ◌+◌, ◌≤◌, false, length, option_map, IfOk, IfSome, OnErr};
-ghost use Rattle.nats_wire.specs.Operations.{cut_line};
+ghost use Rattle.nats_lines.specs.Operations.{cut_line};
 ghost use Rattle.nats_client_text.specs.Grammar.{front};
 ghost use Rattle.nats_broker_text.specs.Commands.{behind_word, connect_text, connect_front, of_client, got_or_bad, peer_front, is_unfinished, is_ready, Takes};
 

@@ -13,9 +13,9 @@ use Rattle.std.proofs.lemmas.Fmt.{digits_decimal, digits_value-decimal, decimal_
 use Rattle.std.proofs.lemmas.Str.{is_utf8-from_IsUtf8, IsUtf8-append, IsUtf8-from_ascii}
 use Rattle.std.proofs.lemmas.Str.Ascii.{IsAscii-nil}
 use Rattle.std.proofs.lemmas.Str.Parse.{IsNumeralModel, numerals_by_value, tells_all_ascii_digits, without_leading_plus_none}
-use Rattle.nats_wire.specs.declared.message.Message.{Message}
-use Rattle.nats_wire.specs.Operations.{message, got, front, Cut, onto_line, cut_line, number_of, Head, pieces_of, head_with, head_of_pieces, head_of, message_of, plain, less, whole, message_or_bad, sight}
-use Rattle.nats_wire.proofs.Fronts.{sight_by_cut, front_by_sight}
+use Rattle.nats_message.specs.declared.message.Message.{Message}
+use Rattle.nats_lines.specs.Operations.{message, got, front, Cut, onto_line, cut_line, number_of, Head, pieces_of, head_with, head_of_pieces, head_of, message_of, plain, less, whole, message_or_bad, sight}
+use Rattle.nats_lines.proofs.Fronts.{sight_by_cut, front_by_sight}
 
 -- ---- numbers
 

@@ -2,7 +2,7 @@
 use Rattle.std.proofs.Common.{◌≡◌, ℕ, zero, suc, ◌%◌, Bool, true, false, cond, [], ◌∷◌, length, nat_lt, Some, None, refl, sym, ◌∙◌, ap, subst}
 use Rattle.std.specs.Prelude.{codes}
 use Rattle.nats_info.specs.Info.{default_info}
-use Rattle.nats_wire.specs.Operations.{front}
+use Rattle.nats_lines.specs.Operations.{front}
 use Rattle.nats_history.specs.declared.call.Call.{Call}
 use Rattle.nats_history.specs.declared.call.Call.TheVariants.{Subscribe}
 use Rattle.nats_history.specs.declared.turn.Turn.{Turn}

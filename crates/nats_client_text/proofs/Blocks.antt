@@ -6,7 +6,7 @@ use Rattle.std.specs.List.{onto_first}
 use Rattle.std.proofs.lemmas.Bool.{eqb-true}
 use Rattle.nats_header.specs.Headers.{Headers}
 use Rattle.nats_block.specs.Fields.{Pair, tested, with_field, all_appended, onto_fields}
-use Rattle.nats_wire.specs.Operations.{Cut, onto_line, cut_line}
+use Rattle.nats_lines.specs.Operations.{Cut, onto_line, cut_line}
 use Rattle.nats_client_text.specs.Blocks.{lines_of, field_behind, field_of, ended_by, fields_of, headers_of, block_of_lines, block_of}
 use Rattle.nats_client_text.specs.Code.{cut_view, lines_from}
 use Rattle.nats_client_text.specs.declared.cut.CutText.{CutText}

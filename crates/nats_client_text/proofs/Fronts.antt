@@ -3,10 +3,10 @@ use Rattle.std.proofs.Common.{◌≡◌, ℕ, ◌+◌, ◌<◌, ◌≤◌, Bool,
 use Rattle.std.specs.Prelude.{IsTrue, nat_lt, nat_eq, if◌then◌else◌}
 use Rattle.std.specs.List.{starts_with}
 use Rattle.std.proofs.lemmas.Bool.{ltb-false}
-use Rattle.nats_wire.specs.Operations.{Cut, cut_line}
-use Rattle.nats_wire.specs.Commands.{crlf}
-use Rattle.nats_wire.specs.declared.op.ClientOp.{ClientOp}
-use Rattle.nats_wire.proofs.Fronts.{cut_length}
+use Rattle.nats_lines.specs.Operations.{Cut, cut_line}
+use Rattle.nats_commands.specs.Commands.{crlf}
+use Rattle.nats_message.specs.declared.op.ClientOp.{ClientOp}
+use Rattle.nats_lines.proofs.Fronts.{cut_length}
 use Rattle.nats_client_text.specs.Grammar.{OpText, Publishes, Line, alone, counted, Body, short, torn, body, body_of, sight_of_body, Sight, less, whole, wrong, sight_of_line, line_of, sight_of_cut, sight, op_of, got_or_bad, front_of_sight, front, has_parts, memory_taken, takes_memory, is_whole, begins_whole}
 use Rattle.nats_client_text.specs.declared.read.ClientFront.TheVariants.{Got, Unfinished, Bad}
 

@@ -1,7 +1,7 @@
 -- The commands of a text, one after another.
 use Rattle.std.proofs.Common.{◌≡◌, ℕ, zero, suc, ◌+◌, ◌≤◌, List, [], ◌∷◌, ◌++◌, length, drop, refl, ap, sym, ◌∙◌, arith, length-drop, append_assoc}
 use Rattle.std.specs.Prelude.{IsTrue, OnErr, Result, Ok, Err}
-use Rattle.nats_wire.specs.declared.op.ClientOp.{ClientOp}
+use Rattle.nats_message.specs.declared.op.ClientOp.{ClientOp}
 use Rattle.nats_client_text.specs.Grammar.{front, past, onto_read, read_within, read_of, begins_whole}
 use Rattle.nats_client_text.specs.declared.read.ClientFront.{ClientFront}
 use Rattle.nats_client_text.specs.declared.read.ClientFront.TheVariants.{Got, Unfinished, Bad}

@@ -12,7 +12,7 @@ use Rattle.std.proofs.lemmas.Fmt.{digits_decimal, digits_value-decimal, decimal_
 use Rattle.std.proofs.lemmas.Str.Ascii.{IsAscii-nil}
 use Rattle.std.proofs.lemmas.Bool.{lt-ltb}
 use Rattle.nats_names.specs.Names.{is_separator, is_publishable}
-use Rattle.nats_wire.specs.Operations.{Cut, onto_line, cut_line}
+use Rattle.nats_lines.specs.Operations.{Cut, onto_line, cut_line}
 use Rattle.nats_client_text.specs.Pieces.{pieces_of, begins_number, plain_number, word_of}
 use Rattle.nats_client_text.specs.Grammar.{line_of_word, line_of}
 use Rattle.nats_client_text.specs.Law.{IsName}

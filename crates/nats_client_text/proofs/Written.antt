@@ -8,9 +8,9 @@ use Rattle.std.proofs.lemmas.Bool.{le-ltb}
 use Rattle.nats_header.specs.Headers.{Headers}
 use Rattle.nats_header.specs.Block.{block_text}
 use Rattle.nats_client_text.proofs.Fields.{block_back}
-use Rattle.nats_wire.specs.Commands.{crlf, command_text, command_texts, publication_text}
-use Rattle.nats_wire.specs.declared.op.ClientOp.{ClientOp}
-use Rattle.nats_wire.specs.declared.op.ClientOp.TheVariants.{Subscribe, Unsubscribe, Publish, Ping, Pong, Connect}
+use Rattle.nats_commands.specs.Commands.{crlf, command_text, command_texts, publication_text}
+use Rattle.nats_message.specs.declared.op.ClientOp.{ClientOp}
+use Rattle.nats_message.specs.declared.op.ClientOp.TheVariants.{Subscribe, Unsubscribe, Publish, Ping, Pong, Connect}
 use Rattle.nats_client_text.specs.Pieces.{plain_number, word_of}
 use Rattle.nats_client_text.specs.Grammar.{OpText, got_or_bad, with_block, Publishes, alone, counted, plain, published, short, torn, body, body_of, whole, line_of_word, sight_of_line, sight_of_body, sight, front, onto_read, read_of}
 use Rattle.nats_client_text.specs.Blocks.{block_of}

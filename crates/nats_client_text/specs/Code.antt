@@ -1,8 +1,8 @@
 -- What the reader's values say, in the grammar's words.
 use Rattle.std.specs.Prelude.{◌≡◌, ℕ, ◌+◌, ◌<◌, ◌≤◌, List, [], ◌∷◌, length, Option, Some, None, option_map}
 use Rattle.std.specs.Borrow.{Bor}
-use Rattle.nats_wire.specs.Operations.{Cut}
-use Rattle.nats_wire.specs.declared.op.ClientOp.TheVariants as op
+use Rattle.nats_lines.specs.Operations.{Cut}
+use Rattle.nats_message.specs.declared.op.ClientOp.TheVariants as op
 use Rattle.nats_client_text.specs.Pieces.{pieces_of}
 use Rattle.nats_client_text.specs.Blocks.{lines_of}
 use Rattle.nats_client_text.specs.Grammar as grammar

@@ -4,10 +4,10 @@ use Rattle.std.specs.Prelude.{ℕ, zero, suc, ◌+◌, Bool, true, false, ◌&&�
 use Rattle.std.specs.List.{starts_with, list_all}
 use Rattle.std.specs.Str.{is_utf8}
 use Rattle.nats_names.specs.Names.{is_publishable}
-use Rattle.nats_wire.specs.Operations.{Cut, cut_line}
-use Rattle.nats_wire.specs.Commands.{crlf}
-use Rattle.nats_wire.specs.declared.op.ClientOp.{ClientOp}
-use Rattle.nats_wire.specs.declared.op.ClientOp.TheVariants.{Subscribe, Unsubscribe, Publish, Ping, Pong}
+use Rattle.nats_lines.specs.Operations.{Cut, cut_line}
+use Rattle.nats_commands.specs.Commands.{crlf}
+use Rattle.nats_message.specs.declared.op.ClientOp.{ClientOp}
+use Rattle.nats_message.specs.declared.op.ClientOp.TheVariants.{Subscribe, Unsubscribe, Publish, Ping, Pong}
 use Rattle.nats_client_text.specs.Pieces.{pieces_of, plain_number, word_of}
 use Rattle.nats_client_text.specs.Blocks.{block_of}
 use Rattle.nats_client_text.specs.declared.pieces.Word.{Word}

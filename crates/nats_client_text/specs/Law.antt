@@ -3,9 +3,9 @@ use Rattle.std.specs.Prelude.{◌≡◌, ℕ, ◌+◌, ◌^◌, ◌<◌, true, L
 use Rattle.std.specs.Str.{is_utf8}
 use Rattle.nats_names.specs.Names.{is_publishable}
 use Rattle.nats_header.specs.Headers.{Headers, are_fields, AreDistinct}
-use Rattle.nats_wire.specs.Commands.{command_texts, sent_block}
-use Rattle.nats_wire.specs.declared.op.ClientOp.{ClientOp}
-use Rattle.nats_wire.specs.declared.op.ClientOp.TheVariants.{Subscribe, Unsubscribe, Publish, Ping, Pong, Connect}
+use Rattle.nats_commands.specs.Commands.{command_texts, sent_block}
+use Rattle.nats_message.specs.declared.op.ClientOp.{ClientOp}
+use Rattle.nats_message.specs.declared.op.ClientOp.TheVariants.{Subscribe, Unsubscribe, Publish, Ping, Pong, Connect}
 use Rattle.nats_client_text.specs.Grammar.{read_of}
 use Rattle.nats_client_text.specs.declared.read.ClientEnd.TheVariants as end
 

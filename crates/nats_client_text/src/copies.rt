@@ -1,6 +1,6 @@
 //! Copies of what was read, which outlive the text.
 ghost use Rattle.std.specs.Prelude.{◌≡◌, IfOk, IsTrue, OnErr, Some, option_map};
-ghost use Rattle.nats_wire.specs.declared.op.ClientOp.TheVariants as client;
+ghost use Rattle.nats_message.specs.declared.op.ClientOp.TheVariants as client;
 ghost use Rattle.nats_client_text.specs.Blocks.{block_of};
 ghost use Rattle.nats_client_text.specs.Grammar.{op_of, has_parts};
 ghost use Rattle.nats_client_text.specs.Code.{now_of, op_text_view};

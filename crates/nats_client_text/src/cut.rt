@@ -1,6 +1,6 @@
 //! Cuts a text at CR LF.
 ghost use Rattle.std.specs.Prelude.{◌≡◌, ◌+◌, length, IfSome, option_map};
-ghost use Rattle.nats_wire.specs.Operations.{cut_line};
+ghost use Rattle.nats_lines.specs.Operations.{cut_line};
 ghost use Rattle.nats_client_text.specs.Code.{cut_view};
 
 use memchr::memmem;

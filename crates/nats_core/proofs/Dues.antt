@@ -2,8 +2,8 @@
 use Rattle.std.proofs.Common.{◌≡◌, ℕ, zero, suc, ◌<◌, Bool, true, false, not, is_some, cond, List, [], ◌∷◌, ◌++◌, length, nat_lt, Option, Some, None, refl, sym, ◌∙◌, ap, subst}
 use Rattle.std.proofs.lemmas.Bool.{false≢true}
 use Rattle.std.proofs.lemmas.Option.{none-some, same_Some}
-use Rattle.nats_wire.specs.declared.message.Message.{Message}
-use Rattle.nats_wire.specs.Operations.{Operation, message, Front, got, unfinished, fault, front}
+use Rattle.nats_message.specs.declared.message.Message.{Message}
+use Rattle.nats_lines.specs.Operations.{Operation, message, Front, got, unfinished, fault, front}
 use Rattle.nats_history.specs.declared.call.Call.{Call}
 use Rattle.nats_history.specs.declared.transcript.LinkWord.{LinkWord}
 use Rattle.nats_history.specs.declared.transcript.LinkWord.TheVariants as word

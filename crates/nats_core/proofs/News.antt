@@ -4,7 +4,7 @@ use Rattle.std.specs.Prelude.{◌==◌}
 use Rattle.std.proofs.lemmas.Bool.{true≢false, eq-eqb}
 use Rattle.std.proofs.lemmas.Option.{none-some}
 use Rattle.nats_info.specs.declared.info.ServerInfo.{ServerInfo}
-use Rattle.nats_wire.specs.Operations.{info_op}
+use Rattle.nats_lines.specs.Operations.{info_op}
 use Rattle.nats_history.specs.History.{opened, read, History, last_info, infos}
 use Rattle.nats_history.specs.Parts.{Parts}
 use Rattle.nats_names.specs.declared.failed.NoMemory.{NoMemory}

@@ -1,6 +1,6 @@
 -- Which replies hold a message.
 use Rattle.std.specs.Prelude.{ℕ, Option, Some, None}
-use Rattle.nats_wire.specs.declared.message.Message.{Message}
+use Rattle.nats_message.specs.declared.message.Message.{Message}
 use Rattle.nats_history.specs.declared.call.CallReply.{CallReply}
 use Rattle.nats_history.specs.declared.call.CallReply.TheVariants.{Replied}
 use Rattle.nats_history.specs.declared.call.TakeReply.{TakeReply}

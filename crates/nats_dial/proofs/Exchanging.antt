@@ -5,7 +5,7 @@ use Rattle.std.proofs.lemmas.List.Folds.{concat-append}
 use Rattle.nats_names.specs.declared.cause.Cause.TheVariants as cause
 use Rattle.nats_info.specs.declared.info.ServerInfo.{ServerInfo}
 use Rattle.nats_pool.specs.Auths.{AuthValue}
-use Rattle.nats_wire.specs.Operations.{front}
+use Rattle.nats_lines.specs.Operations.{front}
 use Rattle.nats_addr.specs.Resolving.{risen}
 use Rattle.nats_outside.specs.Told.{ReadTold, WriteTold, ClockTold, bounded, piece_more, ends_met}
 use Rattle.std.specs.Io.KnownBytes.{append_known}

@@ -13,7 +13,7 @@ use Rattle.nats_handshake.specs.declared.stage.Shake.TheVariants as shake
 use Rattle.nats_handshake.specs.declared.course.Greeting.TheVariants as greeting
 use Rattle.nats_handshake.specs.Course.{greeting_at}
 use Rattle.nats_handshake.specs.Errors.{Failure}
-use Rattle.nats_wire.specs.Operations.{front, sight}
+use Rattle.nats_lines.specs.Operations.{front, sight}
 use Rattle.nats_handshake.specs.Heard.{Heard}
 use Rattle.nats_handshake.specs.Opened.{opened, opened_in}
 use Rattle.nats_handshake.specs.Shaking.{Talk, finished, new_talk}

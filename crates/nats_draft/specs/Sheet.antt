@@ -1,7 +1,7 @@
 -- A transcript as it is written, row by row.
 use Rattle.std.specs.Prelude.{◌≡◌, ℕ, suc, ◌<◌, ◌⊎◌, List, [], ◌∷◌, ◌++◌, Option, Some, None}
 use Rattle.nats_names.specs.declared.event.Event.{Event}
-use Rattle.nats_wire.specs.declared.message.Message.{Message}
+use Rattle.nats_message.specs.declared.message.Message.{Message}
 use Rattle.nats_history.specs.declared.call.CallReply.{CallReply}
 use Rattle.nats_history.specs.declared.call.CallReply.TheVariants.{Numbered}
 use Rattle.nats_history.specs.declared.call.TakeReply.{TakeReply}

@@ -2,9 +2,9 @@
 use Rattle.std.proofs.Common.{◌≡◌, refl, ◌∙◌, ap, ℕ, zero, suc, ◌+◌, ◌-◌, ◌<◌, List, ◌++◌, drop, arith, append_assoc, append-nil}
 use Rattle.std.proofs.lemmas.List.{drop-drop}
 use Rattle.nats_names.specs.declared.cause.Cause.TheVariants as cause
-use Rattle.nats_wire.specs.declared.op.ClientOp.TheVariants as client
-use Rattle.nats_wire.specs.Commands.{command_text}
-use Rattle.nats_wire.specs.Operations.{front}
+use Rattle.nats_message.specs.declared.op.ClientOp.TheVariants as client
+use Rattle.nats_commands.specs.Commands.{command_text}
+use Rattle.nats_lines.specs.Operations.{front}
 use Rattle.nats_handshake.specs.Errors.{Failure}
 use Rattle.nats_handshake.specs.declared.course.Course as code
 use Rattle.nats_handshake.specs.declared.course.Step.TheVariants as step

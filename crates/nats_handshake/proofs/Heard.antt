@@ -1,10 +1,10 @@
 -- What the server says comes to the same however it is cut.
 use Rattle.std.proofs.Common.{◌≡◌, refl, ◌∙◌, sym, ap, ℕ, zero, suc, List, ◌++◌, drop, append_assoc}
 use Rattle.std.proofs.lemmas.List.{drop-append-le}
-use Rattle.nats_wire.specs.declared.op.ClientOp.TheVariants as client
-use Rattle.nats_wire.specs.Commands.{command_text}
-use Rattle.nats_wire.specs.Operations.{message, info_op, error_op, ok_op, ping_op, pong_op, Front, unfinished, got, fault, front}
-use Rattle.nats_wire.proofs.Fronts.{front_more, front_fits}
+use Rattle.nats_message.specs.declared.op.ClientOp.TheVariants as client
+use Rattle.nats_commands.specs.Commands.{command_text}
+use Rattle.nats_lines.specs.Operations.{message, info_op, error_op, ok_op, ping_op, pong_op, Front, unfinished, got, fault, front}
+use Rattle.nats_lines.proofs.Fronts.{front_more, front_fits}
 use Rattle.nats_handshake.specs.declared.course.Verdict.TheVariants as verdict
 use Rattle.nats_handshake.specs.Course.{Course, course, course_by, behind_out, step_at, taken_by, GoesOnAlike}
 

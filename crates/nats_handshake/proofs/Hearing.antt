@@ -3,8 +3,8 @@ use Rattle.std.proofs.Common.{◌≡◌, refl, ◌∙◌, sym, ap, subst, inl, i
 use Rattle.std.proofs.lemmas.List.{drop-append-le}
 use Rattle.nats_info.specs.declared.info.ServerInfo.{ServerInfo}
 use Rattle.nats_pool.specs.Auths.{AuthValue}
-use Rattle.nats_wire.specs.Operations.{message, info_op, error_op, ok_op, ping_op, pong_op, Front, unfinished, got, fault, front}
-use Rattle.nats_wire.proofs.Fronts.{front_more, front_fits}
+use Rattle.nats_lines.specs.Operations.{message, info_op, error_op, ok_op, ping_op, pong_op, Front, unfinished, got, fault, front}
+use Rattle.nats_lines.proofs.Fronts.{front_more, front_fits}
 use Rattle.nats_handshake.specs.declared.course.Verdict.{Verdict}
 use Rattle.nats_handshake.specs.declared.course.Verdict.TheVariants as verdict
 use Rattle.nats_handshake.specs.declared.course.Greeting.{Greeting}

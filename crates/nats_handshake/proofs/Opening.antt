@@ -4,8 +4,8 @@ use Rattle.std.specs.List.{concat}
 use Rattle.std.specs.Option.{option_or}
 use Rattle.nats_info.specs.declared.info.ServerInfo.{ServerInfo}
 use Rattle.nats_pool.specs.Auths.{AuthValue}
-use Rattle.nats_wire.specs.Operations.{info_op, front}
-use Rattle.nats_wire.proofs.Fronts.{front_more}
+use Rattle.nats_lines.specs.Operations.{info_op, front}
+use Rattle.nats_lines.proofs.Fronts.{front_more}
 use Rattle.nats_handshake.specs.declared.course.Verdict.{Verdict}
 use Rattle.nats_handshake.specs.declared.course.Verdict.TheVariants as verdict
 use Rattle.nats_handshake.specs.declared.course.Greeting.{Greeting}

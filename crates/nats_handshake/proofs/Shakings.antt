@@ -2,7 +2,7 @@
 use Rattle.std.proofs.Common.{◌≡◌, refl, ◌∙◌, sym, ap, subst, inl, inr, ℕ, ◌+◌, Bool, false, List, ◌++◌, drop, take, length, Option, Result, Ok, Err, Some, None}
 use Rattle.std.proofs.lemmas.List.{drop-drop, take_at}
 use Rattle.nats_pool.specs.Auths.{AuthValue}
-use Rattle.nats_wire.specs.Operations.{front}
+use Rattle.nats_lines.specs.Operations.{front}
 use Rattle.nats_handshake.specs.Errors.{Failure}
 use Rattle.nats_handshake.specs.declared.course.Greeting.{Greeting}
 use Rattle.nats_handshake.specs.declared.course.Greeting.TheVariants as greeting

@@ -6,9 +6,9 @@ use Rattle.nats_names.specs.declared.cause.OpWord.{OpWord}
 use Rattle.nats_names.specs.declared.cause.OpWord.TheVariants as word
 use Rattle.nats_names.specs.declared.server_error.ServerError.{ServerError}
 use Rattle.nats_names.specs.declared.server_error.ServerError.TheVariants as server_error
-use Rattle.nats_wire.specs.declared.op.ClientOp.TheVariants as client
-use Rattle.nats_wire.specs.Commands.{command_text}
-use Rattle.nats_wire.specs.Operations.{Operation, message, info_op, error_op, ok_op, ping_op, pong_op, Front, unfinished, got, fault, front}
+use Rattle.nats_message.specs.declared.op.ClientOp.TheVariants as client
+use Rattle.nats_commands.specs.Commands.{command_text}
+use Rattle.nats_lines.specs.Operations.{Operation, message, info_op, error_op, ok_op, ping_op, pong_op, Front, unfinished, got, fault, front}
 use Rattle.nats_handshake.specs.declared.error.ConnectErrorKind.TheVariants as kind
 use Rattle.nats_handshake.specs.Errors.{Failure}
 use Rattle.nats_handshake.specs.declared.course.Step.{Step}

@@ -4,7 +4,7 @@ use Rattle.nats_names.specs.declared.cause.Cause.{Cause}
 use Rattle.nats_names.specs.declared.cause.Cause.TheVariants as cause
 use Rattle.nats_info.specs.declared.info.ServerInfo.{ServerInfo}
 use Rattle.nats_pool.specs.Auths.{AuthValue}
-use Rattle.nats_wire.specs.Operations.{front, got, info_op}
+use Rattle.nats_lines.specs.Operations.{front, got, info_op}
 use Rattle.nats_handshake.specs.declared.stage.Stage.{Stage}
 use Rattle.nats_handshake.specs.declared.stage.Stage.TheVariants as stage
 use Rattle.nats_handshake.specs.declared.course.Greeting.{Greeting}

@@ -2,7 +2,7 @@
 use Rattle.std.specs.Prelude.{ℕ, List, [], ◌∷◌, ◌++◌, drop, Option, Some, None}
 use Rattle.std.specs.Option.{option_or}
 use Rattle.nats_info.specs.declared.info.ServerInfo.{ServerInfo}
-use Rattle.nats_wire.specs.Operations.{front}
+use Rattle.nats_lines.specs.Operations.{front}
 use Rattle.nats_handshake.specs.declared.course.Greeting.{Greeting}
 use Rattle.nats_handshake.specs.declared.course.Greeting.TheVariants as greeting
 use Rattle.nats_handshake.specs.declared.course.Verdict.{Verdict}

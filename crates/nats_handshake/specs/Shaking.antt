@@ -8,9 +8,9 @@ use Rattle.nats_names.specs.declared.cause.Cause.TheVariants as cause
 use Rattle.nats_info.specs.declared.info.ServerInfo.{ServerInfo}
 use Rattle.nats_connect.specs.Connect.{connect_text}
 use Rattle.nats_pool.specs.Auths.{AuthValue}
-use Rattle.nats_wire.specs.declared.op.ClientOp.TheVariants as client
-use Rattle.nats_wire.specs.Commands.{command_text}
-use Rattle.nats_wire.specs.Operations.{front}
+use Rattle.nats_message.specs.declared.op.ClientOp.TheVariants as client
+use Rattle.nats_commands.specs.Commands.{command_text}
+use Rattle.nats_lines.specs.Operations.{front}
 use Rattle.nats_handshake.specs.declared.error.ConnectErrorKind.{ConnectErrorKind}
 use Rattle.nats_handshake.specs.declared.error.ConnectErrorKind.TheVariants as kind
 use Rattle.nats_handshake.specs.Errors.{Failure}

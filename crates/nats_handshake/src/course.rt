@@ -1,8 +1,8 @@
 //! What a server says in a handshake: its INFO, and then its answers to CONNECT and PING.
 ghost use Rattle.std.specs.Prelude.{◌≡◌, ◌≤◌, ◌<◌, ◌+◌, ◌^◌, ◌++◌, length, drop, IfOk};
-ghost use Rattle.nats_wire.specs.declared.op.ClientOp.TheVariants as client;
-ghost use Rattle.nats_wire.specs.Commands.{command_text};
-ghost use Rattle.nats_wire.specs.Operations.{peeked_view, front};
+ghost use Rattle.nats_message.specs.declared.op.ClientOp.TheVariants as client;
+ghost use Rattle.nats_commands.specs.Commands.{command_text};
+ghost use Rattle.nats_lines.specs.Operations.{peeked_view, front};
 ghost use Rattle.nats_names.specs.declared.cause.Cause.TheVariants as cause;
 ghost use Rattle.nats_handshake.specs.declared.course.Greeting.TheVariants as greeting;
 ghost use Rattle.nats_handshake.specs.Course.{greeted_within, greeting_by, greeting_at, refusal_by, step_by, step_at, taken_by, course, behind_out, course_view, io};

@@ -6,7 +6,7 @@ ghost use Rattle.nats_handshake.specs.Course.{greeting_at, greeted_within, cours
 ghost use Rattle.nats_handshake.specs.Credentials.{SignerAnswers, AuthAnswers, Offers};
 ghost use Rattle.nats_handshake.specs.Shaking.{IsNew, Opens, Welcomes, opening, Shakes, Took, WentOn, Entered, Hears, operations_most, Heeds, Settles, FedOpen, Feeds, Expires, ExpiresOpen, advanced, closed, is_late, is_wanting, end_cause, finished, by_content, left_at, left_by, refused_of, with_bytes};
 ghost use Rattle.nats_handshake.specs.Following.{Followed};
-ghost use Rattle.nats_wire.specs.Operations.{front};
+ghost use Rattle.nats_lines.specs.Operations.{front};
 
 use crate::course::{
     Course, Greeting, HANDSHAKE_OPERATIONS, Verdict, begun, behind, read_course, read_greeting,

@@ -4,10 +4,10 @@ use Rattle.std.proofs.Common.{◌≡◌, ℕ, zero, suc, ◌≤◌, ◌<◌, Boo
 use Rattle.std.proofs.lemmas.Bool.{false≢true, ltb-true, lt-ltb}
 use Rattle.std.proofs.lemmas.List.{append_assoc, length-append}
 use Rattle.std.proofs.lemmas.Option.{none-some}
-use Rattle.nats_wire.specs.declared.op.ClientOp.{ClientOp}
-use Rattle.nats_wire.specs.Laws.{IsGot}
-use Rattle.nats_wire.specs.Operations.{Operation, Front, got, unfinished, fault, front}
-use Rattle.nats_wire.proofs.Fronts.{front_more, past_more}
+use Rattle.nats_message.specs.declared.op.ClientOp.{ClientOp}
+use Rattle.nats_lines.specs.Laws.{IsGot}
+use Rattle.nats_lines.specs.Operations.{Operation, Front, got, unfinished, fault, front}
+use Rattle.nats_lines.proofs.Fronts.{front_more, past_more}
 use Rattle.nats_history.specs.declared.config.Config.{Config}
 use Rattle.nats_history.specs.declared.call.Call.{Call}
 use Rattle.nats_history.specs.declared.turn.Turn.{Turn}

@@ -1,7 +1,7 @@
 -- A subscription that is drained takes its messages in until the PONG of its drain.
 use Rattle.std.proofs.Common.{◌≡◌, ℕ, Bool, true, false, cond, not, eqb, ◌&&◌, [], ◌∷◌, ◌++◌, Option, Some, None, refl, sym, ◌∙◌, ap}
 use Rattle.std.proofs.lemmas.Bool.{false≢true, eq-eqb, eqb-true}
-use Rattle.nats_wire.specs.Operations.{message, pong_op}
+use Rattle.nats_lines.specs.Operations.{message, pong_op}
 use Rattle.nats_tables.specs.Numbers.{is_about}
 use Rattle.nats_history.specs.declared.config.Config.{Config}
 use Rattle.nats_history.specs.declared.call.Call.TheVariants.{Drain}

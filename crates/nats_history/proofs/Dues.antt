@@ -2,8 +2,8 @@
 use Rattle.std.proofs.Common.{◌≡◌, ℕ, zero, suc, ◌-◌, ◌≤◌, ◌<◌, Bool, true, false, cond, List, [], ◌∷◌, ◌++◌, length, nat_lt, Option, Some, None, refl, ◌∙◌, ap, subst, arith}
 use Rattle.std.proofs.lemmas.List.{length-drop}
 use Rattle.std.proofs.lemmas.Option.{none-some, same_Some}
-use Rattle.nats_wire.specs.Operations.{Operation, Front, got, unfinished, fault, front, sight}
-use Rattle.nats_wire.proofs.Fronts.{front_takes, front_fits}
+use Rattle.nats_lines.specs.Operations.{Operation, Front, got, unfinished, fault, front, sight}
+use Rattle.nats_lines.proofs.Fronts.{front_takes, front_fits}
 use Rattle.nats_history.specs.declared.call.Call.{Call}
 use Rattle.nats_history.specs.declared.transcript.LinkWord.{LinkWord}
 use Rattle.nats_history.specs.declared.transcript.LinkWord.TheVariants as word

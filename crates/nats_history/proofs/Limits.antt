@@ -2,8 +2,8 @@
 use Rattle.std.proofs.Common.{◌≡◌, ℕ, suc, ◌≤◌, ◌<◌, ◌^◌, Bool, true, false, cond, not, eqb, nat_le, ◌&&◌, ◌||◌, [], ◌∷◌, ◌++◌, length, max, Option, Some, refl, sym, ◌∙◌, ap, subst, arith}
 use Rattle.std.proofs.lemmas.List.{append-nil, length-append}
 use Rattle.std.proofs.lemmas.Bool.{false≢true, eq-eqb, eqb-true, leb-false}
-use Rattle.nats_wire.specs.declared.message.Message.{Message}
-use Rattle.nats_wire.specs.Operations.{message}
+use Rattle.nats_message.specs.declared.message.Message.{Message}
+use Rattle.nats_lines.specs.Operations.{message}
 use Rattle.nats_history.specs.declared.config.Config.{Config}
 use Rattle.nats_history.specs.declared.call.Call.TheVariants.{Limit}
 use Rattle.nats_history.specs.declared.stage.Stage.{Stage}

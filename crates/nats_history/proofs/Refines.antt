@@ -2,8 +2,8 @@
 use Rattle.std.proofs.Common.{◌≡◌, ℕ, suc, ◌+◌, Bool, true, false, cond, min, List, [], ◌∷◌, ◌++◌, length, drop, refl, sym, ◌∙◌, ap}
 use Rattle.std.proofs.lemmas.List.{append-nil, length-map}
 use Rattle.std.proofs.Math.Seq.{drop-nil}
-use Rattle.nats_wire.specs.declared.op.ClientOp.{ClientOp}
-use Rattle.nats_wire.specs.Operations.{Front, got, unfinished, fault, front, past, behind}
+use Rattle.nats_message.specs.declared.op.ClientOp.{ClientOp}
+use Rattle.nats_lines.specs.Operations.{Front, got, unfinished, fault, front, past, behind}
 use Rattle.nats_history.specs.declared.config.Config.{Config}
 use Rattle.nats_history.specs.History.{Step, opened, fed, read, taken, accepted, handled, link_end, History, is_up, requested, joined, is_got, reads, unread, calls, handled_count, waiting_calls, at_of, given, numbers, told, sub_of, kept, rows_of, commands, texts, text_by, link_text, taken_count, waiting_bytes}
 use Rattle.nats_history.specs.Parts.{parts_of}

@@ -3,8 +3,8 @@ use Rattle.std.proofs.Common.{◌≡◌, ℕ, zero, suc, ◌≤◌, Bool, true, 
 use Rattle.std.proofs.lemmas.List.{append-nil, map-append, length-append, drop-append-le, drop_all}
 use Rattle.std.proofs.lemmas.Bool.{ltb-false, lt-ltb, le-ltb, false≢true}
 use Rattle.std.proofs.Math.Nat.{min-le_right}
-use Rattle.nats_wire.specs.declared.message.Message.{Message}
-use Rattle.nats_wire.specs.Operations.{message}
+use Rattle.nats_message.specs.declared.message.Message.{Message}
+use Rattle.nats_lines.specs.Operations.{message}
 use Rattle.nats_history.specs.declared.config.Config.{Config}
 use Rattle.nats_history.specs.History.{Step, read, accepted, took, gone, History, cut, subscribes, At, given_after, at_after, at_of, given, about, is_given, concerns, Told, nothing_told, second, Sub, sub_of, is_ended, puts, opens, ends, open_if, end_if, stage_after, gone_after, puts_by, told_after, told, is_over, forgotten, kept, rows_of}
 use Rattle.nats_history.specs.declared.stage.Stage.{Stage}

@@ -2,15 +2,15 @@
 use Rattle.std.proofs.Common.{◌≡◌, ℕ, suc, ◌+◌, ◌≤◌, cond, min, List, [], ◌∷◌, ◌++◌, length, drop, refl, sym, ◌∙◌, ap, arith}
 use Rattle.std.proofs.lemmas.List.{append-nil, append_assoc, length-append, drop-append-le, drop-drop, drop_min}
 use Rattle.std.proofs.Math.Nat.{min-le_right}
-use Rattle.nats_wire.specs.Operations.{Front, got, unfinished, fault, front, past, behind}
-use Rattle.nats_wire.specs.Laws.{AllThere}
-use Rattle.nats_wire.proofs.Fronts.{behind_next, behind_more, there_more, there_next}
+use Rattle.nats_lines.specs.Operations.{Front, got, unfinished, fault, front, past, behind}
+use Rattle.nats_lines.specs.Laws.{AllThere}
+use Rattle.nats_lines.proofs.Fronts.{behind_next, behind_more, there_more, there_next}
 use Rattle.nats_history.specs.declared.call.Call.{Call}
 use Rattle.nats_history.specs.declared.config.Config.{Config}
 use Rattle.nats_history.specs.History.{opened, fed, read, taken, accepted, handled, closed, History, joined, is_got, reads, calls, handled_count, waiting_calls, texts, text_by, link_text, taken_count}
 use Rattle.nats_history.specs.After.{write_all}
-use Rattle.nats_wire.specs.Commands.{command_text}
-use Rattle.nats_wire.specs.declared.op.ClientOp.{ClientOp}
+use Rattle.nats_commands.specs.Commands.{command_text}
+use Rattle.nats_message.specs.declared.op.ClientOp.{ClientOp}
 
 -- ---- lists
 

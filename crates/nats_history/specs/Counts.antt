@@ -1,7 +1,7 @@
 -- What is counted of a session: messages and their bytes, in and out, and links.
 use Rattle.std.specs.Prelude.{ℕ, suc, ◌+◌, Bool, List, [], ◌∷◌, length, Option, Some, None, is_some, if◌then◌else◌}
-use Rattle.nats_wire.specs.Operations.{message, length_or_0}
-use Rattle.nats_wire.specs.Commands.{sent_block}
+use Rattle.nats_lines.specs.Operations.{message, length_or_0}
+use Rattle.nats_commands.specs.Commands.{sent_block}
 use Rattle.nats_history.specs.declared.config.Config.{Config}
 use Rattle.nats_history.specs.declared.call.Call.{Call}
 use Rattle.nats_history.specs.declared.statistics.Statistics.{Statistics}

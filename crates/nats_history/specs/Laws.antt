@@ -1,8 +1,8 @@
 -- Sentences about the words on histories and what steps make of parts.
 use Rattle.std.specs.Prelude.{◌≡◌, ℕ, ◌≤◌, ◌<◌, ◌^◌, true, false, List, [], ◌∷◌, ◌++◌, length, map, max, Some, None}
 use Rattle.std.specs.List.{filter}
-use Rattle.nats_wire.specs.declared.message.Message.{Message}
-use Rattle.nats_wire.specs.Operations.{message, pong_op}
+use Rattle.nats_message.specs.declared.message.Message.{Message}
+use Rattle.nats_lines.specs.Operations.{message, pong_op}
 use Rattle.nats_history.specs.declared.config.Config.{Config}
 use Rattle.nats_history.specs.declared.turn.Turn.{Turn}
 use Rattle.nats_history.specs.declared.turn.Turn.TheVariants.{Piece}

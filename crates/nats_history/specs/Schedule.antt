@@ -1,9 +1,9 @@
 -- What each turn of a session makes happen: validity, own steps, due steps, replies.
 use Rattle.std.specs.Prelude.{ℕ, zero, suc, ◌+◌, ◌-◌, ◌^◌, Bool, true, false, not, ◌&&◌, ◌||◌, nat_lt, nat_le, min, List, [], ◌∷◌, ◌++◌, length, Option, Some, None, if◌then◌else◌}
 use Rattle.nats_names.specs.Names.{is_nonempty, is_publishable, is_valid}
-use Rattle.nats_wire.specs.declared.message.Message.{Message}
-use Rattle.nats_wire.specs.Operations.{Operation, pong_op, Front, unfinished, got, fault, front, length_or_0}
-use Rattle.nats_wire.specs.Commands.{sent_block}
+use Rattle.nats_message.specs.declared.message.Message.{Message}
+use Rattle.nats_lines.specs.Operations.{Operation, pong_op, Front, unfinished, got, fault, front, length_or_0}
+use Rattle.nats_commands.specs.Commands.{sent_block}
 use Rattle.nats_history.specs.declared.config.Config.{Config}
 use Rattle.nats_history.specs.declared.call.Call.{Call}
 use Rattle.nats_history.specs.declared.call.Call.TheVariants.{Reconnect}

@@ -2,8 +2,8 @@
 ghost use Rattle.std.specs.Prelude.{◌≡◌, ◌<◌, ◌^◌, ◌+◌, ◌||◌, IfOk, Some};
 ghost use Rattle.std.specs.Option.{option_map};
 ghost use Rattle.nats_names.specs.Names.{is_publishable};
-ghost use Rattle.nats_wire.specs.Commands.{sent_block};
-ghost use Rattle.nats_wire.specs.Operations.{length_or_0};
+ghost use Rattle.nats_commands.specs.Commands.{sent_block};
+ghost use Rattle.nats_lines.specs.Operations.{length_or_0};
 ghost use Rattle.nats_history.specs.Sent.{sent, limits, is_at_inbox, sent_view, reply_view, asked_view};
 ghost use Rattle.nats_history.specs.History.{asks, names, subscribes, shuts, drains_all, waits_as, takes_ticket, requests, lets_go};
 ghost use Rattle.nats_history.specs.Schedule.{ends_link, may_publish_to, passes, may_reply_at, may_send, has_subjects, has_group, size_with, size_of};

@@ -1,6 +1,6 @@
 //! What is counted of a session.
 ghost use Rattle.std.specs.Prelude.{◌≡◌, ◌+◌, Some, length};
-ghost use Rattle.nats_wire.specs.Operations.{length_or_0};
+ghost use Rattle.nats_lines.specs.Operations.{length_or_0};
 ghost use Rattle.nats_history.specs.Sent.{sent_view, reply_view};
 ghost use Rattle.nats_history.specs.History.{cut, inbox_of, reply_text, handled};
 ghost use Rattle.nats_history.specs.Counts.{out_messages_after, bytes_with, out_bytes_by, statistics_after, message_counted, link_counted};

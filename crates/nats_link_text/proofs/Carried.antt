@@ -1,8 +1,8 @@
 -- What links carry: the texts of their commands, which are read back.
 use Rattle.std.proofs.Common.{◌≡◌, Bool, true, false, cond, List, [], ◌∷◌, ◌++◌, map, Result, Ok, Err, IfOk, refl, sym, ap, ap₂, ◌∙◌, subst, take-append-drop, append_assoc}
 use Rattle.std.proofs.lemmas.List.{map-append}
-use Rattle.nats_wire.specs.declared.op.ClientOp.{ClientOp}
-use Rattle.nats_wire.specs.Commands.{command_text, command_texts}
+use Rattle.nats_message.specs.declared.op.ClientOp.{ClientOp}
+use Rattle.nats_commands.specs.Commands.{command_text, command_texts}
 use Rattle.nats_client_text.specs.Grammar.{read_of}
 use Rattle.nats_client_text.specs.Law.{ReadBack}
 use Rattle.nats_history.specs.declared.config.Config.{Config}

@@ -17,9 +17,9 @@ use Rattle.nats_info.specs.declared.info.ServerInfo.{ServerInfo}
 use Rattle.nats_info.specs.Info.{default_info}
 use Rattle.nats_info.specs.Fields.{field, whole, small_whole, text_field, switch, count, with_names, with_places, with_client, with_switches, with_fields, info_of, info_at}
 use Rattle.nats_names.specs.declared.server_error.ServerError.{ServerError}
-use Rattle.nats_wire.specs.declared.decode.Word.{Word}
-use Rattle.nats_wire.specs.declared.decode.Word.TheVariants as word
-use Rattle.nats_wire.specs.Operations.{Operation, message, info_op, got, Cut, cut_line, word_of, Head, head_of, HeaderHead, header_head_of, error_of, message_of, OpText, plain, info_text, headed, headed_text, Sight, less, whole as stands, bad, message_or_bad, headed_or_bad, error_or_bad, sight_of_word, sight_of_cut, sight, op_of, lost_at, got_or_fault, front_of_sight, front}
+use Rattle.nats_lines.specs.declared.word.Word.{Word}
+use Rattle.nats_lines.specs.declared.word.Word.TheVariants as word
+use Rattle.nats_lines.specs.Operations.{Operation, message, info_op, got, Cut, cut_line, word_of, Head, head_of, HeaderHead, header_head_of, error_of, message_of, OpText, plain, info_text, headed, headed_text, Sight, less, whole as stands, bad, message_or_bad, headed_or_bad, error_or_bad, sight_of_word, sight_of_cut, sight, op_of, lost_at, got_or_fault, front_of_sight, front}
 use Rattle.serde_json.specs.Read.{is_integer, float_of, number_from, number_of, of_json, of_items, of_members, max_depth, read}
 
 -- ---- numbers

@@ -4,9 +4,9 @@ use Rattle.std.specs.Prelude.{nat_lt}
 use Rattle.std.proofs.lemmas.Bool.{false≢true, ltb-true, ltb-false}
 use Rattle.nats_tables.specs.Numbers.{item_of}
 use Rattle.nats_tables.proofs.Numbers.{item_missing}
-use Rattle.nats_wire.specs.declared.op.ClientOp.{ClientOp}
-use Rattle.nats_wire.specs.declared.op.ClientOp.TheVariants as client
-use Rattle.nats_wire.specs.Operations.{message, ping_op}
+use Rattle.nats_message.specs.declared.op.ClientOp.{ClientOp}
+use Rattle.nats_message.specs.declared.op.ClientOp.TheVariants as client
+use Rattle.nats_lines.specs.Operations.{message, ping_op}
 use Rattle.nats_client_text.specs.Law.{IsName, IsNameOrNone, IsBelow, AreSendable}
 use Rattle.nats_history.specs.declared.config.Config.{Config}
 use Rattle.nats_history.specs.declared.call.Call.{Call}

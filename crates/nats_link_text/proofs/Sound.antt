@@ -1,8 +1,8 @@
 -- Histories whose calls say no more than they are: what the words tell of them keeps that.
 use Rattle.std.proofs.Common.{◌≡◌, ℕ, zero, suc, ◌<◌, ◌^◌, Bool, true, false, cond, ◌||◌, ◌==◌, List, [], ◌∷◌, ◌++◌, drop, map, Option, Some, None, refl, lit<}
 use Rattle.std.proofs.lemmas.Bool.{false≢true}
-use Rattle.nats_wire.specs.Operations.{Operation, info_op}
-use Rattle.nats_wire.specs.Commands.{sent_block}
+use Rattle.nats_lines.specs.Operations.{Operation, info_op}
+use Rattle.nats_commands.specs.Commands.{sent_block}
 use Rattle.nats_client_text.specs.Law.{IsName, IsNameOrNone, IsBelow, IsCounted, AreHeadersOrNone}
 use Rattle.nats_history.specs.declared.config.Config.{Config}
 use Rattle.nats_history.specs.declared.call.Call.{Call}

@@ -6,8 +6,8 @@ use Rattle.std.proofs.lemmas.Bool.{false≢true, ltb-false, leb-false}
 use Rattle.std.proofs.lemmas.Option.{none-some, same_Some}
 use Rattle.nats_names.specs.Names.{is_dot, is_nonempty, is_publishable, is_valid}
 use Rattle.nats_header.specs.Headers.{Headers}
-use Rattle.nats_wire.specs.Commands.{sent_block}
-use Rattle.nats_wire.specs.Operations.{Front, got, unfinished, fault, front, length_or_0}
+use Rattle.nats_commands.specs.Commands.{sent_block}
+use Rattle.nats_lines.specs.Operations.{Front, got, unfinished, fault, front, length_or_0}
 use Rattle.nats_client_text.specs.Law.{IsNameOrNone, IsCounted}
 use Rattle.nats_history.specs.declared.config.Config.{Config}
 use Rattle.nats_history.specs.declared.call.Call.{Call}

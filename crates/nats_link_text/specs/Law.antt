@@ -1,7 +1,7 @@
 -- No smuggling: what a link carries is exactly the commands of its part of the history.
 use Rattle.std.specs.Prelude.{◌≡◌, false, List, map}
-use Rattle.nats_wire.specs.declared.op.ClientOp.{ClientOp}
-use Rattle.nats_wire.specs.Commands.{command_texts}
+use Rattle.nats_message.specs.declared.op.ClientOp.{ClientOp}
+use Rattle.nats_commands.specs.Commands.{command_texts}
 use Rattle.nats_client_text.specs.Grammar.{read_of}
 use Rattle.nats_client_text.specs.Law.{as_read}
 use Rattle.nats_client_text.specs.declared.read.ClientEnd.TheVariants as end

@@ -3,7 +3,7 @@ use Rattle.std.proofs.Common.{◌≡◌, refl, ◌∙◌, sym, ap, subst, inl, i
 use Rattle.std.proofs.lemmas.Bool.{true≢false, false≢true}
 use Rattle.std.proofs.lemmas.Option.{none-some}
 use Rattle.nats_info.specs.declared.info.ServerInfo.{ServerInfo}
-use Rattle.nats_wire.specs.Operations.{Operation, Front, unfinished, got, fault, front, past, operations}
+use Rattle.nats_lines.specs.Operations.{Operation, Front, unfinished, got, fault, front, past, operations}
 use Rattle.nats_history.specs.History.{Step, opened, fed, read, link_end, max_payload_after}
 use Rattle.nats_history.specs.Schedule.{due, due_by, most_due}
 use Rattle.nats_history.specs.declared.transcript.LinkWord.TheVariants as word

@@ -3,10 +3,10 @@ use Rattle.std.proofs.Common.{◌≡◌, refl, sym, ap, ◌∙◌, ℕ, suc, ◌
 use Rattle.std.specs.Prelude.{◌==◌, ◌&&◌, if◌then◌else◌}
 use Rattle.std.specs.Option.{option_map}
 use Rattle.nats_names.specs.declared.server_error.ServerError.{ServerError}
-use Rattle.nats_wire.specs.Operations.{Operation, message, error_op, ok_op, ping_op, pong_op, unfinished, got, Cut, onto_line, cut_line, word_of, Head, HeaderHead, message_of, OpText, plain, info_text, headed_text, Sight, less, whole, bad, message_or_bad, headed_or_bad, error_or_bad, head_of, header_head_of, error_of, sight_of_word, sight_of_cut, sight, op_of, lost_at, got_or_fault, front_of_sight, front}
-use Rattle.nats_wire.specs.declared.decode.Word.{Word}
-use Rattle.nats_wire.specs.declared.decode.Word.TheVariants as word
-use Rattle.nats_wire.proofs.Fronts.{cut_more, cut_length}
+use Rattle.nats_lines.specs.Operations.{Operation, message, error_op, ok_op, ping_op, pong_op, unfinished, got, Cut, onto_line, cut_line, word_of, Head, HeaderHead, message_of, OpText, plain, info_text, headed_text, Sight, less, whole, bad, message_or_bad, headed_or_bad, error_or_bad, head_of, header_head_of, error_of, sight_of_word, sight_of_cut, sight, op_of, lost_at, got_or_fault, front_of_sight, front}
+use Rattle.nats_lines.specs.declared.word.Word.{Word}
+use Rattle.nats_lines.specs.declared.word.Word.TheVariants as word
+use Rattle.nats_lines.proofs.Fronts.{cut_more, cut_length}
 
 -- ---- the line
 

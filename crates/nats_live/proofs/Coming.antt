@@ -1,7 +1,7 @@
 -- How a session begins: its link comes up, and the bytes that came behind the handshake are its first piece.
 use Rattle.std.proofs.Common.{◌≡◌, refl, ◌∙◌, sym, ap, subst, ℕ, true, nat_lt, List, [], length, None, Ok}
 use Rattle.nats_info.specs.declared.info.ServerInfo.{ServerInfo}
-use Rattle.nats_wire.specs.Operations.{Front, unfinished, front, sight}
+use Rattle.nats_lines.specs.Operations.{Front, unfinished, front, sight}
 use Rattle.nats_history.specs.declared.turn.Turn.TheVariants as turns
 use Rattle.nats_history.specs.History.{opened, fed}
 use Rattle.nats_history.specs.Schedule.{due, due_by, is_valid_turn, write_limit}

@@ -10,7 +10,7 @@ use Rattle.url.specs.Parts.{Parts}
 use Rattle.nats_addr.specs.Addr.{addr_of, is_tls, is_websocket}
 use Rattle.nats_info.specs.declared.info.ServerInfo.{ServerInfo}
 use Rattle.nats_names.specs.declared.cause.Cause.{Cause}
-use Rattle.nats_wire.specs.Operations.{front}
+use Rattle.nats_lines.specs.Operations.{front}
 use Rattle.nats_pool.specs.Auths.{AuthValue}
 use Rattle.nats_pool.specs.declared.auth.Auth.{Auth}
 use Rattle.nats_pool.specs.declared.pool_parts.Choice.{Choice}

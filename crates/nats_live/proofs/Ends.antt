@@ -4,7 +4,7 @@ use Rattle.std.specs.Global.{Vec}
 use Rattle.nats_info.specs.declared.info.ServerInfo.{ServerInfo}
 use Rattle.nats_names.specs.declared.cause.Cause.TheVariants as cause
 use Rattle.nats_outside.specs.Told.{Seen as World, ReadTold, WriteTold}
-use Rattle.nats_wire.specs.Operations.{Operation, operations}
+use Rattle.nats_lines.specs.Operations.{Operation, operations}
 use Rattle.nats_session.specs.Handler.{Seen}
 use Rattle.nats_dial.specs.Causes.{Onward}
 use Rattle.nats_dial.specs.Lines.{Took}

@@ -7,9 +7,9 @@ use Rattle.nats_pool.specs.Auths.{AuthValue}
 use Rattle.nats_outside.specs.Counts.{Rose}
 use Rattle.nats_outside.specs.Told.{Seen, ReadTold, WriteTold, ended_more, word_of}
 use Rattle.nats_outside.specs.declared.dialer.DialWord.TheVariants as word
-use Rattle.nats_wire.specs.declared.op.ClientOp.TheVariants as client
-use Rattle.nats_wire.specs.Commands.{command_text}
-use Rattle.nats_wire.specs.Operations.{Operation, operations}
+use Rattle.nats_message.specs.declared.op.ClientOp.TheVariants as client
+use Rattle.nats_commands.specs.Commands.{command_text}
+use Rattle.nats_lines.specs.Operations.{Operation, operations}
 use Rattle.nats_handshake.specs.Opened.{Opened, opened, opened_in}
 use Rattle.nats_handshake.specs.Shaking.{opening, wants_tls}
 use Rattle.nats_handshake.proofs.Opening.{with_later, opened_later, succeeds_opened}

@@ -2,10 +2,10 @@
 use Rattle.std.proofs.Common.{◌≡◌, refl, ◌∙◌, sym, ap, subst, ℕ, zero, suc, ◌+◌, ◌<◌, ◌≤◌, arith, Bool, true, false, true≢false, ◌==◌, ◌||◌, ◌&&◌, nat_lt, lt-ltb, ne_eqb, List, [], ◌∷◌, ◌++◌, length, length-append, drop, append_assoc, append-nil, length-drop, drop_of_length-le, Option, Some, None, if◌then◌else◌}
 use Rattle.std.proofs.lemmas.List.{drop-append-le}
 use Rattle.std.proofs.lemmas.Bool.{false≢true}
-use Rattle.nats_wire.specs.declared.message.Message.{Message}
-use Rattle.nats_wire.specs.declared.op.ClientOp.{ClientOp}
-use Rattle.nats_wire.specs.Operations.{Operation, message, info_op, error_op, ok_op, ping_op, pong_op, Front, unfinished, got, fault, front, past, operations}
-use Rattle.nats_wire.proofs.Fronts.{front_fits, front_takes}
+use Rattle.nats_message.specs.declared.message.Message.{Message}
+use Rattle.nats_message.specs.declared.op.ClientOp.{ClientOp}
+use Rattle.nats_lines.specs.Operations.{Operation, message, info_op, error_op, ok_op, ping_op, pong_op, Front, unfinished, got, fault, front, past, operations}
+use Rattle.nats_lines.proofs.Fronts.{front_fits, front_takes}
 use Rattle.nats_history.specs.declared.call.CallReply.{CallReply}
 use Rattle.nats_history.specs.declared.stage.Stage.TheVariants as stages
 use Rattle.nats_history.specs.History as history

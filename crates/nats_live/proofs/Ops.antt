@@ -1,11 +1,11 @@
 -- What is unread goes on behind what was read; what operations answer and say.
 use Rattle.std.proofs.Common.{◌≡◌, refl, ◌∙◌, sym, ap, ℕ, ◌==◌, Bool, true, false, if◌then◌else◌, List, [], ◌∷◌, ◌++◌, length, drop, append_assoc, append-nil}
 use Rattle.std.proofs.lemmas.List.{drop-append-le}
-use Rattle.nats_wire.specs.declared.message.Message.{Message}
-use Rattle.nats_wire.specs.Laws.{IsGot}
-use Rattle.nats_wire.specs.Operations.{Operation, message, info_op, error_op, ok_op, ping_op, pong_op, Front, unfinished, got, fault, front, past, behind, operations}
-use Rattle.nats_wire.proofs.Fronts.{front_more, front_fits}
-use Rattle.nats_wire.proofs.Reading.{operations_next, operations_none}
+use Rattle.nats_message.specs.declared.message.Message.{Message}
+use Rattle.nats_lines.specs.Laws.{IsGot}
+use Rattle.nats_lines.specs.Operations.{Operation, message, info_op, error_op, ok_op, ping_op, pong_op, Front, unfinished, got, fault, front, past, behind, operations}
+use Rattle.nats_lines.proofs.Fronts.{front_more, front_fits}
+use Rattle.nats_lines.proofs.Reading.{operations_next, operations_none}
 use Rattle.nats_live.specs.Ended.{messages, is_fault, ends_in_fault, pong, pongs}
 use Rattle.nats_live.specs.Flow.{GoesOn}
 

@@ -2,8 +2,8 @@
 use Rattle.std.proofs.Common.{◌≡◌, refl, ◌∙◌, sym, ap, subst, ℕ, ◌+◌, ◌<◌, arith, Bool, true, false, true≢false, not, ◌&&◌, nat_lt, List, [], ◌++◌, length, le-ltb, ltb-true, Option, Some, None, if◌then◌else◌, Result, Ok, Err}
 use Rattle.std.specs.List.{list_all}
 use Rattle.nats_names.specs.Names.{is_separator, is_nonempty, is_publishable}
-use Rattle.nats_wire.specs.declared.message.OutboundMessage.{OutboundMessage}
-use Rattle.nats_wire.specs.Operations.{front, unfinished}
+use Rattle.nats_message.specs.declared.message.OutboundMessage.{OutboundMessage}
+use Rattle.nats_lines.specs.Operations.{front, unfinished}
 use Rattle.nats_history.specs.declared.call.Call.{Call}
 use Rattle.nats_history.specs.declared.call.Call.TheVariants as call
 use Rattle.nats_history.specs.declared.call.CallReply.{CallReply}

@@ -1,8 +1,8 @@
 -- A subscription on a session of which no operation is unread: what one due step, one write, one take and the link's end make of it.
 use Rattle.std.proofs.Common.{◌≡◌, refl, ◌∙◌, sym, ap, subst, ℕ, zero, suc, ◌+◌, ◌≤◌, arith, min, Bool, true, false, true≢false, nat_lt, List, [], ◌∷◌, ◌++◌, length, take, drop, append-nil, length-drop, drop-drop, None}
 use Rattle.std.proofs.lemmas.Bool.{false≢true}
-use Rattle.nats_wire.specs.declared.message.Message.{Message}
-use Rattle.nats_wire.specs.Operations.{Operation, Front, unfinished, front, operations}
+use Rattle.nats_message.specs.declared.message.Message.{Message}
+use Rattle.nats_lines.specs.Operations.{Operation, Front, unfinished, front, operations}
 use Rattle.nats_history.specs.declared.call.Call.TheVariants as call
 use Rattle.nats_history.specs.declared.call.TakeReply.{TakeReply}
 use Rattle.nats_history.specs.declared.call.TakeReply.TheVariants as takes

@@ -9,8 +9,8 @@ use Rattle.std.proofs.lemmas.Option.{none-some}
 use Rattle.nats_names.specs.Names.{is_valid}
 use Rattle.nats_outside.specs.Told.{ReadTold, WriteTold, piece_more}
 use Rattle.nats_dial.specs.Lines.{Took}
-use Rattle.nats_wire.specs.declared.message.Message.{Message}
-use Rattle.nats_wire.specs.Operations.{Operation, Front, unfinished, front, operations}
+use Rattle.nats_message.specs.declared.message.Message.{Message}
+use Rattle.nats_lines.specs.Operations.{Operation, Front, unfinished, front, operations}
 use Rattle.nats_history.specs.declared.call.Call.{Call}
 use Rattle.nats_history.specs.declared.call.Call.TheVariants as call
 use Rattle.nats_history.specs.declared.call.CallReply.{CallReply}

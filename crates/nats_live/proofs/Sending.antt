@@ -2,8 +2,8 @@
 use Rattle.std.proofs.Common.{◌≡◌, refl, ◌∙◌, sym, ap, subst, ℕ, zero, suc, ◌+◌, ◌-◌, ◌≤◌, arith, min, Bool, true, false, true≢false, nat_lt, nat_le, List, [], ◌∷◌, ◌++◌, length, take, drop, append_assoc, append-nil, take-append-drop, length-drop, drop_of_length-le, leb-true, leb-false, Some, None, if◌then◌else◌}
 use Rattle.std.proofs.lemmas.Bool.{false≢true}
 use Rattle.std.proofs.lemmas.Option.{none-some}
-use Rattle.nats_wire.specs.declared.message.OutboundMessage.{OutboundMessage}
-use Rattle.nats_wire.specs.Operations.{Front, unfinished, front}
+use Rattle.nats_message.specs.declared.message.OutboundMessage.{OutboundMessage}
+use Rattle.nats_lines.specs.Operations.{Front, unfinished, front}
 use Rattle.nats_history.specs.declared.call.Call.{Call}
 use Rattle.nats_history.specs.declared.call.Call.TheVariants as call
 use Rattle.nats_history.specs.declared.call.CallReply.{CallReply}

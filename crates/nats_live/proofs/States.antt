@@ -1,6 +1,6 @@
 -- A session of one link, written out: what one due step makes of it is computed.
 use Rattle.std.proofs.Common.{◌≡◌, refl, ◌∙◌, sym, ap, ℕ, zero, suc, ◌==◌, Bool, true, false, nat_lt, List, [], ◌++◌, length, append-nil, Option, None, if◌then◌else◌}
-use Rattle.nats_wire.specs.Operations.{Operation, message, info_op, error_op, ok_op, ping_op, pong_op, Front, unfinished, got, fault, front, past}
+use Rattle.nats_lines.specs.Operations.{Operation, message, info_op, error_op, ok_op, ping_op, pong_op, Front, unfinished, got, fault, front, past}
 use Rattle.nats_history.specs.declared.call.CallReply.{CallReply}
 use Rattle.nats_history.specs.declared.transcript.LinkWord.TheVariants as word
 use Rattle.nats_history.specs.History.{Step, read, link_end, Sub, max_payload_after, info_after, infos_after, all_reads_after, new_events, end_events, unsubscribe_command, is_closing_at}

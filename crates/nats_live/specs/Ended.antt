@@ -2,10 +2,10 @@
 use Rattle.std.specs.Prelude.{◌≡◌, ◌≤◌, ◌==◌, ℕ, Bool, true, false, List, [], ◌∷◌, ◌++◌, length, take, drop, Option, Some, None, if◌then◌else◌}
 use Rattle.std.specs.List.{concat, flat_map}
 use Rattle.nats_pool.specs.Auths.{AuthValue}
-use Rattle.nats_wire.specs.declared.message.Message.{Message}
-use Rattle.nats_wire.specs.declared.op.ClientOp.TheVariants as client
-use Rattle.nats_wire.specs.Commands.{command_text}
-use Rattle.nats_wire.specs.Operations.{Operation, message, ping_op, Front, unfinished, got, fault, front, behind, operations}
+use Rattle.nats_message.specs.declared.message.Message.{Message}
+use Rattle.nats_message.specs.declared.op.ClientOp.TheVariants as client
+use Rattle.nats_commands.specs.Commands.{command_text}
+use Rattle.nats_lines.specs.Operations.{Operation, message, ping_op, Front, unfinished, got, fault, front, behind, operations}
 use Rattle.nats_history.specs.History.{read, max_payload_after}
 use Rattle.nats_handshake.specs.Opened.{Opened, opened}
 use Rattle.nats_handshake.specs.Shaking.{opening, wants_tls}

@@ -5,13 +5,13 @@ use Rattle.std.specs.List.{concat, flat_map}
 use Rattle.nats_names.specs.Names.{is_publishable, is_valid}
 use Rattle.nats_names.specs.declared.cause.Cause.TheVariants as cause
 use Rattle.nats_names.specs.declared.failed.NoMemory.{NoMemory}
-use Rattle.nats_wire.specs.declared.op.ClientOp.TheVariants as client
-use Rattle.nats_wire.specs.Commands.{command_text}
-use Rattle.nats_wire.specs.declared.message.Message.{Message}
-use Rattle.nats_wire.specs.Operations.{Operation, operations}
+use Rattle.nats_message.specs.declared.op.ClientOp.TheVariants as client
+use Rattle.nats_commands.specs.Commands.{command_text}
+use Rattle.nats_message.specs.declared.message.Message.{Message}
+use Rattle.nats_lines.specs.Operations.{Operation, operations}
 use Rattle.nats_outside.specs.Told.{ReadTold, WriteTold}
 use Rattle.nats_dial.specs.Lines.{Took}
-use Rattle.nats_wire.specs.declared.message.OutboundMessage.{OutboundMessage}
+use Rattle.nats_message.specs.declared.message.OutboundMessage.{OutboundMessage}
 use Rattle.nats_history.specs.declared.call.Call.{Call}
 use Rattle.nats_history.specs.declared.call.Call.TheVariants as call
 use Rattle.nats_history.specs.declared.call.CallReply.{CallReply}

@@ -2,7 +2,7 @@
 ghost use Rattle.std.specs.Prelude.{◌≡◌, ◌≤◌, ◌<◌, ℕ, [], List, ◌++◌, length, IsTrue, OnOk};
 ghost use Rattle.nats_script.specs.Printed.{message_line};
 ghost use Rattle.nats_dial.specs.Lines.{Took};
-ghost use Rattle.nats_wire.specs.Operations.{Operation};
+ghost use Rattle.nats_lines.specs.Operations.{Operation};
 ghost use Rattle.nats_core.specs.Calls.{parts_in};
 ghost use Rattle.nats_live.specs.Flow.{HasBegun, IsWritten, ReceiveEnds, ReceivesAll, Receives, Subscribes, TakesAll, TakesOne, message_in, subscribe_answer};
 

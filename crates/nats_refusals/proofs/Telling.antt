@@ -2,7 +2,7 @@
 use Rattle.std.proofs.Common.{◌≡◌, ℕ, Bool, List, Option, refl, sym, ◌<◌, arith}
 use Rattle.std.proofs.lemmas.Bool.{false≢true}
 use Rattle.nats_header.specs.Headers.{Headers}
-use Rattle.nats_wire.specs.declared.message.OutboundMessage.{OutboundMessage}
+use Rattle.nats_message.specs.declared.message.OutboundMessage.{OutboundMessage}
 use Rattle.nats_history.specs.declared.call.Call.TheVariants.{Publish, Subscribe, Request, Flush}
 use Rattle.nats_refusals.specs.declared.refusal.Refusal.{Refusal}
 use Rattle.nats_refusals.specs.declared.refusal.Refusal.TheVariants.{InvalidSubject, InvalidQueueName, TooLarge, Closed, NoNumber, NoPart, Full, FlushFailed, NoResponders, TimedOut, Dropped, NoMemory}

@@ -1,7 +1,7 @@
 -- What replies come to, and for what each call may come to nothing.
 use Rattle.std.specs.Prelude.{◌≡◌, ℕ, ◌+◌, ◌<◌, ◌≤◌, Bool, true, false, ◌&&◌, ◌||◌, Option, Some, None, Result, Ok, Err, is_some, not}
 use Rattle.nats_names.specs.Names.{is_publishable, is_valid}
-use Rattle.nats_wire.specs.declared.message.Message.{Message}
+use Rattle.nats_message.specs.declared.message.Message.{Message}
 use Rattle.nats_history.specs.declared.call.Call.{Call}
 use Rattle.nats_history.specs.declared.call.Call.TheVariants.{Publish, Subscribe, Request}
 use Rattle.nats_history.specs.declared.call.CallReply.{CallReply}

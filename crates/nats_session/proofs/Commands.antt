@@ -4,9 +4,9 @@ use Rattle.std.proofs.Common.{◌≡◌, ℕ, suc, Bool, true, false, List, [], 
 use Rattle.std.proofs.lemmas.Bool.{false≢true}
 use Rattle.std.proofs.lemmas.Option.{none-some, same_Some}
 use Rattle.nats_names.specs.declared.event.Event.{Event}
-use Rattle.nats_wire.specs.declared.op.ClientOp.{ClientOp}
-use Rattle.nats_wire.specs.Commands.{command_text, command_texts}
-use Rattle.nats_wire.specs.Operations.{Operation, pong_op, got, front, past}
+use Rattle.nats_message.specs.declared.op.ClientOp.{ClientOp}
+use Rattle.nats_commands.specs.Commands.{command_text, command_texts}
+use Rattle.nats_lines.specs.Operations.{Operation, pong_op, got, front, past}
 use Rattle.nats_wire.specs.Wire.{Channel, new_channel, with_waiting}
 use Rattle.nats_history.specs.declared.call.Call.{Call}
 use Rattle.nats_history.specs.declared.call.Call.TheVariants.{Reconnect}

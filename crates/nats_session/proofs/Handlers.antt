@@ -5,7 +5,7 @@ use Rattle.std.proofs.lemmas.Bool.{false≢true}
 use Rattle.std.proofs.lemmas.Option.{none-some, same_Some}
 use Rattle.std.proofs.lemmas.Result.{on_ok_weaker}
 use Rattle.nats_names.specs.declared.event.Event.{Event}
-use Rattle.nats_wire.specs.declared.message.Message.{Message}
+use Rattle.nats_message.specs.declared.message.Message.{Message}
 use Rattle.nats_history.specs.declared.config.Config.{Config}
 use Rattle.nats_history.specs.declared.call.Call.{Call}
 use Rattle.nats_history.specs.declared.call.Call.TheVariants.{Unsubscribe, DrainAll, Flush, Request}
@@ -26,7 +26,7 @@ use Rattle.nats_history.specs.Tickets.{queued_with, waits_for_reply, requests_bu
 use Rattle.nats_history.specs.Parts.{Subs, Parts}
 use Rattle.nats_history.specs.Schedule.{refusal, reply_by, accepted_reply, call_reply, accepted_step, gone_step, call_steps, is_closed_sub, oldest, sub_take, take_reply_of, take_reply, is_there, took_step, own_steps, due, put_steps, chain, due_chain}
 use Rattle.nats_history.specs.After.{new_sub, sub_after, subs_after, after, after_all, events_of, settled_of}
-use Rattle.nats_wire.specs.Operations.{unfinished, front}
+use Rattle.nats_lines.specs.Operations.{unfinished, front}
 use Rattle.nats_history.proofs.Dues.{nothing_there}
 use Rattle.nats_history.proofs.Refines.{parts_after}
 use Rattle.nats_tables.proofs.Numbers.{at_number_same, agree_at}

@@ -3,8 +3,8 @@ use Rattle.std.proofs.Common.{◌≡◌, ℕ, suc, ◌==◌, Bool, true, false, 
 use Rattle.std.proofs.lemmas.Bool.{eqb-true, eq-eqb, ne_eqb}
 use Rattle.nats_names.specs.declared.event.Event.{Event}
 use Rattle.nats_names.specs.declared.event.Event.TheVariants.{SlowConsumer}
-use Rattle.nats_wire.specs.declared.message.Message.{Message}
-use Rattle.nats_wire.specs.Operations.{Operation, message, got, front, past}
+use Rattle.nats_message.specs.declared.message.Message.{Message}
+use Rattle.nats_lines.specs.Operations.{Operation, message, got, front, past}
 use Rattle.nats_history.specs.Parts.{Subs}
 use Rattle.nats_tables.specs.Numbers.{at_number, item_of}
 use Rattle.nats_history.specs.History.{came, read, cut, Sub, kept, unsubscribe_command, is_closing_at, drop_events}

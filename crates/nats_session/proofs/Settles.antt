@@ -3,7 +3,7 @@ use Rattle.std.specs.Option.{option_map}
 use Rattle.std.proofs.Common.{◌≡◌, ℕ, ◌<◌, Bool, true, false, cond, not, ◌&&◌, ◌||◌, ◌==◌, length, arith, List, [], ◌∷◌, ◌++◌, Option, Some, None, is_some, refl, sym, ◌∙◌, ap, subst}
 use Rattle.std.proofs.lemmas.Bool.{false≢true, eqb-true}
 use Rattle.std.proofs.lemmas.Option.{none-some, same_Some}
-use Rattle.nats_wire.specs.Operations.{peeked_view, message, pong_op, Front, got, unfinished, fault, front}
+use Rattle.nats_lines.specs.Operations.{peeked_view, message, pong_op, Front, got, unfinished, fault, front}
 use Rattle.nats_history.specs.declared.call.Call.{Call}
 use Rattle.nats_history.specs.declared.call.Call.TheVariants.{Reconnect}
 use Rattle.nats_history.specs.declared.turn.Due.{Due}

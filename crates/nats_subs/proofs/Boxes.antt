@@ -1,7 +1,7 @@
 -- The youngest of some messages in boxes.
 use Rattle.std.specs.Global.{Box}
 use Rattle.std.proofs.Common.{◌≡◌, List, [], ◌∷◌, map, Option, option_map, refl, ◌∙◌, ap}
-use Rattle.nats_wire.specs.declared.message.Message.{Message}
+use Rattle.nats_message.specs.declared.message.Message.{Message}
 use Rattle.nats_history.specs.Queue.{last}
 use Rattle.nats_subs.specs.Boxes.{inner}
 

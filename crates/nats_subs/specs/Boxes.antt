@@ -1,6 +1,6 @@
 -- What is in a box.
 use Rattle.std.specs.Global.{Box}
-use Rattle.nats_wire.specs.declared.message.Message.{Message}
+use Rattle.nats_message.specs.declared.message.Message.{Message}
 use Rattle.nats_history.specs.declared.call.TakeReply.{TakeReply}
 use Rattle.nats_history.specs.declared.call.TakeReply.TheVariants as takes
 use Rattle.nats_subs.specs.declared.taken.BoxedReply.{BoxedReply}

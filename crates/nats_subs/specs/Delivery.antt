@@ -2,8 +2,8 @@
 use Rattle.std.specs.Prelude.{ℕ, suc, Bool, true, false, nat_lt, nat_le, List, [], ◌∷◌, ◌++◌, drop, map, Option, Some, None, if◌then◌else◌}
 use Rattle.nats_names.specs.declared.event.Event.{Event}
 use Rattle.nats_names.specs.declared.event.Event.TheVariants.{SlowConsumer}
-use Rattle.nats_wire.specs.declared.message.Message.{Message}
-use Rattle.nats_wire.specs.declared.op.ClientOp.{ClientOp}
+use Rattle.nats_message.specs.declared.message.Message.{Message}
+use Rattle.nats_message.specs.declared.op.ClientOp.{ClientOp}
 use Rattle.nats_history.specs.declared.config.Config.{Config}
 use Rattle.nats_history.specs.declared.call.Interest.{Interest}
 use Rattle.nats_subs.specs.declared.subs.subscription.Delivery.{Delivery}

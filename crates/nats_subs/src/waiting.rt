@@ -18,7 +18,7 @@ pub struct Waiting {
 
 impl Model for Waiting {
     ghost use Rattle.std.specs.Prelude.{List, map};
-    ghost use Rattle.nats_wire.specs.declared.message.Message.{Message};
+    ghost use Rattle.nats_message.specs.declared.message.Message.{Message};
     ghost use Rattle.nats_subs.specs.Boxes.{inner};
 
     ghost Value = { List Message };

@@ -1,7 +1,7 @@
 -- What is kept of tickets, and what becomes of it.
 use Rattle.std.specs.Prelude.{◌≡◌, ◌+◌, ◌<◌, ◌-◌, ◌==◌, Bool, true, false, Option, Some, None, if◌then◌else◌, length, ℕ, suc, List, [], ◌∷◌, ◌++◌, map, slice_index_or}
 use Rattle.std.specs.List.{remove}
-use Rattle.nats_wire.specs.declared.message.Message.{Message}
+use Rattle.nats_message.specs.declared.message.Message.{Message}
 use Rattle.nats_history.specs.declared.config.Config.{Config}
 use Rattle.nats_history.specs.declared.call.CallReply.{CallReply}
 use Rattle.nats_history.specs.declared.call.CallReply.TheVariants.{Flushed, FlushFailed, TimedOut, Dropped}

@@ -1,12 +1,11 @@
 -- What a connection keeps, and what its calls make of it.
-use Rattle.std.specs.Prelude.{◌≡◌, ℕ, Bool, IsTrue, List, nat_lt, if◌then◌else◌, drop, Option, Some, None, Result, Ok, Err}
+use Rattle.std.specs.Prelude.{◌≡◌, ℕ, Bool, IsTrue, List, nat_lt, if◌then◌else◌, Option, Some, None, Result, Ok, Err}
 use Rattle.nats_outbuf.specs.declared.outbuf.ShouldFlush.{ShouldFlush}
 use Rattle.nats_outbuf.specs.declared.outbuf.ShouldFlush.TheVariants as flush
-use Rattle.nats_wire.specs.declared.op.ServerOp.{ServerOp}
-use Rattle.nats_wire.specs.declared.op.WireError.{WireError}
-use Rattle.nats_wire.specs.declared.op.WireError.TheVariants as refused
+use Rattle.nats_message.specs.declared.op.WireError.{WireError}
+use Rattle.nats_message.specs.declared.op.WireError.TheVariants as refused
 use Rattle.nats_wire.specs.declared.connection.Peeked.{Peeked}
-use Rattle.nats_wire.specs.Operations.{Front, unfinished, got, fault, op_view, peeked_view}
+use Rattle.nats_lines.specs.Operations.{Front, unfinished, got, fault, peeked_view}
 
 -- a look at the front of the unread bytes tells what stands there; memory can be wanting only for an operation, and
 -- at a fault where memory is taken to tell it
@@ -17,16 +16,6 @@ Looks (fault n) takes (Err refused.ReadFault) = Unit {0}
 Looks (got operation n) takes (Err refused.NoMemory) = Unit {0}
 Looks (fault n) takes (Err refused.NoMemory) = IsTrue takes
 Looks front takes result = ⊥
-
--- a read answers what stands at the front of the unread bytes and takes exactly its bytes; memory can be wanting only
--- for an operation, and at a fault where memory is taken to tell it, and then the read takes nothing
-abbrev pub Reads : Front → Bool → List ℕ → Result (Option ServerOp) WireError → List ℕ → Type 0
-Reads (got operation n) takes old (Ok (Some op)) new = (op_view op ≡ operation) × (new ≡ drop n old)
-Reads unfinished takes old (Ok None) new = new ≡ old
-Reads (fault n) takes old (Err refused.ReadFault) new = new ≡ drop n old
-Reads (got operation n) takes old (Err refused.NoMemory) new = new ≡ old
-Reads (fault n) takes old (Err refused.NoMemory) new = IsTrue takes × (new ≡ old)
-Reads front takes old result new = ⊥
 
 -- whether a writer is to be flushed, by whether bytes were written since the last flush and how many wait
 abbrev pub flush_by : Bool → ℕ → ShouldFlush

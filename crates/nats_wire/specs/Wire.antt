@@ -1,7 +1,5 @@
 -- What contracts see of a connection.
-use Rattle.std.specs.Prelude.{ℕ, ◌+◌, ◌≤◌, Bool, false, List, [], ◌++◌, length, codes}
-use Rattle.nats_wire.specs.declared.op.WireError.{WireError}
-use Rattle.nats_wire.specs.declared.op.WireError.TheVariants as refused
+use Rattle.std.specs.Prelude.{ℕ, ◌+◌, Bool, false, List, [], ◌++◌, length}
 
 -- the bytes from the server that no operation took yet, and the bytes for the server that wait to be taken
 pub record Wire : Type 0 where
@@ -11,11 +9,6 @@ pub record Wire : Type 0 where
 -- no byte came, and none waits
 abbrev pub fresh : Wire
 fresh = record { unread = []; waiting = [] }
-
--- unread bytes, and how many of them were not tested yet for the end of a line
-pub record Unread : Type 0 where
-  pub bytes : List ℕ
-  pub untested : ℕ
 
 -- the bytes of a connection, whether some were written since its writer was flushed, and how many unread bytes were
 -- not tested yet for the end of a line
@@ -43,13 +36,3 @@ with_unread bytes untested channel =
 -- with other waiting bytes
 abbrev pub with_waiting : List ℕ → Channel → Channel
 with_waiting bytes channel = record channel { wire = record channel.wire { waiting = bytes } }
-
--- steps were taken, at most as many as there are fewer bytes that were not tested
-abbrev pub Paid : ℕ → ℕ → ℕ → ℕ → Type 0
-Paid steps_before untested_before steps_after untested_after =
-    (steps_before ≤ steps_after) × (steps_after + untested_after ≤ steps_before + untested_before)
-
--- what the refusal of a read prints
-abbrev pub wire_error_text : WireError → List ℕ
-wire_error_text refused.ReadFault = codes "invalid server operation"
-wire_error_text refused.NoMemory = codes "out of memory"

@@ -2,19 +2,21 @@
 ghost use Rattle.std.specs.Prelude.{◌≡◌, ◌<◌, ◌≤◌, ◌++◌, length, take, drop, true, false, OnOk, OnErr, IfOk, IfSome, nat_le};
 ghost use Rattle.std.specs.List.{concat};
 ghost use Rattle.nats_outbuf.specs.Buffers.{IsFront};
-ghost use Rattle.nats_wire.specs.declared.op.ClientOp.TheVariants as client;
-ghost use Rattle.nats_wire.specs.Wire.{new_channel, with_fed, with_unread, with_waiting, Paid};
-ghost use Rattle.nats_wire.specs.Operations.{front, takes_memory, is_unfinished};
-ghost use Rattle.nats_wire.specs.Commands.{command_text, command_texts};
-ghost use Rattle.nats_wire.specs.Connection.{Looks, Reads, flush_by};
+ghost use Rattle.nats_message.specs.declared.op.ClientOp.TheVariants as client;
+ghost use Rattle.nats_wire.specs.Wire.{new_channel, with_fed, with_unread, with_waiting};
+ghost use Rattle.nats_unread.specs.Kept.{Paid};
+ghost use Rattle.nats_lines.specs.Operations.{front, takes_memory, is_unfinished};
+ghost use Rattle.nats_commands.specs.Commands.{command_text, command_texts};
+ghost use Rattle.nats_wire.specs.Connection.{Looks, flush_by};
+ghost use Rattle.nats_unread.specs.Kept.{Reads};
 
-use crate::command;
-use crate::front::Front;
-use crate::op::{ClientOp, PeekedOp, ServerOp, WireError};
-use crate::unread::Unread;
+use nats_commands::{append, append_each, append_publication, append_subscription};
+use nats_decode::front::Front;
 use nats_header::HeaderMap;
+use nats_message::{ClientOp, PeekedOp, ServerOp, WireError};
 use nats_names::{Bytes, NoMemory, Subject};
 use nats_outbuf::{OutBuf, PIECES_MOST, SOFT_WRITE_BUF_LIMIT, ShouldFlush, Steps};
+use nats_unread::Unread;
 use std::alloc::Global;
 use std::marker::{Brand, Model};
 use std::sync::ledger::{Blank, Ledger};
@@ -208,7 +210,7 @@ impl Connection {
         ensures ok { OnOk result (self.new ≡ with_waiting (self.old.wire.waiting ++ command_text op.now) self.old) }
         ensures err { OnErr result (self.new ≡ self.old) }
     {
-        command::append(alloc, op, &mut self.out)
+        append(alloc, op, &mut self.out)
     }
 
     /// What `enqueue_write_op` does of a `ClientOp::Publish` of these parts, which are lent: no header map is copied.
@@ -227,7 +229,7 @@ impl Connection {
             self.old) }
         ensures err { OnErr result (self.new ≡ self.old) }
     {
-        command::append_publication(alloc, subject, respond, headers, payload, &mut self.out)
+        append_publication(alloc, subject, respond, headers, payload, &mut self.out)
     }
 
     /// What `enqueue_write_op` does of a `ClientOp::Subscribe` of these parts, which are lent. Own call.
@@ -243,7 +245,7 @@ impl Connection {
             self.old) }
         ensures err { OnErr result (self.new ≡ self.old) }
     {
-        command::append_subscription(alloc, sid, subject, queue_group, &mut self.out)
+        append_subscription(alloc, sid, subject, queue_group, &mut self.out)
     }
 
     /// Puts the texts of some operations in order behind the bytes that wait to be written, all of them or none.
@@ -252,7 +254,7 @@ impl Connection {
         ensures ok { OnOk result (self.new ≡ with_waiting (self.old.wire.waiting ++ command_texts ops.now) self.old) }
         ensures err { OnErr result (self.new ≡ self.old) }
     {
-        command::append_each(alloc, ops, &mut self.out)
+        append_each(alloc, ops, &mut self.out)
     }
 
     /// The number of bytes that wait to be written.

@@ -1,7 +1,7 @@
 //! Subscriptions that are to end, one or all.
 ghost use Rattle.std.specs.Prelude.{◌≡◌, ◌++◌, ◌∷◌, [], OnOk, OnErr, IfOk, true, None};
-ghost use Rattle.nats_wire.specs.declared.op.ClientOp.TheVariants as client;
-ghost use Rattle.nats_wire.specs.Commands.{command_texts};
+ghost use Rattle.nats_message.specs.declared.op.ClientOp.TheVariants as client;
+ghost use Rattle.nats_commands.specs.Commands.{command_texts};
 ghost use Rattle.nats_wire.specs.Wire.{with_waiting};
 ghost use Rattle.nats_tables.specs.Numbers.{item_of};
 ghost use Rattle.nats_history.specs.declared.ping.Ping.TheVariants as pinged;

@@ -1,8 +1,8 @@
 //! Due steps.
 ghost use Rattle.std.specs.Prelude.{◌≡◌, ◌++◌, ◌≤◌, length, drop, Some, OnOk, OnErr, IfOk, IsTrue, true, is_some};
-ghost use Rattle.nats_wire.specs.declared.op.ClientOp.TheVariants as client;
-ghost use Rattle.nats_wire.specs.Operations.{pong_op, front, unfinished, got, peeked_view};
-ghost use Rattle.nats_wire.specs.Commands.{command_text};
+ghost use Rattle.nats_message.specs.declared.op.ClientOp.TheVariants as client;
+ghost use Rattle.nats_lines.specs.Operations.{pong_op, front, unfinished, got, peeked_view};
+ghost use Rattle.nats_commands.specs.Commands.{command_text};
 ghost use Rattle.nats_wire.specs.Wire.{with_waiting};
 ghost use Rattle.nats_history.specs.declared.turn.Due.TheVariants as due_names;
 ghost use Rattle.nats_history.specs.Queue.{first};

@@ -1,6 +1,6 @@
 //! What a server says of itself while its link is up.
 ghost use Rattle.std.specs.Prelude.{◌≡◌, ◌≤◌, length, OnOk, OnErr, IfOk};
-ghost use Rattle.nats_wire.specs.Operations.{info_op, front, got};
+ghost use Rattle.nats_lines.specs.Operations.{info_op, front, got};
 ghost use Rattle.nats_history.specs.declared.turn.Due.TheVariants as due_names;
 ghost use Rattle.nats_history.specs.History.{read, info_events, limit_told};
 ghost use Rattle.nats_history.specs.Schedule.{chain};

@@ -1,7 +1,7 @@
 //! Requests over one inbox.
 ghost use Rattle.std.specs.Prelude.{◌≡◌, ◌++◌, ◌∷◌, [], length, Some, OnOk, OnErr, IfOk};
-ghost use Rattle.nats_wire.specs.declared.op.ClientOp.TheVariants as client;
-ghost use Rattle.nats_wire.specs.Commands.{command_texts};
+ghost use Rattle.nats_message.specs.declared.op.ClientOp.TheVariants as client;
+ghost use Rattle.nats_commands.specs.Commands.{command_texts};
 ghost use Rattle.nats_wire.specs.Wire.{with_waiting};
 ghost use Rattle.nats_history.specs.History.{inbox, inbox_of, inbox_commands};
 ghost use Rattle.nats_tickets.specs.Kept.{request_one};

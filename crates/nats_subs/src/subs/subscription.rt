@@ -3,7 +3,7 @@ ghost use Rattle.std.specs.Prelude.{◌≡◌, ◌∷◌, [], ◌++◌, true, On
 ghost use Rattle.std.proofs.Common.{refl};
 ghost use Rattle.std.specs.Option.{option_copied};
 ghost use Rattle.nats_history.specs.History.{is_open, is_over, has_room, forgotten, open_if, end_if, reached, again, unsubscribed, limit_commands};
-ghost use Rattle.nats_wire.specs.declared.op.ClientOp.TheVariants as client;
+ghost use Rattle.nats_message.specs.declared.op.ClientOp.TheVariants as client;
 ghost use Rattle.nats_history.specs.Schedule.{sub_take};
 ghost use Rattle.nats_subs.specs.Delivery.{asked_sub, altered, deliver, take_from, delivery, youngest_of, oldest_of, commands_by};
 ghost use Rattle.nats_subs.specs.Draining.{is_drained};

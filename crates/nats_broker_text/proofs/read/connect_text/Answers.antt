@@ -1,6 +1,6 @@
 -- By the first line.
 use Rattle.std.proofs.Common.{◌∙◌, sym}
-use Rattle.nats_wire.specs.Operations.{cut_line}
+use Rattle.nats_lines.specs.Operations.{cut_line}
 use Rattle.nats_broker_text.proofs.Fronts.{by_line, no_line}
 use Rattle.nats_broker_text.proofs.read.connect_text.Goals as goal
 

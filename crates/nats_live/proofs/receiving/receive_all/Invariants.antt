@@ -2,7 +2,7 @@
 use Rattle.std.proofs.Common.{◌≡◌, ◌≤◌, ℕ, List, [], length}
 use Rattle.std.specs.Prelude.{IsTrue}
 use Rattle.nats_dial.specs.Lines.{Took}
-use Rattle.nats_wire.specs.Operations.{Operation}
+use Rattle.nats_lines.specs.Operations.{Operation}
 use Rattle.nats_core.specs.Calls.{parts_in}
 use Rattle.nats_live.specs.Flow.{Receives}
 use Rattle.nats_live.proofs.Ends.{RoundsOn}

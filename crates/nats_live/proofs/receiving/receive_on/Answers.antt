@@ -1,7 +1,7 @@
 -- A subscription is received on, unless the link is over already.
 use Rattle.std.proofs.Common.{sym, ◌∙◌, ap, true}
 use Rattle.nats_session.specs.Handler.{Seen}
-use Rattle.nats_wire.specs.Operations.{operations}
+use Rattle.nats_lines.specs.Operations.{operations}
 use Rattle.nats_live.specs.Flow.{ReceivesAll}
 use Rattle.nats_live.proofs.Ends.{receives_all, receives_over, subscribes_err}
 use Rattle.nats_live.proofs.Wants.{err_by}

@@ -1,6 +1,6 @@
 -- The messages taken so far were printed.
 use Rattle.std.proofs.Common.{ℕ, List}
-use Rattle.nats_wire.specs.Operations.{Operation}
+use Rattle.nats_lines.specs.Operations.{Operation}
 use Rattle.nats_core.specs.Calls.{parts_in}
 use Rattle.nats_live.specs.Flow.{Receives}
 use Rattle.nats_live.proofs.Rounds.{TakesSoFar}

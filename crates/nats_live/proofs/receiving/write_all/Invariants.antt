@@ -1,7 +1,7 @@
 -- The link took more of the text.
 use Rattle.std.proofs.Common.{ℕ, List, ◌++◌}
 use Rattle.nats_dial.specs.Lines.{Took}
-use Rattle.nats_wire.specs.Operations.{Operation}
+use Rattle.nats_lines.specs.Operations.{Operation}
 use Rattle.nats_core.specs.Calls.{parts_in}
 use Rattle.nats_live.specs.Flow.{Receives}
 use Rattle.nats_live.proofs.Rounds.{WritesOn}

@@ -1,7 +1,7 @@
 -- What comes of the first thing that the server says.
 use Rattle.std.proofs.Common.{◌≡◌, refl, ◌∙◌, sym, inl, Ok, Err}
 use Rattle.nats_pool.specs.Auths.{auth_value}
-use Rattle.nats_wire.specs.Operations.{front}
+use Rattle.nats_lines.specs.Operations.{front}
 use Rattle.nats_handshake.specs.declared.course.Greeting.TheVariants as greeting
 use Rattle.nats_handshake.specs.declared.stage.Shake.TheVariants as shake
 use Rattle.nats_handshake.specs.Course.{greeting_at}

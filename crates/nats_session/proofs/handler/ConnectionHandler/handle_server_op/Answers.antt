@@ -1,8 +1,8 @@
 -- A message that was brought to its subscription and taken away was read.
 use Rattle.std.proofs.Common.{◌∙◌, ap}
 use Rattle.std.proofs.lemmas.Result.{on_ok_weaker}
-use Rattle.nats_wire.specs.declared.message.Message.{Message}
-use Rattle.nats_wire.specs.Operations.{peeked_view}
+use Rattle.nats_message.specs.declared.message.Message.{Message}
+use Rattle.nats_lines.specs.Operations.{peeked_view}
 use Rattle.nats_session.specs.Handler.{coming, message_past}
 use Rattle.nats_session.proofs.Messages.{consumed_seen}
 use Rattle.nats_session.proofs.handler.ConnectionHandler.handle_server_op.Goals as goal

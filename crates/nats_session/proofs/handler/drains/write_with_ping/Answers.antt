@@ -1,6 +1,6 @@
 -- The texts of the commands are written at once, behind those that wait.
 use Rattle.std.proofs.Common.{◌∷◌, ◌++◌, [], ◌∙◌, ap}
-use Rattle.nats_wire.specs.declared.op.ClientOp.TheVariants as client
+use Rattle.nats_message.specs.declared.op.ClientOp.TheVariants as client
 use Rattle.nats_wire.specs.Wire.{with_waiting}
 use Rattle.nats_session.proofs.Commands.{written_ops}
 use Rattle.nats_session.proofs.handler.drains.write_with_ping.Goals as goal

@@ -1,8 +1,8 @@
 -- Memory is wanting only where it is taken.
 use Rattle.std.proofs.Common.{◌≡◌, subst, rules}
 use Rattle.std.specs.Prelude.{IsTrue}
-use Rattle.nats_wire.specs.Operations.{takes_memory}
-use Rattle.nats_wire.proofs.Sights.{looks_without_memory}
+use Rattle.nats_lines.specs.Operations.{takes_memory}
+use Rattle.nats_wire.proofs.Looks.{looks_without_memory}
 use Rattle.nats_wire.proofs.connection.Connection.peek_op.Goals as goal
 
 pub returns-in-Err-clause-looks : goal.returns-in-Err-clause-looks

@@ -1,7 +1,0 @@
--- the texts so far stand behind what was there
-use Rattle.std.proofs.Common.{◌≡◌, ◌++◌, take}
-use Rattle.nats_wire.specs.Commands.{command_texts}
-use Rattle.nats_wire.proofs.command.append_each.Given as goal
-
-abbrev pub invariant-loop-op : goal.invariant-loop-op
-invariant-loop-op l = l.out ≡ l.fn.out ++ command_texts (take l.op-index l.ops)

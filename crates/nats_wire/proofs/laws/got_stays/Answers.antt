@@ -1,5 +1,0 @@
-use Rattle.nats_wire.proofs.Fronts.{front_takes, front_fits, front_more}
-use Rattle.nats_wire.proofs.laws.got_stays.Goals as goal
-
-pub returns : goal.returns
-returns c = λ bytes more op n is. (front_takes bytes op n is, front_fits bytes op n is, front_more bytes more op n is)

@@ -1,5 +1,0 @@
-use Rattle.nats_wire.proofs.Reading.{operations_end}
-use Rattle.nats_wire.proofs.laws.operations_end.Goals as goal
-
-pub returns : goal.returns
-returns c = operations_end

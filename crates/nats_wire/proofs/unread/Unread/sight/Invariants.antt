@@ -1,5 +1,0 @@
--- nobody counts the steps
-use Rattle.nats_wire.proofs.unread.Unread.sight.Given as goal
-
-abbrev pub ghosts-sight_counted : goal.ghosts-sight_counted
-ghosts-sight_counted a = record { name = a.blank.name; parts = a.blank.parts }
