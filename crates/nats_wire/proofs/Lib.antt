@@ -1,1 +1,1 @@
-mod Looks
+mod Looking

@@ -2,7 +2,7 @@
 use Rattle.std.proofs.Common.{sym, subst}
 use Rattle.std.specs.Prelude.{IsTrue}
 use Rattle.nats_lines.specs.Operations.{takes_memory}
-use Rattle.nats_unread.proofs.Reads.{reads_wanting}
+use Rattle.nats_unread.proofs.Answering.{reads_wanting}
 use Rattle.nats_unread.proofs.unread.Unread.read.Goals as goal
 
 pub returns-in_err-sid-clause-reads : goal.returns-in_err-sid-clause-reads

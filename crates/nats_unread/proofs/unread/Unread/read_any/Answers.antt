@@ -5,7 +5,7 @@ use Rattle.nats_lines.specs.Operations.{got_or_fault, op_view}
 use Rattle.nats_decode.specs.Decoder.{op_text_view}
 use Rattle.nats_unread.specs.Kept.{Unread}
 use Rattle.nats_lines.proofs.Seen.{bad_seen, lost_fits, whole_front, found_fits}
-use Rattle.nats_unread.proofs.Reads.{reads_less, reads_bad, reads_found, reads_refused}
+use Rattle.nats_unread.proofs.Answering.{reads_less, reads_bad, reads_found, reads_refused}
 use Rattle.nats_unread.proofs.unread.Unread.read_any.Goals as goal
 
 pub advance-requires : goal.advance-requires

@@ -2,7 +2,7 @@
 use Rattle.std.proofs.Common.{◌≡◌, subst, rules}
 use Rattle.std.specs.Prelude.{IsTrue}
 use Rattle.nats_lines.specs.Operations.{takes_memory}
-use Rattle.nats_wire.proofs.Looks.{looks_without_memory}
+use Rattle.nats_wire.proofs.Looking.{looks_without_memory}
 use Rattle.nats_wire.proofs.connection.Connection.peek_op.Goals as goal
 
 pub returns-in-Err-clause-looks : goal.returns-in-Err-clause-looks
