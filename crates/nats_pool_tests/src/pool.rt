@@ -52,6 +52,12 @@ fn with_last(alloc: Global) -> Result<ConnectOptions, Bad> {
     )
 }
 
+/// Options whose callback names the last server, with no delay of its own.
+fn with_choice(alloc: Global) -> Result<ConnectOptions, Bad> {
+    let choice: ChoiceBox = Box::new(alloc, last_one)?;
+    Ok(ConnectOptions::new().reconnect_to_server_callback(choice))
+}
+
 /// Options whose callback names a server that is none of the pool's.
 fn with_other(alloc: Global) -> Result<ConnectOptions, Bad> {
     let choice: ChoiceBox = Box::new(alloc, move |servers: Vec<Server>, info: ServerInfo| {
@@ -73,6 +79,7 @@ fn options_of(alloc: Global, word: &str) -> Result<ConnectOptions, Bad> {
         "order" => Ok(ConnectOptions::new().retain_servers_order()),
         "two" => Ok(ConnectOptions::new().max_reconnects(Some(2))),
         "last" => with_last(alloc),
+        "choice" => with_choice(alloc),
         "other" => with_other(alloc),
         _ => Err(Bad::Form),
     }
