@@ -44,7 +44,7 @@ pub enum ReadOnce {
     Played(u64),
     /// The link failed or ended, and its loss was played.
     Lost,
-    /// The link is not the one that is up, and nothing was read.
+    /// No link is up, or another one is, and nothing was read. `Core::read_link` never answers it: calls over a core do.
     Gone,
 }
 
@@ -57,6 +57,7 @@ pub enum WriteOnce {
     Idle,
     /// The link failed, and its loss was played.
     Lost,
-    /// The link is not the one that is up, and nothing was written.
+    /// No link is up, or another one is, and nothing was written. `Core::write_link` never answers it: calls over a core
+    /// do.
     Gone,
 }

@@ -1,5 +1,5 @@
 //! A session that ends, and its link that is handed back.
-ghost use Rattle.std.specs.Prelude.{◌≡◌};
+ghost use Rattle.std.specs.Prelude.{◌≡◌, ◌≤◌, true};
 ghost use Rattle.nats_live.specs.Back.{IsBack};
 ghost use Rattle.nats_live.specs.Steps.{HangsUp};
 
@@ -18,12 +18,21 @@ pub(crate) fn hang_up(alloc: Global, core: &mut Core)
     }
 }
 
+// Ends writing.
+fn end_writing<T: LinkWrite>(write: &mut T)
+    ensures shut { (T.write_told write.new).is_shut ≡ true }
+    ensures taken { (T.write_told write.new).taken ≡ (T.write_told write.old).taken }
+    ensures faults { (T.write_told write.old).faults ≤ (T.write_told write.new).faults }
+{
+    write.shut();
+}
+
 // Ends writing, and hands a link back.
 pub(crate) fn hand_back<W: World>(world: &mut W, read: W::Read, write: W::Write)
     ensures back { IsBack (W.Read.read_told read) (W.Write.write_told write) (W.seen world.old) (W.seen world.new) }
     ensures beside { W.beside_reach world.new ≡ W.beside_reach world.old }
 {
     let mut write = write;
-    write.shut();
+    end_writing(&mut write);
     seen::hang_up(world, read, write);
 }

@@ -28,7 +28,7 @@ pub(crate) const DEFAULT_INBOX_PREFIX: &str = "_INBOX";
 pub struct ConnectOptions {
     /// The name of the client, sent to the server.
     pub name: Option<Text>,
-    /// Whether the server sends the client's own messages back to it.
+    /// Whether the server is asked not to send the client's own messages back to it.
     pub no_echo: bool,
     /// How many attempts may be made since the last success; none means no limit.
     pub max_reconnects: Option<usize>,

@@ -40,6 +40,9 @@ fn answer_link(alloc: Global, word: &str, rest: &str, out: &mut String) -> Resul
         "shake" => shake::push_shaken(alloc, rest, out)?,
         "unread" => shake::push_unread(alloc, rest, out)?,
         "round" => round::push_round(alloc, rest, out)?,
+        "late" => round::push_late(alloc, rest, out)?,
+        "homeless" => round::push_homeless(alloc, rest, out)?,
+        "demands" => round::push_demanding(alloc, rest, out)?,
         "takes" => round::push_taken_in(alloc, rest, out)?,
         _ => return Ok(false),
     }

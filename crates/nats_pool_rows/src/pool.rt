@@ -1,7 +1,10 @@
-//! What a pool is made of: the delay before an attempt (`delay`), and texts that are no list of addresses (`refused`).
+//! What a pool is made of: the delay before an attempt (`delay`), texts that are no list of addresses (`refused`), and
+//! the copy of a choice, an address with its delay (`target`).
 use crate::addr::refusal;
-use nats_pool::{AddrError, addrs_of_texts, reconnect_delay_default};
-use nats_rows::Bad;
+use nats_pool::{
+    AddrError, ReconnectToServer, ServerAddr, addrs_of_texts, reconnect_delay_default,
+};
+use nats_rows::{Bad, number_of};
 use std::alloc::Global;
 
 fn push_number(alloc: Global, number: u64, out: &mut String) -> Result<(), Bad> {
@@ -21,11 +24,35 @@ fn push_refused(alloc: Global, texts: &str, out: &mut String) -> Result<(), Bad>
     Ok(out.push_str(refusal(error)?)?)
 }
 
+fn delay_of(word: &str) -> Result<Option<u64>, Bad> {
+    match word {
+        "~" => Ok(None),
+        word => Ok(Some(number_of(word)?)),
+    }
+}
+
+/// Appends the host and the delay of the copy of a choice, and whether its address is the same.
+fn push_target(alloc: Global, rest: &str, out: &mut String) -> Result<(), Bad> {
+    let (text, delay) = rest.split_once(' ').ok_or(Bad::Form)?;
+    let target = ReconnectToServer {
+        addr: ServerAddr::parse(alloc, text).map_err(|_| Bad::Form)?,
+        delay: delay_of(delay)?,
+    };
+    let copy = target.copy(alloc)?;
+    let (host, is_same) = (copy.addr.host(), copy.addr == target.addr);
+    out.push_str(format!(in alloc; "{host} {is_same} ")?.as_str())?;
+    match copy.delay {
+        Some(ms) => push_number(alloc, ms, out),
+        None => Ok(out.push('~')?),
+    }
+}
+
 /// Answers a question on what a pool is made of, and tells whether it is one.
 pub fn answer(alloc: Global, word: &str, rest: &str, out: &mut String) -> Result<bool, Bad> {
     match word {
         "delay" => push_delay(alloc, rest, out)?,
         "refused" => push_refused(alloc, rest, out)?,
+        "target" => push_target(alloc, rest, out)?,
         _ => return Ok(false),
     }
     Ok(true)

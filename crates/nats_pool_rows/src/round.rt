@@ -1,5 +1,6 @@
 //! A round of connecting: `round`, the addresses with commas between them, the limit of attempts, which dial and
-//! which asking fail, and what each link gives.
+//! which asking fail, and what each link gives. Three more rounds have addresses and what each link gives: `late` and
+//! the times that the clock shows, `homeless` with hosts that have no address, and `demands` with TLS demanded.
 use crate::handshake::{begun, push_texts};
 use crate::outside::{Memory, home};
 use crate::shake::link;
@@ -12,6 +13,7 @@ use nats_pool::{
 };
 use nats_rows::{Bad, number_of, push_bytes, push_word, spelled_bytes};
 use std::alloc::Global;
+use std::net::SocketAddr;
 
 type Connected = Result<Linked<FakeRead, FakeWrite>, ConnectError>;
 
@@ -39,20 +41,38 @@ fn links(alloc: Global, words: &[&str]) -> Result<Vec<FakeLink>, Bad> {
     Ok(links)
 }
 
-/// A host has two addresses; the dial and the asking of these numbers, counted from 1, fail; the time stands still.
-fn world(alloc: Global, words: &[&str], dial: u64, asking: u64) -> Result<Memory, Bad> {
+/// What a round finds: the times that the clock shows, the last of which stays, and the addresses of each host. The
+/// dial and the asking of these numbers, counted from 1, fail, and TLS is demanded or not.
+#[derive(Clone, Copy)]
+struct Around<'a> {
+    times: &'a [u64],
+    homes: &'a [SocketAddr],
+    dial: u64,
+    asking: u64,
+    demands_tls: bool,
+}
+
+/// A world in memory whose links give these words.
+fn world(alloc: Global, words: &[&str], around: &Around) -> Result<Memory, Bad> {
     let links = links(alloc, words)?;
-    let addresses = vec![in alloc; home(), home()]?;
     Ok(Joined {
-        dialer: FakeDialer::failing(alloc, links, vec![in alloc; dial]?),
-        resolver: FakeResolver::failing(addresses, vec![in alloc; asking]?),
-        clock: FakeClock::told(vec![in alloc; 0]?),
+        dialer: FakeDialer::failing(alloc, links, vec![in alloc; around.dial]?),
+        resolver: FakeResolver::failing(
+            around.homes.to_vec(alloc)?,
+            vec![in alloc; around.asking]?,
+        ),
+        clock: FakeClock::told(around.times.to_vec(alloc)?),
         draw: FakeDraw::told(Vec::new(alloc)),
     })
 }
 
-fn connects<P: Rounds>(alloc: Global, pool: &mut P, world: &mut Memory) -> Connected {
-    let options = ConnectOptions::new();
+fn connects<P: Rounds>(
+    alloc: Global,
+    pool: &mut P,
+    demands_tls: bool,
+    world: &mut Memory,
+) -> Connected {
+    let options = ConnectOptions::new().require_tls(demands_tls);
     let last = ServerInfo::default(alloc);
     let connected = try_connect(alloc, pool, &options, &last, world);
     drop(last);
@@ -74,10 +94,11 @@ fn push_outcome(alloc: Global, connected: &Connected, out: &mut String) -> Resul
 fn push_connected<P: Rounds>(
     alloc: Global,
     pool: &mut P,
+    demands_tls: bool,
     world: &mut Memory,
     out: &mut String,
 ) -> Result<(), Bad> {
-    let connected = connects(alloc, pool, world);
+    let connected = connects(alloc, pool, demands_tls, world);
     let pushed = push_outcome(alloc, &connected, out);
     drop(connected);
     pushed
@@ -108,11 +129,11 @@ fn push_in_world<P: Rounds>(
     alloc: Global,
     pool: &mut P,
     words: &[&str],
-    (dial, asking): (u64, u64),
+    around: &Around,
     out: &mut String,
 ) -> Result<(), Bad> {
-    let mut world = world(alloc, words, dial, asking)?;
-    let pushed = push_connected(alloc, pool, &mut world, out);
+    let mut world = world(alloc, words, around)?;
+    let pushed = push_connected(alloc, pool, around.demands_tls, &mut world, out);
     drop(world);
     pushed
 }
@@ -124,27 +145,108 @@ fn limit_of(word: &str) -> Result<Option<usize>, Bad> {
     }
 }
 
-/// Appends what a round comes to: the rest behind the handshake or the error, and what the pool knows then.
-pub fn push_round(alloc: Global, rest: &str, out: &mut String) -> Result<(), Bad> {
-    let words: Vec<&str> = rest.split(' ').collect(alloc)?;
-    let [addrs, limit, dial, asking, links @ ..] = words.as_slice() else {
-        return Err(Bad::Form);
-    };
-    let failing = (number_of(dial)?, number_of(asking)?);
-    let addrs = addrs_of(alloc, addrs)?;
+/// Appends what a round over these addresses comes to: the rest behind the handshake or the error, and what the pool
+/// knows then.
+fn push_over(
+    alloc: Global,
+    addrs: Vec<ServerAddr>,
+    max_reconnects: Option<usize>,
+    links: &[&str],
+    around: &Around,
+    out: &mut String,
+) -> Result<(), Bad> {
     let options = PoolOptions {
-        max_reconnects: limit_of(limit)?,
+        max_reconnects,
         retain_servers_order: true,
         ignore_discovered_servers: false,
         delay: Delay::Default,
         choice: None,
     };
     let mut pool = Pool::new(alloc, addrs, options, 1)?;
-    let pushed = push_in_world(alloc, &mut pool, links, failing, out);
+    let pushed = push_in_world(alloc, &mut pool, links, around, out);
     let known = push_known(alloc, &pool, out);
     drop(pool);
     pushed?;
     known
+}
+
+/// Appends what a round comes to in which the time stands still and each host has two addresses.
+pub fn push_round(alloc: Global, rest: &str, out: &mut String) -> Result<(), Bad> {
+    let words: Vec<&str> = rest.split(' ').collect(alloc)?;
+    let [addrs, limit, dial, asking, links @ ..] = words.as_slice() else {
+        return Err(Bad::Form);
+    };
+    let (still, homes) = ([0u64], [home(), home()]);
+    let around = Around {
+        times: still.as_slice(),
+        homes: homes.as_slice(),
+        dial: number_of(dial)?,
+        asking: number_of(asking)?,
+        demands_tls: false,
+    };
+    push_over(
+        alloc,
+        addrs_of(alloc, addrs)?,
+        limit_of(limit)?,
+        links,
+        &around,
+        out,
+    )
+}
+
+/// Appends what a round comes to in which the clock shows these times.
+pub fn push_late(alloc: Global, rest: &str, out: &mut String) -> Result<(), Bad> {
+    let words: Vec<&str> = rest.split(' ').collect(alloc)?;
+    let [addrs, texts, links @ ..] = words.as_slice() else {
+        return Err(Bad::Form);
+    };
+    let mut times = Vec::new(alloc);
+    for text in texts.split(',') {
+        times.push(number_of(text)?)?;
+    }
+    let homes = [home(), home()];
+    let around = Around {
+        times: times.as_slice(),
+        homes: homes.as_slice(),
+        dial: 0,
+        asking: 0,
+        demands_tls: false,
+    };
+    push_over(alloc, addrs_of(alloc, addrs)?, None, links, &around, out)
+}
+
+/// Appends what a round comes to in which no host has an address, or TLS is demanded.
+fn push_barred(
+    alloc: Global,
+    rest: &str,
+    homes: &[SocketAddr],
+    demands_tls: bool,
+    out: &mut String,
+) -> Result<(), Bad> {
+    let words: Vec<&str> = rest.split(' ').collect(alloc)?;
+    let [addrs, links @ ..] = words.as_slice() else {
+        return Err(Bad::Form);
+    };
+    let still = [0u64];
+    let around = Around {
+        times: still.as_slice(),
+        homes,
+        dial: 0,
+        asking: 0,
+        demands_tls,
+    };
+    push_over(alloc, addrs_of(alloc, addrs)?, None, links, &around, out)
+}
+
+/// Appends what a round comes to in which no host has an address.
+pub fn push_homeless(alloc: Global, rest: &str, out: &mut String) -> Result<(), Bad> {
+    push_barred(alloc, rest, &[], false, out)
+}
+
+/// Appends what a round comes to in which TLS is demanded.
+pub fn push_demanding(alloc: Global, rest: &str, out: &mut String) -> Result<(), Bad> {
+    let homes = [home(), home()];
+    push_barred(alloc, rest, homes.as_slice(), true, out)
 }
 
 fn takes_in<P: ServerList>(

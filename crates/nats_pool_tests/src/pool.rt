@@ -52,6 +52,12 @@ fn with_last(alloc: Global) -> Result<ConnectOptions, Bad> {
     )
 }
 
+/// Options whose callback names the last server, with no delay of its own.
+fn with_choice(alloc: Global) -> Result<ConnectOptions, Bad> {
+    let choice: ChoiceBox = Box::new(alloc, last_one)?;
+    Ok(ConnectOptions::new().reconnect_to_server_callback(choice))
+}
+
 /// Options whose callback names a server that is none of the pool's.
 fn with_other(alloc: Global) -> Result<ConnectOptions, Bad> {
     let choice: ChoiceBox = Box::new(alloc, move |servers: Vec<Server>, info: ServerInfo| {
@@ -73,6 +79,7 @@ fn options_of(alloc: Global, word: &str) -> Result<ConnectOptions, Bad> {
         "order" => Ok(ConnectOptions::new().retain_servers_order()),
         "two" => Ok(ConnectOptions::new().max_reconnects(Some(2))),
         "last" => with_last(alloc),
+        "choice" => with_choice(alloc),
         "other" => with_other(alloc),
         _ => Err(Bad::Form),
     }
@@ -177,7 +184,14 @@ fn push_texts(texts: &[Text], out: &mut String) -> Result<(), Bad> {
     Ok(())
 }
 
-/// A server tells of addresses, with commas between; appends which of them are skipped.
+/// A server tells of these addresses; appends which of them are skipped.
+fn push_told(alloc: Global, pool: &mut Pool, urls: &[Text], out: &mut String) -> Result<(), Bad> {
+    out.push_str("told")?;
+    let skipped = pool.discover(alloc, urls)?;
+    push_texts(skipped.as_slice(), out)
+}
+
+/// A server tells of addresses, with commas between.
 fn push_discovered(
     alloc: Global,
     pool: &mut Pool,
@@ -188,9 +202,7 @@ fn push_discovered(
     for text in texts.split(',') {
         urls.push(Text::from_text(alloc, text)?)?;
     }
-    out.push_str("told")?;
-    let skipped = pool.discover(alloc, urls.as_slice())?;
-    push_texts(skipped.as_slice(), out)
+    push_told(alloc, pool, urls.as_slice(), out)
 }
 
 fn push_call(alloc: Global, pool: &mut Pool, call: &str, out: &mut String) -> Result<(), Bad> {
@@ -205,6 +217,7 @@ fn push_call(alloc: Global, pool: &mut Pool, call: &str, out: &mut String) -> Re
         None => match call {
             "begin" => push_begun(alloc, pool, out),
             "next" => push_attempt(alloc, pool, out),
+            "discover" => push_told(alloc, pool, &[], out),
             "any" => push_any(pool, out),
             "servers" => push_servers(alloc, pool, out),
             _ => Err(Bad::Form),

@@ -5,10 +5,14 @@ use std::alloc::Global;
 use std::test::Fail;
 
 /// Calls of a pool with their answers: its addresses, its options, and the calls in order.
-const POOLS: [(&str, &str); 12] = [
+const POOLS: [(&str, &str); 15] = [
     (
         "a default fails,a fails,a servers discover,nats://b,http://c,nats://a servers",
         "failed failed a=2; told!http://c a=2;b=0; ",
+    ),
+    (
+        "a,b default fails,b discover servers",
+        "failed told a=0;b=1; ",
     ),
     (
         "a,b,c order fails,a begin next next next next",
@@ -48,8 +52,16 @@ const POOLS: [(&str, &str); 12] = [
     ),
     ("a,b,c last begin next next", "callback/callback c/2 over "),
     (
+        "a,b,c choice begin next next",
+        "callback/callback c/0 over ",
+    ),
+    (
         "a,b,c other begin next next",
         "not-in-pool/not-in-pool a/0 b/2 ",
+    ),
+    (
+        "a,b,c other begin next next next next",
+        "not-in-pool/not-in-pool a/0 b/2 c/4 over ",
     ),
 ];
 

@@ -293,6 +293,7 @@ impl Tickets {
     pub fn handle_request(&mut self, alloc: Global, subject: &Subject) -> Result<(), NoMemory>
         ensures ok { OnOk result (self.new ≡ request_one subject.now self.old) }
         ensures err { OnErr result (self.new ≡ self.old) }
+        ensures wants { OnErr result (first self.old.tickets.queued ≡ Some waits.Request) }
     {
         match self.queued.front() {
             Some(Waits::Request) => self.begin_asking(alloc, subject),

@@ -277,3 +277,35 @@ pub fn end<R: Wait>(rt: &R, alloc: Global) -> Result<bool, NoMemory> {
     };
     Ok(goes_on(rt, alloc, &not_published, 0, 2)? && goes_on(rt, alloc, &not_received, 3, 0)?)
 }
+
+// Whether the row prints as it says, and its link was handed back before it took a byte.
+fn writes_nothing<R: Wait>(rt: &R, alloc: Global, row: &Row) -> Result<bool, NoMemory> {
+    let mut world = in_memory(alloc, row.gives, 0, 0)?;
+    let is_printed = prints(rt, alloc, row, &mut world);
+    let is_untouched = match world.reach.dialer.last_taken() {
+        Some(taken) => taken.is_empty(),
+        None => false,
+    };
+    drop(world);
+    Ok(is_printed? && is_untouched)
+}
+
+/// Whether nothing is written to a server where TLS is wanted, by the scheme of its address or by its INFO.
+pub fn refuse_tls<R: Wait>(rt: &R, alloc: Global) -> Result<bool, NoMemory> {
+    let (status, printed) = (9, "TLS error\n");
+    let by_scheme = Row {
+        words: &["pub", "tls://h", "a", "hi"],
+        status,
+        printed,
+        took: "",
+        ..PUBLISHED
+    };
+    let by_info = Row {
+        gives: &["INFO {\"tls_required\":true}\r\n", "PONG\r\n"],
+        status,
+        printed,
+        took: "",
+        ..PUBLISHED
+    };
+    Ok(writes_nothing(rt, alloc, &by_scheme)? && writes_nothing(rt, alloc, &by_info)?)
+}

@@ -8,6 +8,7 @@ mod bulk_rows;
 mod call_rows;
 mod core_rows;
 mod driven;
+mod list_rows;
 mod live_rows;
 mod replay_rows;
 mod script_rows;
@@ -58,7 +59,7 @@ fn tell_sessions<R: Wait>(rt: &R, alloc: Global, told: &mut Told) -> Result<(), 
     let mut said = Vec::new(alloc);
     let holds = session_rows::are_answered(alloc, &mut said)?;
     told.note("sessions", holds, said.as_slice())?;
-    let holds = session_rows::are_played(alloc, &mut said)?;
+    let holds = list_rows::are_played(rt, alloc, &mut said)?;
     told.note("lists of turns", holds, said.as_slice())?;
     let holds = session_rows::are_carried(rt, alloc, &mut said)?;
     told.note("hostile scripts", holds, said.as_slice())?;
@@ -95,6 +96,7 @@ fn tell_commands<R: Wait>(rt: &R, alloc: Global, told: &mut Told) -> Result<(), 
     let holds = live_rows::go(rt, alloc, &mut said)?;
     told.note("commands on a live link", holds, said.as_slice())?;
     told.note("a link that fails", live_rows::end(rt, alloc)?, b"")?;
+    told.note("TLS that is wanted", live_rows::refuse_tls(rt, alloc)?, b"")?;
     let holds = replay_rows::are_printed(rt, alloc, &mut said)?;
     told.note("scripts that are replayed", holds, said.as_slice())?;
     told.note("a full link", replay_rows::wait_for_room(rt, alloc)?, b"")?;

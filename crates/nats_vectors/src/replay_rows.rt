@@ -218,6 +218,19 @@ fn publishes(
     Ok(text)
 }
 
+/// The status that a script of its own bytes ends with, and what it prints.
+fn played_bytes<R: Wait>(
+    rt: &R,
+    alloc: Global,
+    text: Vec<u8>,
+) -> Result<(u8, MemorySink), NoMemory> {
+    let words = word(alloc, "run")?;
+    let mut source = MemorySource::new(text, 65_536);
+    let mut sink = MemorySink::new(alloc, 65_536);
+    let status = plays(rt, alloc, words.as_slice(), &mut source, &mut sink)?;
+    Ok((status, sink))
+}
+
 /// Whether a script of its own bytes ends with 0 and prints a text that begins and ends so.
 fn prints_between<R: Wait>(
     rt: &R,
@@ -226,24 +239,58 @@ fn prints_between<R: Wait>(
     first: &[u8],
     last: &[u8],
 ) -> Result<bool, NoMemory> {
-    let words = word(alloc, "run")?;
-    let mut source = MemorySource::new(text, 65_536);
-    let mut sink = MemorySink::new(alloc, 65_536);
-    let status = plays(rt, alloc, words.as_slice(), &mut source, &mut sink)?;
+    let (status, sink) = played_bytes(rt, alloc, text)?;
     Ok(status == 0 && sink.bytes().starts_with(first) && sink.bytes().ends_with(last))
 }
 
-/// Whether a call waits while the link is full.
+/// Whether a script of its own bytes ends with 0 and prints just a first text, so many `x` and a last text.
+fn prints_filled<R: Wait>(
+    rt: &R,
+    alloc: Global,
+    text: Vec<u8>,
+    first: &str,
+    size: usize,
+    last: &str,
+) -> Result<bool, NoMemory> {
+    let mut want = Vec::from_slice(alloc, first.as_bytes())?;
+    let length = want.len().saturating_add(size);
+    want.resize(length, b'x')?;
+    want.extend_from_slice(last.as_bytes())?;
+    let (status, sink) = played_bytes(rt, alloc, text)?;
+    Ok(status == 0 && sink.bytes() == want.as_slice())
+}
+
+/// Whether a call waits while the link is full: 3 bytes are taken, and 65,546 are left.
 fn is_full<R: Wait>(rt: &R, alloc: Global) -> Result<bool, NoMemory> {
     let first = "config 1 65536 check _INBOX MUX1\nup 1048576\n";
     let text = publishes(alloc, first, 65_522, &["\npub a ~ y\npub a ~ z\nwrite 3\n"])?;
-    prints_between(
+    prints_filled(
         rt,
         alloc,
         text,
-        b"link 1 up\nout PUB\nleft %20a%2065522%0D%0Axxx",
-        b"xxx%0D%0APUB%20a%201%0D%0Ay%0D%0A\nevent 1 connected\ncall 2 accepted\ncall 3 accepted\ncall 4 full\n",
+        "link 1 up\nout PUB\nleft %20a%2065522%0D%0A",
+        65_522,
+        "%0D%0APUB%20a%201%0D%0Ay%0D%0A\nevent 1 connected\n\
+call 2 accepted\ncall 3 accepted\ncall 4 full\n",
     )
+}
+
+/// Whether a subscription that is let go while calls wait is gone, though the call is refused.
+fn is_gone_all_the_same<R: Wait>(rt: &R, alloc: Global) -> Result<bool, NoMemory> {
+    let first = "config 1 65536 check _INBOX MUX1\nsub a ~\nup 1048576\n";
+    let text = publishes(alloc, first, 65_535, &["\npub a ~ y\ndrop 1\n"])?;
+    let is_refused = prints_filled(
+        rt,
+        alloc,
+        text,
+        "link 1 up\nout %\nleft SUB%20a%201%0D%0APUB%20a%2065535%0D%0A",
+        65_535,
+        "%0D%0A\nsub 1\nevent 2 connected\n\
+call 1 numbered 1\ncall 3 accepted\ncall 4 accepted\ncall 5 full\n",
+    )?;
+    let text = publishes(alloc, first, 65_535, &["\npub a ~ y\ndrop 1\ntake 1\n"])?;
+    let (status, sink) = played_bytes(rt, alloc, text)?;
+    Ok(is_refused && status == 6 && sink.bytes() == b"turn 6 out of turn\n".as_slice())
 }
 
 /// Whether calls wait while the link is full, and go on whenever fewer bytes wait than the limit.
@@ -264,7 +311,7 @@ pub fn wait_for_room<R: Wait>(rt: &R, alloc: Global) -> Result<bool, NoMemory> {
         b"link 1 up\nout PUB%20a%2040000%0D%0Axxx",
         b"\nevent 1 connected\ncall 2 accepted\ncall 3 accepted\ncall 4 accepted\ncall 7 accepted\ncall 8 accepted\n",
     )?;
-    Ok(goes_on && is_full(rt, alloc)?)
+    Ok(goes_on && is_full(rt, alloc)? && is_gone_all_the_same(rt, alloc)?)
 }
 
 /// Whether a sink that fails leaves a first part.

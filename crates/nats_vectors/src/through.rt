@@ -116,6 +116,13 @@ fn told(alloc: Global, status: u8, bytes: &[u8]) -> Result<Vec<u8>, NoMemory> {
     Ok(out)
 }
 
+/// What `replay` prints of a script.
+pub fn printed<R: Wait>(rt: &R, alloc: Global, script: &str) -> Result<Vec<u8>, NoMemory> {
+    let mut sink = MemorySink::new(alloc, AT_ONCE);
+    let _status = play_alone(rt, alloc, script, &mut sink)?;
+    Ok(Vec::from_slice(alloc, sink.bytes())?)
+}
+
 /// What `carried` tells, played by `replay` from the bytes of a script, and read out of the bytes that it writes
 /// alone: the replies to calls, then the commands of each link. Where it does not end with 0, what it writes.
 pub fn carried_through<R: Wait>(rt: &R, alloc: Global, script: &str) -> Result<Vec<u8>, NoMemory> {

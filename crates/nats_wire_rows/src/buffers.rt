@@ -40,6 +40,16 @@ fn push_pieces(alloc: Global, buf: &mut OutBuf, out: &mut String) -> Result<(), 
     Ok(out.push_str(format!(in alloc; "{bytes}/{count}")?.as_str())?)
 }
 
+/// Takes the pieces that are handed out, one after the other.
+fn take_each(alloc: Global, buf: &mut OutBuf) -> Result<(), Bad> {
+    let pieces = buf.pieces(alloc)?;
+    for piece in pieces.as_slice() {
+        let n = piece.len().min(buf.pending());
+        buf.taken(n);
+    }
+    Ok(())
+}
+
 /// Calls that change the bytes that wait to be written.
 fn change(alloc: Global, buf: &mut OutBuf, verb: &str, text: &str) -> Result<(), Bad> {
     match verb {
@@ -54,6 +64,7 @@ fn change(alloc: Global, buf: &mut OutBuf, verb: &str, text: &str) -> Result<(),
             let n = size_of(text)?.min(buf.pending());
             buf.cut(n);
         }
+        "each" => take_each(alloc, buf)?,
         "clear" => buf.clear(),
         _ => return Err(Bad::Form),
     }

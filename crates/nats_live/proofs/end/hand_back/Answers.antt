@@ -3,9 +3,9 @@ use Rattle.nats_live.proofs.end.hand_back.Goals as goal
 
 pub returns-clause-back : goal.returns-clause-back
 returns-clause-back g c = record {
-  shut = g.W.Write.LinkWrite.write_told c.shut.new.self;
-  is_shut = c.shut.ensures.shut;
-  taken = c.shut.ensures.taken;
-  faults = c.shut.ensures.faults;
+  shut = g.W.Write.LinkWrite.write_told c.end_writing.new.write;
+  is_shut = c.end_writing.ensures.shut;
+  taken = c.end_writing.ensures.taken;
+  faults = c.end_writing.ensures.faults;
   back = c.hang_up.ensures.told;
 }
