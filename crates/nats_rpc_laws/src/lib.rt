@@ -8,7 +8,10 @@
 #![tactic(auto)]
 
 ghost use Rattle.nats_rpc_laws.specs.Attempts.{RepliedOnlySo, RepliedWhere, RepliedStays};
+ghost use Rattle.nats_rpc_laws.specs.Services.{AnswersInOrder};
 ghost use Rattle.nats_rpc_laws.specs.Runs.{PollGoesOn, RepliedBy, FirstOfAttempt, OneCall, NoneLate};
+
+use nats_core::Message;
 
 /// A poll answers a message only where the call was replied to by it before, or where an attempt of it was: by the
 /// first message to number 0, since the attempt's request was handled, whose subject is that of the reply. A late
@@ -52,4 +55,10 @@ pub fn one_call()
 /// reply to it settles none, and a repeated one neither.
 pub fn none_late()
     ensures { NoneLate }
+{}
+
+/// The answers of a service that are done with, published or given up, are those that its function gave for the
+/// messages with a reply, in order, less the one that it keeps: so each such message is answered once, by its own.
+pub fn answers_in_order<F: FnMut(&Message) -> Vec<u8>>()
+    ensures { AnswersInOrder F.FnMut (λ v. v.items) }
 {}
