@@ -1,5 +1,5 @@
 mod Appends
 mod Cuts
-mod Numbering
+pub mod Numbering
 mod Scripts
 mod Spelled

@@ -7,7 +7,7 @@ ghost use Rattle.nats_script.specs.Cut.{parts_behind, IsFirstLine};
 
 use memchr::memchr;
 
-/// What stands before the first `byte` of a text, and what stands behind it where one comes.
+/// What stands before the first `byte` of a text, and what stands behind it; no second part where no such byte comes.
 pub fn cut(text: &[u8], byte: u8) -> (&[u8], Option<&[u8]>)
     ensures parts { parts_at byte text.now ≡ result.0.now ∷ parts_behind byte (option_copied result.1) }
     ensures whole { IfNone result.1 (result.0.now ≡ text.now) }
@@ -19,7 +19,7 @@ pub fn cut(text: &[u8], byte: u8) -> (&[u8], Option<&[u8]>)
     }
 }
 
-/// The first line of a text, and the lines behind it; `None` where the text is empty.
+/// The first line of a text without its line feed, and the text of the lines behind it; `None` where the text is empty.
 pub fn first_line(text: &[u8]) -> Option<(&[u8], &[u8])>
     ensures { MatchOption result (lines_of text.now ≡ []) (λ found. IsFirstLine text.now found.0.now found.1.now) }
 {
@@ -33,7 +33,8 @@ pub fn first_line(text: &[u8]) -> Option<(&[u8], &[u8])>
     }
 }
 
-/// The one field that is left, where it is the only one.
+/// The one field that is left of a line, where it is the only one: `fields` is what is left, its fields between single
+/// spaces.
 pub fn only(fields: Option<&[u8]>) -> Option<&[u8]>
     ensures { option_copied result ≡ only (parts_behind 32 (option_copied fields.entry)) }
 {

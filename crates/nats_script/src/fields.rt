@@ -66,7 +66,13 @@ pub fn field_bytes(alloc: Global, field: &[u8]) -> Result<Option<Vec<u8>>, NoMem
     }
 }
 
-/// The bytes that a field spells, in a buffer that copies share; `None` where it spells none.
+/// The bytes that a field of a line spells, in a buffer that copies share; `None` where it spells none. Each text has
+/// one spelling: bytes from `!` to `}` but `%` stand for themselves, another is `%` and two hexadecimal digits in upper
+/// case, and the empty text is `%` alone.
+///
+/// # Errors
+///
+/// `NoMemory` for want of memory.
 pub fn bytes_field(alloc: Global, field: &[u8]) -> Result<Option<Bytes>, NoMemory>
     ensures { IfOk result (λ b. b ≡ field_bytes field.now) }
 {

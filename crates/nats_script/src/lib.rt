@@ -11,9 +11,10 @@ mod script;
 mod spelling;
 mod turn_lines;
 
-pub use fields::field_number;
+pub use cut::{cut, first_line, only};
+pub use fields::{bytes_field, field_number};
 pub use nats_history::{Config, NoMemory, Seq, Transcript, Turn};
 pub use print::{print_transcript, push_message_line};
 pub use read::read_script;
 pub use script::Script;
-pub use spelling::push_number;
+pub use spelling::{push_number, push_spelled};

@@ -62,7 +62,12 @@ fn push_run(out: &mut Vec<u8>, bytes: &[u8]) -> Result<usize, NoMemory>
     Ok(run + 1)
 }
 
-/// Appends the one spelling of `bytes`: bytes that stand for themselves go out together.
+/// Appends the one spelling of `bytes` in a field of a line: bytes from `!` to `}` but `%` stand for themselves, another
+/// is `%` and two hexadecimal digits in upper case, and the empty text is `%` alone.
+///
+/// # Errors
+///
+/// `NoMemory` for want of memory: a part may stand at the end already.
 pub fn push_spelled(out: &mut Vec<u8>, bytes: &[u8]) -> Result<(), NoMemory>
     ensures { OnOk result (out.new.items ≡ out.old.items ++ spelled bytes.now) }
 {
