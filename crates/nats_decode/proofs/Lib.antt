@@ -1,2 +1,2 @@
 mod Ends
-mod Sights
+pub mod Sights

@@ -40,11 +40,13 @@ fn reach<P: Rounds, W: Reach>(
             match greet_in(
                 alloc, addr, start, options, pool, &mut read, &mut write, world,
             ) {
-                Ok(Greeted {
-                    info,
-                    rest,
-                    skipped,
-                }) => Ok(Linked {
+                Ok(
+                    Greeted {
+                        info,
+                        rest,
+                        skipped,
+                    },
+                ) => Ok(Linked {
                     info,
                     rest,
                     read,

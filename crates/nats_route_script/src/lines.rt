@@ -8,7 +8,8 @@ ghost use Rattle.nats_broker.specs.declared.turn.BrokerTurn.TheVariants.{Leave};
 ghost use Rattle.nats_route_script.specs.Script.{max_of_line, feed_with, feed_of, leave_of, turn_of_line};
 
 use nats_broker::{BrokerTurn, Bytes, NoMemory};
-use nats_script::{bytes_field, cut, field_number, only};
+use nats_script::cut::{cut, only};
+use nats_script::{bytes_field, field_number};
 use std::alloc::Global;
 
 fn number_in(fields: Option<&[u8]>) -> Option<u64>

@@ -6,7 +6,7 @@ ghost use Rattle.nats_route_script.specs.Script.{turns_from, script_with, script
 use crate::lines::{max_of_line, turn_of_line};
 use crate::script::RouteScript;
 use nats_broker::{NoMemory, Seq};
-use nats_script::first_line;
+use nats_script::cut::first_line;
 use std::alloc::Global;
 
 fn read_turns(alloc: Global, max_payload: u64, lines: &[u8]) -> Result<RouteScript, NoMemory>

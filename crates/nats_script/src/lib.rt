@@ -2,7 +2,7 @@
 //! is our own format: a line for each turn, and a line for each entry.
 #![tactic(auto)]
 
-mod cut;
+pub mod cut;
 mod fields;
 mod print;
 mod publish_lines;
@@ -11,7 +11,6 @@ mod script;
 mod spelling;
 mod turn_lines;
 
-pub use cut::{cut, first_line, only};
 pub use fields::{bytes_field, field_number};
 pub use nats_history::{Config, NoMemory, Seq, Transcript, Turn};
 pub use print::{print_transcript, push_message_line};

@@ -27,14 +27,14 @@ use Rattle.nats_subs.specs.declared.subs.subscription.Delivery.{Delivery}
 use Rattle.nats_subs.specs.declared.subs.subscription.Delivery.TheVariants.{Put, Dropped, Unwanted, Ignored}
 use Rattle.nats_history.specs.Queue.{first}
 use Rattle.nats_tables.specs.Numbers.{at_number, item_of, change}
-use Rattle.nats_history.specs.History.{default_max_payload, limit_told, pings_after, Step, cut, read, handled, link_end, History, drained_by, second, kept, events, waiting_bytes}
+use Rattle.nats_history.specs.History.{default_max_payload, limit_told, Step, cut, read, handled, link_end, History, drained_by, second, kept, events, waiting_bytes}
 use Rattle.nats_history.specs.Tickets.{settles, no_tickets, tickets}
 use Rattle.nats_history.specs.Counts.{no_statistics, message_counted}
 use Rattle.nats_history.specs.Parts.{Parts, parts_of}
 use Rattle.nats_history.specs.Schedule.{is_valid_turn, refusal, call_reply, accepted_step, call_steps, due, chain, ends_link, put_steps}
-use Rattle.nats_history.specs.After.{written, subs_after, commands_of, after, events_of, settled_of}
+use Rattle.nats_history.specs.After.{after, events_of, settled_of}
 pub use Rattle.nats_tickets.specs.Kept.{push_all}
-use Rattle.nats_tickets.specs.Kept.{Kept, kept_after, arrived, reply_in, without}
+use Rattle.nats_tickets.specs.Kept.{Kept, arrived, reply_in, without}
 use Rattle.nats_subs.specs.Delivery.{delivery_at, deliver, altered, with_rows, rows_with}
 use Rattle.nats_subs.specs.declared.subs.subscription.Alteration.TheVariants as alterations
 
@@ -297,24 +297,6 @@ handled_first p = option_map handled (first p.calls)
 abbrev pub command_end : Option Call → Option LinkWord
 command_end None = None
 command_end (Some call) = ends_link call
-
--- what is seen after the commands of a call that waits, which waits still, and what becomes of its subscription or ticket
-abbrev pub called : Option Call → Seen → Seen
-called None old = old
-called (Some call) old = record old {
-  parts = record old.parts {
-    link = record old.parts.link {
-      pings = pings_after (handled call) old.parts.link.pings;
-      wire = record old.parts.link.wire {
-        waiting = written true (commands_of old.parts (handled call)) old.parts.link.wire.waiting;
-      };
-    };
-    subs = subs_after old.parts.config old.parts.link.pings (handled call) old.parts.subs;
-    tickets =
-        (kept_after old.parts.config (length old.parts.link.wire.waiting) (handled call) (kept_of old)).tickets;
-  };
-  ready = (kept_after old.parts.config (length old.parts.link.wire.waiting) (handled call) (kept_of old)).ready;
-}
 
 abbrev pub seen_handled : Option Call → Seen → Seen
 seen_handled None old = old

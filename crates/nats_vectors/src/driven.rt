@@ -3,10 +3,10 @@ ghost use Rattle.std.specs.Prelude.{IsTrue};
 ghost use Rattle.nats_history.specs.declared.turn.Turn.TheVariants as turns;
 ghost use Rattle.nats_session.specs.Handler.{can_play};
 
-use crate::words::{
+use nats_names::{Bytes, NoMemory, State};
+use nats_row_words::words::{
     say, say_due, say_event, say_last, say_number, say_reply, say_take, say_ticket,
 };
-use nats_names::{Bytes, NoMemory, State};
 use nats_script::{Script, print_transcript, read_script};
 use nats_session::{
     Call, CallReply, Config, ConnectionHandler, RunError, ServerInfo, Statistics, Transcript, Turn,

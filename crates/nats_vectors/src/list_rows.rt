@@ -1,8 +1,8 @@
 //! Rows of lists of turns with their transcripts. Each goes through `run`, and as a script through `replay`.
 use crate::driven::transcript;
 use crate::through::printed;
-use crate::words::agrees;
 use nats_names::NoMemory;
+use nats_row_words::words::agrees;
 use std::alloc::Global;
 use std::sync::Wait;
 

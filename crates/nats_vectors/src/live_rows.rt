@@ -1,9 +1,9 @@
 //! Rows of commands on a live link, over a world in memory.
 
-use crate::words::say;
 use bytes::Bytes;
 use nats_outside::FakeLink;
 use nats_replay::{MemorySink, MemorySource, MemoryWorld, NoMemory, memory_world, replay};
+use nats_row_words::words::say;
 use std::alloc::Global;
 use std::sync::Wait;
 

@@ -2,11 +2,11 @@
 //! that are no command.
 ghost use Rattle.std.specs.Prelude.{◌<◌};
 
-use crate::words::agrees;
 use nats_replay::{
     Failing, MemorySink, MemorySource, NoMemory, Reading, Sink, Source, Writing, memory_world,
     replay,
 };
+use nats_row_words::words::agrees;
 use std::alloc::Global;
 use std::io;
 use std::io::Read;

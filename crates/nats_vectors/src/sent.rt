@@ -1,11 +1,11 @@
 //! What the links of a script carry, read back and said.
 
-use crate::words::{say, say_number, say_reply};
 use nats_link_text::{
     ClientEnd, ClientOp, ClientRead, Config, LinkRow, RunError, Transcript, Turn, checked_run,
     read_link,
 };
 use nats_names::{NoMemory, Subject};
+use nats_row_words::words::{say, say_number, say_reply};
 use nats_script::{Script, read_script};
 use nats_wire::HeaderMap;
 use std::alloc::Global;

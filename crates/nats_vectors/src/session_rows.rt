@@ -2,8 +2,8 @@
 use crate::driven::answers;
 use crate::sent::carried;
 use crate::through::carried_through;
-use crate::words::agrees;
 use nats_names::NoMemory;
+use nats_row_words::words::agrees;
 use std::alloc::Global;
 use std::sync::Wait;
 

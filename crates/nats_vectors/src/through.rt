@@ -1,10 +1,10 @@
 //! What the links of a script carry, from outside: played by `replay`, and read out of what that prints.
 
 use crate::sent::say_read;
-use crate::words::say;
 use nats_client_text::read_client_text;
 use nats_names::NoMemory;
 use nats_replay::{MemorySink, MemorySource, MemoryWorld, memory_world, replay};
+use nats_row_words::words::say;
 use percent_encoding::percent_decode;
 use std::alloc::Global;
 use std::sync::Wait;

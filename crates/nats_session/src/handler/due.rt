@@ -14,7 +14,7 @@ ghost use Rattle.nats_history.specs.Schedule.{due, due_chain, chain, read_end, p
 ghost use Rattle.nats_history.specs.After.{written, subs_after};
 ghost use Rattle.nats_subs.specs.Delivery.{with_rows, rows_with};
 ghost use Rattle.nats_tickets.specs.Kept.{kept_after};
-ghost use Rattle.nats_session.specs.Handler.{Advances, is_at_rest, Sees, counted, read_past, message_past, command_end, called, seen_handled, is_nothing, handled_first, seen_all, name_of, coming, delivery_of, delivery_name, played_name, unwanted_seen, after_message, arrived_seen, come_seen, pong_read, end_in};
+ghost use Rattle.nats_session.specs.Handler.{Advances, is_at_rest, Sees, counted, read_past, message_past, command_end, seen_handled, is_nothing, handled_first, seen_all, name_of, coming, delivery_of, delivery_name, played_name, unwanted_seen, after_message, arrived_seen, come_seen, pong_read, end_in};
 
 use super::ConnectionHandler;
 use super::drains::{
@@ -30,7 +30,7 @@ use nats_history::{
 };
 use nats_subs::{Alteration, Delivery, Pings, Subscriptions};
 use nats_tickets::Tickets;
-use nats_wire::{ClientOp, Connection, Peeked, PeekedOp, WireError, copy_headers, copy_subject};
+use nats_wire::{ClientOp, Connection, Peeked, PeekedOp, WireError};
 use std::alloc::Global;
 
 /// The number under which replies to requests come. The crate's.
@@ -76,6 +76,81 @@ fn write_publish(
         headers,
     } = message;
     connection.enqueue_publish(alloc, subject, reply, headers, payload)
+}
+
+fn write_subscribe(
+    connection: &mut Connection,
+    alloc: Global,
+    sid: u64,
+    subject: &Subject,
+    queue_group: &Option<Subject>,
+) -> Result<(), NoMemory>
+    ensures ok { OnOk result (connection.new ≡ with_waiting
+        (connection.old.wire.waiting ++ command_text (client.Subscribe sid subject.now queue_group.now))
+        connection.old) }
+    ensures err { OnErr result (connection.new ≡ connection.old) }
+{
+    connection.enqueue_subscribe(alloc, sid, subject, queue_group)
+}
+
+/// Writes the commands of a call that is handled, and changes the subscription or the ticket that it is about.
+fn handle_call(
+    connection: &mut Connection,
+    subs: &mut Subscriptions,
+    pings: &mut Pings,
+    tickets: &mut Tickets,
+    alloc: Global,
+    config: &Config,
+    requested: bool,
+    call: &Call,
+) -> Result<(), NoMemory>
+    ensures text { OnOk result (connection.new ≡ with_waiting
+        (written true (commands config.now requested (at_with pings.old subs.old) subs.old.rows (handled call.now))
+        connection.old.wire.waiting)
+        connection.old) }
+    ensures subs { OnOk result (subs.new ≡ subs_after config.now pings.old (handled call.now) subs.old) }
+    ensures pings { OnOk result (pings.new ≡ pings_after (handled call.now) pings.old) }
+    ensures tickets { OnOk result
+        (tickets.new ≡ kept_after config.now (length connection.old.wire.waiting) (handled call.now) tickets.old) }
+    ensures err { OnErr result
+        ((connection.new ≡ connection.old) × (subs.new ≡ subs.old) × (pings.new ≡ pings.old)
+        × (tickets.new ≡ tickets.old)) }
+{
+    match call {
+        Call::Publish(message) => write_publish(connection, alloc, message),
+        Call::Subscribe {
+            subject,
+            queue_group,
+        } => {
+            let Some(sid) = subs.next_subscribed() else {
+                return Ok(());
+            };
+            write_subscribe(connection, alloc, sid, subject, queue_group)?;
+            subs.subscribe();
+            Ok(())
+        }
+        Call::Unsubscribe(sid) | Call::DropSub(sid) => {
+            unsubscribe(connection, subs, alloc, *sid, None, Alteration::End)
+        }
+        Call::Drain(sid) => drain(connection, subs, pings, alloc, *sid),
+        Call::DrainAll => drain_all(connection, subs, pings, alloc),
+        Call::Flush => tickets.handle_flush(connection.pending() as u64),
+        Call::Request {
+            subject,
+            payload,
+            headers,
+            token,
+        } => {
+            let reply = inbox_subject(alloc, config, token)?;
+            let ops = request_ops(alloc, config, !requested, subject, payload, headers, &reply)?;
+            ask(connection, tickets, alloc, ops.as_slice(), &reply)
+        }
+        Call::Reconnect => Ok(()),
+        Call::Limit(sid, limit) => {
+            let alteration = Alteration::Limit(*limit);
+            unsubscribe(connection, subs, alloc, *sid, Some(*limit), alteration)
+        }
+    }
 }
 
 impl ConnectionHandler {
@@ -426,74 +501,6 @@ impl ConnectionHandler {
         Ok(Played::Ended)
     }
 
-    /// Writes the commands of the oldest waiting call, and changes the subscription or the ticket that it is about.
-    fn handle_call(&mut self, alloc: Global) -> Result<(), NoMemory>
-        ensures ok { OnOk result (self.new ≡ called (first self.old.parts.calls) self.old) }
-        ensures err { OnErr result (self.new ≡ self.old) }
-    {
-        let Some(call) = self.calls.front() else {
-            return Ok(());
-        };
-        match call {
-            Call::Publish(message) => write_publish(&mut self.connection, alloc, message),
-            Call::Subscribe {
-                subject,
-                queue_group,
-            } => {
-                let Some(sid) = self.subs.next_subscribed() else {
-                    return Ok(());
-                };
-                self.connection
-                    .enqueue_subscribe(alloc, sid, subject, queue_group)?;
-                self.subs.subscribe();
-                Ok(())
-            }
-            Call::Unsubscribe(sid) | Call::DropSub(sid) => {
-                let (connection, subs) = (&mut self.connection, &mut self.subs);
-                unsubscribe(connection, subs, alloc, *sid, None, Alteration::End)
-            }
-            Call::Drain(sid) => {
-                let (connection, subs) = (&mut self.connection, &mut self.subs);
-                drain(connection, subs, &mut self.pings, alloc, *sid)
-            }
-            Call::DrainAll => {
-                drain_all(&mut self.connection, &self.subs, &mut self.pings, alloc)
-            }
-            Call::Flush => self.tickets.handle_flush(self.connection.pending() as u64),
-            Call::Request {
-                subject,
-                payload,
-                headers,
-                token,
-            } => {
-                let reply = inbox_subject(alloc, &self.config, token)?;
-                let is_first = !self.requested;
-                let ops = request_ops(
-                    alloc,
-                    &self.config,
-                    is_first,
-                    subject,
-                    payload,
-                    headers,
-                    &reply,
-                )?;
-                ask(
-                    &mut self.connection,
-                    &mut self.tickets,
-                    alloc,
-                    ops.as_slice(),
-                    &reply,
-                )
-            }
-            Call::Reconnect => Ok(()),
-            Call::Limit(sid, limit) => {
-                let (connection, subs) = (&mut self.connection, &mut self.subs);
-                let alteration = Alteration::Limit(*limit);
-                unsubscribe(connection, subs, alloc, *sid, Some(*limit), alteration)
-            }
-        }
-    }
-
     fn handle_next(&mut self, alloc: Global) -> Result<(), NoMemory>
         requires { IsTrue self.old.parts.link.is_up }
         ensures ok { OnOk result (self.new ≡ seen_handled (first self.old.parts.calls) self.old) }
@@ -506,7 +513,16 @@ impl ConnectionHandler {
         let requested = is_requested_with(call, self.requested);
         let statistics = with_call(self.statistics, &self.config, call);
         note_draining(&mut self.events, is_whole)?;
-        match self.handle_call(alloc) {
+        match handle_call(
+            &mut self.connection,
+            &mut self.subs,
+            &mut self.pings,
+            &mut self.tickets,
+            alloc,
+            &self.config,
+            self.requested,
+            call,
+        ) {
             Ok(()) => {
                 self.drain_handled = is_whole || self.drain_handled;
                 self.requested = requested;

@@ -1,10 +1,10 @@
 //! What is told of a call: what it sends, asks for, names, and what else its acceptance and its handling mean.
-use crate::words::{say, say_number};
 use nats_history::refusals::{
     Outgoing, ReplyTo, Wanted, asked, drains_all, ends_link, has_group, has_subjects, lets_go,
     limits, names, requests, sent, shuts, size_of, subscribes, takes_ticket,
 };
 use nats_history::{Call, Config, NoMemory, Subject, Turn};
+use nats_row_words::words::{say, say_number};
 use nats_script::{Script, read_script};
 use std::alloc::Global;
 

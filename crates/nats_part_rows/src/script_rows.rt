@@ -1,10 +1,10 @@
 //! Scripts that are read, and a transcript with a row of every kind that is printed.
-use crate::words::agrees;
 use nats_header::HeaderMap;
 use nats_history::{
     Call, CallReply, Event, LinkRow, LinkWord, Message, SubRow, TakeReply, Transcript,
 };
 use nats_names::{Bytes, StatusCode, Subject, Text};
+use nats_row_words::words::agrees;
 use nats_script::{NoMemory, Script, Seq, Turn, print_transcript, read_script};
 use std::alloc::Global;
 

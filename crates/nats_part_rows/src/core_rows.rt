@@ -1,11 +1,11 @@
 //! A core that is driven step by step, as scripts say.
 
-use crate::words::{say, say_event, say_number, say_reply, say_take};
 use nats_core::{
     Bytes, Call, CallReply, Config, Core, Entry, LinkRead, LinkWrite, NoMemory, ReadOnce,
     StepError, StepReply, Turn, WriteOnce, usual_server,
 };
 use nats_outside::{Dialer, FakeDialer, FakeLink, FakeRead, FakeWrite};
+use nats_row_words::words::{say, say_event, say_number, say_reply, say_take};
 use nats_script::{Script, read_script};
 use std::alloc::Global;
 use std::net::{IpAddr, Ipv4Addr, SocketAddr};
