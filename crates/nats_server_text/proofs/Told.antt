@@ -287,7 +287,7 @@ next said all is rest =
     let first = stands said is more in
     let left : drop (length text) (text ++ more) ≡ more = drop-append_seam text more in (
       operations_next (text ++ more) (as_read said) (length text) first
-      ∙ ap (λ bytes. as_read said ∷ operations bytes) left ∙ ap (λ ops. as_read said ∷ ops) rest.0,
+          ∙ ap (λ bytes. as_read said ∷ operations bytes) left ∙ ap (λ ops. as_read said ∷ ops) rest.0,
       ap (λ found. behind (length all) (past found (text ++ more))) first ∙ ap (behind (length all)) left ∙ rest.1,
     )
 
