@@ -14,4 +14,4 @@ pub returns-in_ok-out_of_turn_text-in-Err-OutOfTurn : goal.returns-in_ok-out_of_
 returns-in_ok-out_of_turn_text-in-Err-OutOfTurn c =
     let text = c.in_ok-out_of_turn_text-in-Err-OutOfTurn in
     turn_output c.args.max_payload c.loopback.result c.args.turns.now c.in-Err-OutOfTurn.place text.field-0.items c.output-in-Err-OutOfTurn.result
-    c.loopback.ensures c.in-Err-OutOfTurn.ensures text.ensures c.output-in-Err-OutOfTurn.ensures
+    c.loopback.ensures (rw c.in-Err-OutOfTurn.field-0-is at c.in-Err-OutOfTurn.ensures) text.ensures c.output-in-Err-OutOfTurn.ensures
