@@ -222,7 +222,7 @@ begins_field [] rest is = ap is_white (char_first 58 rest (lit< tt))
 begins_field (b ∷ name) rest is =
     let parts = both (is_name_byte b) (list_all is_name_byte name) is in
     let byte = name_byte b parts.0 in
-    ap is_white (char_first b (name ++ 58 ∷ rest) byte.2.0) ∙ byte.2.1
+    ap is_white (char_first b (name ++ 58 ∷ rest) byte.2) ∙ byte.3
 
 empty_ends : goes_on [] ≡ false
 empty_ends = ap is_white chars-nil
@@ -406,10 +406,10 @@ block_back headers are =
     ∙ ap (λ fields. block_with (Some (record { status = None; description = None })) (option_map (all_appended []) fields)) (pairs_read false pairs good)
     ∙ ap (λ headers. Some (plain_block headers)) back
 
-abbrev unanswered_block : Block
+abbrev pub unanswered_block : Block
 unanswered_block = record { status = Some 503; description = None; headers = [] }
 
 -- the block which says that nobody answers
 pub unanswered_back : block_of no_responders ≡ Some unanswered_block
-unfolding block_of is_utf8 trim_start trim_end chars
+unfolding block_of is_utf8 trim_start trim_end chars encode_utf8
 unanswered_back = refl

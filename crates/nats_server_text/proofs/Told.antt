@@ -2,7 +2,7 @@
 use Rattle.std.proofs.Common.{◌≡◌, ℕ, ◌+◌, ◌<◌, ◌^◌, Bool, true, false, List, [], ◌∷◌, ◌++◌, length, take, drop, map, Option, Some, None, refl, ap, sym, ◌∙◌, arith, append_assoc, append-nil, length-append, option_map}
 use Rattle.std.specs.Prelude.{nat_lt, if◌then◌else◌, codes}
 use Rattle.std.specs.Fmt.{decimal}
-use Rattle.std.specs.Str.{IsUtf8}
+use Rattle.std.specs.Str.{IsUtf8, is_utf8}
 use Rattle.std.proofs.Math.Seq.{take-append_seam, drop-append_seam}
 use Rattle.std.proofs.lemmas.Bool.{le-ltb}
 use Rattle.std.proofs.lemmas.Str.{is_utf8-from_IsUtf8}
@@ -18,11 +18,11 @@ use Rattle.nats_lines.specs.Operations.{Operation, message, error_op, pong_op, C
 use Rattle.nats_lines.proofs.Fronts.{sight_by_cut, front_by_sight}
 use Rattle.nats_lines.proofs.Pieces.{head_of_text}
 use Rattle.nats_lines.proofs.Words.{header_head_of_text}
-use Rattle.nats_lines.proofs.Lines.{operations_next}
+use Rattle.nats_lines.proofs.Reading.{operations_next}
 use Rattle.nats_routing.specs.Texts.{crlf, message_text, no_responders}
 use Rattle.nats_server_text.specs.Said.{Refusal, invalid_subject, unknown_operation, payload_violation, Said, told, unanswered, refused, pong, said_text, said_texts, read_headers, read_message, read_unanswered, as_read}
 use Rattle.nats_server_text.specs.Law.{IsWord, IsWordOrNone, IsTellable, AreTellable}
-use Rattle.nats_server_text.proofs.Blocks.{block_back, unanswered_back}
+use Rattle.nats_server_text.proofs.Blocks.{block_back, unanswered_block, unanswered_back}
 use Rattle.nats_server_text.proofs.Cuts.{NoReturn, no_return_append, cut_clean, spaced, AreWords, spaced_clean, spaced_utf8, spaced_pieces, spaced_words, number_word, number_decimal}
 
 -- ---- a line and the bytes behind it
@@ -268,10 +268,19 @@ pong_stands : Stands pong
 unfolding front sight
 pong_stands rest = refl
 
+-- the status alone stands in the block
+abbrev unanswered_by : ℕ → List ℕ → ℕ → Operation
+unanswered_by sid subject n = message sid (record (read_unanswered subject) { length = n })
+
+unanswered_stands : (sid : ℕ) (subject : List ℕ) → sid < 2 ^ 64 → IsWord subject → Stands (unanswered sid subject)
+unanswered_stands sid subject small is rest =
+    let size : length no_responders + 0 + 0 + length subject ≡ length no_responders + length subject = omega arith in
+    headed_stands sid subject None no_responders [] rest unanswered_block small is tt (omega arith) unanswered_back
+    ∙ ap (λ n. got (unanswered_by sid subject n) (length (said_text (unanswered sid subject)))) size
+
 stands : (said : Said) → IsTellable said → Stands said
 stands (told sid subject respond headers payload) is = told_stands sid subject respond headers payload is.0 is.1 is.2 is.3 is.4
-stands (unanswered sid subject) is rest =
-    headed_stands sid subject None no_responders [] rest _ is.0 is.1 tt (omega arith) unanswered_back
+stands (unanswered sid subject) is = unanswered_stands sid subject is.0 is.1
 stands (refused why) is = refused_stands why
 stands pong is = pong_stands
 

@@ -54,6 +54,11 @@ read_headers None = None
 read_headers (Some []) = None
 read_headers (Some (field ∷ fields)) = Some (trimmed (field ∷ fields))
 
+-- the bytes of a block, where there is one, and of a payload
+abbrev pub counted : Option (List ℕ) → List ℕ → ℕ
+counted None payload = length payload
+counted (Some block) payload = length block + length payload
+
 -- the message; its length counts the block, the payload, the reply and the subject
 abbrev pub read_message : List ℕ → Option (List ℕ) → Option Headers → List ℕ → Message
 read_message subject respond headers payload = record {
@@ -63,7 +68,7 @@ read_message subject respond headers payload = record {
   headers = read_headers headers;
   status = None;
   description = None;
-  length = length_or_0 (sent_block headers) + length payload + length_or_0 respond + length subject;
+  length = counted (sent_block headers) payload + length_or_0 respond + length subject;
 }
 
 -- a message with the status 503 and no header
