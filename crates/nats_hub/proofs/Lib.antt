@@ -1,0 +1,5 @@
+pub mod Counting
+pub mod Rooms
+pub mod Waiting
+pub mod Settling
+pub mod Inbox

@@ -1,0 +1,222 @@
+//! What the holders of one session share. This is the one file that waits.
+ghost use Rattle.std.specs.Prelude.{◌≡◌, ◌≢◌, ◌+◌, ◌<◌, IfOk, IfSome, ◌⊎◌, vec_len, length, false, true};
+ghost use Rattle.std.specs.List.{concat};
+ghost use Rattle.nats_history.specs.declared.call.TakeReply.TheVariants as takes;
+ghost use Rattle.nats_refusals.specs.Refusals.{MayAnswer, counts};
+ghost use Rattle.nats_hub.specs.Tallying.{is_do};
+
+use crate::Tallies;
+use crate::locked::{Locked, Tried};
+use nats_core::{Bytes, Call, CallReply, NoMemory, StepError, StepReply, TakeReply, Turn};
+use nats_refusals::Refusal;
+use rand::SeedableRng;
+use rand::rngs::SmallRng;
+use std::alloc::Global;
+use std::sync::ledger::Share;
+use std::sync::{Condvar, Mutex, Wait};
+use std::time::Duration;
+
+/// What all holders of one session share: the session and the book of their tallies, under one lock, which is held for
+/// one turn at a time and never while a call waits. A hub on which nobody plays turns has its waiting calls wait for
+/// ever. Own type: the crate has a spawned task.
+#[derive(Drop)]
+pub struct Hub<G: Tallies> {
+    pub(crate) locked: Mutex<Locked<G>>,
+    moved: Condvar,
+    pub(crate) generator: Mutex<SmallRng>,
+}
+
+impl<G: Tallies> Hub<G> {
+    /// A hub of this session, whose generator begins with the number `start`.
+    pub(crate) fn new(locked: Locked<G>, start: u64) -> Hub<G> {
+        Hub {
+            locked: Mutex::new(locked),
+            moved: Condvar::new(),
+            generator: Mutex::new(SmallRng::seed_from_u64(start)),
+        }
+    }
+
+    /// Plays a turn that is no call, and wakes the calls that wait. Its condition has each accepted call be that of a
+    /// holder. Own call: whoever drives the session by hand plays what its link did.
+    ///
+    /// # Errors
+    ///
+    /// Those of `Core::step`: `OutOfTurn` where the turn may not come, `NoMemory` for want of memory.
+    pub fn play<R: Wait>(&self, rt: &R, alloc: Global, turn: Turn) -> Result<StepReply, StepError>
+        requires { is_do turn ≡ false }
+    {
+        let reply = self.locked.lock(rt).play(alloc, turn);
+        self.moved.notify_all();
+        reply
+    }
+
+    /// The same on the link of this number, if that is the one that is up. Own call.
+    ///
+    /// # Errors
+    ///
+    /// Those of `Core::step_on`: `LinkGone` with the number of the link that is up, or 0, where the given one is not;
+    /// `OutOfTurn` where the turn may not come; `NoMemory` for want of memory.
+    pub fn play_on<R: Wait>(
+        &self,
+        rt: &R,
+        alloc: Global,
+        link: u64,
+        turn: Turn,
+    ) -> Result<StepReply, StepError>
+        requires { is_do turn ≡ false }
+    {
+        let reply = self.locked.lock(rt).play_on(alloc, link, turn);
+        self.moved.notify_all();
+        reply
+    }
+
+    /// Takes a message as soon as one waits. The lock is let go while it waits.
+    fn take_waiting<R: Wait>(
+        &self,
+        rt: &R,
+        alloc: Global,
+        number: u64,
+    ) -> Result<TakeReply, NoMemory>
+        ensures { IfOk result (λ reply. reply ≢ takes.Empty) }
+    {
+        let mut guard = self.locked.lock(rt);
+        for _ in rt.forever() {
+            match guard.take(alloc, number)? {
+                TakeReply::Message(message) => return Ok(TakeReply::Message(message)),
+                TakeReply::Ended => return Ok(TakeReply::Ended),
+                TakeReply::Empty => guard = self.moved.wait(rt, guard),
+            }
+        }
+        unreachable!()
+    }
+
+    /// Takes the oldest message of the subscription of this number as soon as one waits, and wakes the calls that wait.
+    /// `Ended` where none will come.
+    ///
+    /// # Errors
+    ///
+    /// `NoMemory` for want of memory.
+    pub fn take<R: Wait>(&self, rt: &R, alloc: Global, number: u64) -> Result<TakeReply, NoMemory>
+        ensures { IfOk result (λ reply. reply ≢ takes.Empty) }
+    {
+        let reply = self.take_waiting(rt, alloc, number);
+        self.moved.notify_all();
+        reply
+    }
+
+    /// Makes a call once, and wakes the calls that wait.
+    pub(crate) fn try_call<R: Wait>(
+        &self,
+        rt: &R,
+        alloc: Global,
+        mine: &mut Share<G>,
+        call: Call,
+    ) -> Result<Option<u64>, Refusal>
+        requires { 0 < mine.old.parts }
+        ensures parts { mine.new.parts ≡ mine.old.parts }
+        ensures made { mine.new.amount ≡ mine.old.amount + counts result }
+        ensures may { MayAnswer false call result }
+    {
+        let answer = self.locked.lock(rt).call(alloc, mine, call);
+        self.moved.notify_all();
+        answer
+    }
+
+    /// Makes a call as soon as there is room for it. The lock is let go while it waits.
+    fn call_with_room<R: Wait>(
+        &self,
+        rt: &R,
+        alloc: Global,
+        mine: &mut Share<G>,
+        call: Call,
+    ) -> Result<Option<u64>, Refusal>
+        requires { 0 < mine.old.parts }
+        ensures parts { mine.new.parts ≡ mine.old.parts }
+        ensures made { mine.new.amount ≡ mine.old.amount + counts result }
+        ensures may { MayAnswer true call result }
+    {
+        let mut waits = call;
+        let mut guard = self.locked.lock(rt);
+        for _ in rt.forever() {
+            match guard.call_with_room(alloc, mine, waits) {
+                Tried::Answered(answer) => return answer,
+                Tried::NoRoom(call) => waits = call,
+            }
+            guard = self.moved.wait(rt, guard);
+        }
+        unreachable!()
+    }
+
+    /// Makes a call as soon as there is room for it, and wakes the calls that wait.
+    pub(crate) fn call<R: Wait>(
+        &self,
+        rt: &R,
+        alloc: Global,
+        mine: &mut Share<G>,
+        call: Call,
+    ) -> Result<Option<u64>, Refusal>
+        requires { 0 < mine.old.parts }
+        ensures parts { mine.new.parts ≡ mine.old.parts }
+        ensures made { mine.new.amount ≡ mine.old.amount + counts result }
+        ensures may { MayAnswer true call result }
+    {
+        let answer = self.call_with_room(rt, alloc, mine, call);
+        self.moved.notify_all();
+        answer
+    }
+
+    /// The reply by which a ticket settled, once: as soon as it settles.
+    pub(crate) fn settled<R: Wait>(&self, rt: &R, ticket: u64) -> CallReply {
+        let mut guard = self.locked.lock(rt);
+        for _ in rt.forever() {
+            if let Some(reply) = guard.reply_of(ticket) {
+                return reply;
+            }
+            guard = self.moved.wait(rt, guard);
+        }
+        unreachable!()
+    }
+
+    /// The reply by which a ticket settled, once; or how often those who wait were woken before, as `sleep` takes it.
+    pub(crate) fn reply_or_seen<R: Wait>(&self, rt: &R, ticket: u64) -> Result<CallReply, u64> {
+        let mut guard = self.locked.lock(rt);
+        match guard.reply_of(ticket) {
+            Some(reply) => Ok(reply),
+            None => Err(self.moved.notifications()),
+        }
+    }
+
+    /// Comes back after that many milliseconds, or at once where those who wait were woken since `seen`.
+    pub(crate) fn sleep<R: Wait>(&self, rt: &R, seen: u64, ms: u64) {
+        self.moved.sleep(rt, seen, Duration::from_millis(ms))
+    }
+
+    /// The pieces that wait for the link of this number, in order; `None` where that is not the one that is up. They
+    /// stay, until a turn says how many bytes were taken.
+    ///
+    /// # Errors
+    ///
+    /// `NoMemory` for want of memory.
+    pub fn pieces_on<R: Wait>(
+        &self,
+        rt: &R,
+        alloc: Global,
+        link: u64,
+    ) -> Result<Option<Vec<Bytes>>, NoMemory>
+        ensures { IfOk result (λ o. IfSome o (λ v. vec_len v ≡ 0 ⊎ 0 < length (concat v.items))) }
+    {
+        self.locked.lock(rt).pieces_on(alloc, link)
+    }
+
+    /// Comes back once something may be there to write to the link of this number, or that is not the one that is up.
+    pub fn wait_for_bytes<R: Wait>(&self, rt: &R, link: u64) {
+        let mut guard = self.locked.lock(rt);
+        for _ in rt.forever() {
+            if !guard.is_idle_on(link) {
+                return;
+            }
+            guard = self.moved.wait(rt, guard);
+        }
+        unreachable!()
+    }
+}
