@@ -1,0 +1,4 @@
+pub mod Views
+pub mod Finishing
+pub mod Calls
+pub mod Polling
