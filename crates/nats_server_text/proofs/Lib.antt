@@ -1,0 +1,4 @@
+mod Blocks
+mod Cuts
+mod Headers
+mod Told
