@@ -1,3 +1,4 @@
 pub mod Asked
+pub mod Given
 pub mod Settled
 pub mod Laws

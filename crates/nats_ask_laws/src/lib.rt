@@ -3,6 +3,7 @@
 #![tactic(auto)]
 
 ghost use Rattle.nats_ask_laws.specs.Laws.{SinceAsked, OneSubject, OneAsked, FirstReply, OneByOne, SettledForGood, HeldReply};
+ghost use Rattle.nats_ask_laws.specs.Given.{GivenOnce, GivenForGood, TurnsInOrder, HandledAsGiven, RepliedAsGiven};
 
 /// A request that waits for a reply was handled, and since then no message to number 0 with the subject of its reply
 /// was read, no other request under its token was handled, its deadline did not come, and the session did not close.
@@ -42,4 +43,31 @@ pub fn settled_for_good()
 /// then.
 pub fn held_reply()
     ensures { HeldReply }
+{}
+
+/// A ticket is given to one call, as that is accepted.
+pub fn given_once()
+    ensures { GivenOnce }
+{}
+
+/// A ticket that was given stays given to its call, whatever comes.
+pub fn given_for_good()
+    ensures { GivenForGood }
+{}
+
+/// Whatever turns were played, each call that is handled was the oldest that waited.
+pub fn turns_in_order()
+    ensures { TurnsInOrder }
+{}
+
+/// Where each call that is handled was the oldest that waited, the request that is handled for a ticket is the call that
+/// the ticket was given to.
+pub fn handled_as_given()
+    ensures { HandledAsGiven }
+{}
+
+/// A message by which a ticket settled as replied has the subject of the reply to the call that the ticket was given
+/// to: the inbox with the token of that very request.
+pub fn replied_as_given()
+    ensures { RepliedAsGiven }
 {}
