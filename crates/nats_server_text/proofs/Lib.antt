@@ -1,4 +1,6 @@
 mod Blocks
 mod Cuts
 mod Headers
+mod Hello
+mod Lines
 mod Told

@@ -16,23 +16,19 @@ use Rattle.nats_client_text.specs.Law.{AreHeadersOrNone, IsCounted}
 use Rattle.nats_message.specs.declared.message.Message.{Message}
 use Rattle.nats_lines.specs.declared.word.Word.TheVariants as word
 use Rattle.nats_lines.specs.Operations.{Operation, message, error_op, pong_op, Cut, cut_line, word_of, Head, HeaderHead, head_with, head_of, head_of_pieces, header_head_of, header_head_of_words, with_block_len, message_of, with_block, length_or_0, OpText, plain, headed, headed_text, Sight, less, whole, message_or_bad, headed_or_bad, error_or_bad, error_by, error_of_text, without_quotes, sight_of_word, sight_of_cut, sight, op_of, lost_at, got_or_fault, front_of_sight, Front, got, front, past, behind, operations, number_of, pieces_of, words_of}
-use Rattle.nats_lines.proofs.Fronts.{sight_by_cut, front_by_sight}
+use Rattle.nats_lines.proofs.Fronts.{front_by_sight}
 use Rattle.nats_lines.proofs.Pieces.{head_of_text}
 use Rattle.nats_lines.proofs.Words.{header_head_of_text}
 use Rattle.nats_lines.proofs.Reading.{operations_next}
 use Rattle.nats_routing.specs.Texts.{crlf, message_text, no_responders}
-use Rattle.nats_server_text.specs.Said.{Refusal, invalid_subject, unknown_operation, payload_violation, refusal_text, Said, told, unanswered, refused, pong, said_text, said_texts, read_headers, read_message, read_unanswered, as_read}
+use Rattle.nats_server_text.specs.Said.{Refusal, invalid_subject, unknown_operation, payload_violation, refusal_text, Said, hello, told, unanswered, refused, pong, said_text, said_texts, read_headers, read_message, read_unanswered, as_read}
 use Rattle.nats_server_text.specs.Law.{IsWord, IsWordOrNone, IsTellable, AreTellable}
+use Rattle.nats_server_text.proofs.Lines.{line_seen}
+use Rattle.nats_server_text.proofs.Hello.{hello_stands}
 use Rattle.nats_server_text.proofs.Blocks.{block_back, unanswered_block, unanswered_back}
 use Rattle.nats_server_text.proofs.Cuts.{small_utf8, all_small, NoReturn, no_return_append, cut_clean, spaced, AreWords, spaced_clean, spaced_utf8, spaced_pieces, spaced_words, number_word, number_decimal}
 
 -- ---- a line and the bytes behind it
-
--- what is seen at a line, by what its word makes of it
-line_seen : (line rest : List ℕ) (seen : Sight) → NoReturn line → sight_of_word (word_of line) line rest ≡ seen
-    → sight (line ++ 13 ∷ 10 ∷ rest) ≡ seen
-line_seen line rest seen clean is =
-    sight_by_cut (line ++ 13 ∷ 10 ∷ rest) (Some (record { line = line; rest = rest })) (sym (cut_clean line rest clean)) ∙ is
 
 body_step : (few : Bool) (text : OpText) (n : ℕ) → few ≡ false → (if few then less else whole text n) ≡ whole text n
 body_step true text n is = cc
@@ -295,6 +291,7 @@ unanswered_stands sid subject small is rest =
     ∙ ap (λ n. got (unanswered_by sid subject n) (length (said_text (unanswered sid subject)))) size
 
 stands : (said : Said) → IsTellable said → Stands said
+stands (hello server_id max_payload) is = hello_stands server_id max_payload is.0 is.1
 stands (told sid subject respond headers payload) is = told_stands sid subject respond headers payload is.0 is.1 is.2 is.3 is.4
 stands (unanswered sid subject) is = unanswered_stands sid subject is.0 is.1
 stands (refused why) is = refused_stands why
