@@ -38,11 +38,19 @@ abbrev pub outcome_in : Stage → Outcome
 outcome_in (stages.Settled outcome) = outcome
 outcome_in stage = outcomes.Waiting
 
+-- a copy of it takes memory: it holds a message or a reply
+abbrev pub takes_memory : Outcome → Bool
+takes_memory (outcomes.Replied m) = true
+takes_memory (outcomes.Refused reply) = true
+takes_memory outcome = false
+
+-- how far a call is, but for what it came to
 abbrev pub phase_of : Stage → Phase
 phase_of stages.Resting = phases.Resting
 phase_of (stages.Live attempt) = phases.Live attempt
 phase_of (stages.Settled outcome) = phases.Settled
 
+-- it came to this
 abbrev pub settled_as : Outcome → Asked → Asked
 settled_as outcome asked = record asked { stage = stages.Settled outcome }
 
@@ -62,8 +70,8 @@ abbrev pub is_numbered : CallReply → Bool
 is_numbered (replies.Numbered ticket) = true
 is_numbered reply = false
 
--- a call after its request was answered at this time: accepted, it waits; where the client is full nothing changed; else
--- it is refused
+-- a call after its request was answered at this time: accepted, it waits; where the client is full nothing changed;
+-- else it is refused
 abbrev pub answered : ℕ → CallReply → Asked → Asked
 answered now (replies.Numbered ticket) asked = live_at ticket now asked
 answered now replies.Full asked = asked

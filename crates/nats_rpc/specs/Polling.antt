@@ -1,5 +1,5 @@
 -- What a poll does to a call and to the core.
-use Rattle.std.specs.Prelude.{◌≡◌, ◌≢◌, ℕ, suc, ◌+◌, ◌-◌, ◌^◌, ◌<◌, ◌≤◌, Bool, true, false, ◌⊎◌, List, [], ◌∷◌, ◌++◌, Option, Some, None, is_some, Result, Ok, Err, IfOk, OnOk, OnErr, IsOk, IsErr, slice_set, slice_index_or, if◌then◌else◌}
+use Rattle.std.specs.Prelude.{◌≡◌, ◌≢◌, ℕ, suc, ◌+◌, ◌-◌, ◌^◌, ◌<◌, ◌≤◌, Bool, true, false, ◌⊎◌, List, [], ◌∷◌, ◌++◌, Option, Some, None, is_some, Result, Ok, Err, IsOk, IsErr, slice_set, slice_index_or, if◌then◌else◌}
 use Rattle.nats_names.specs.declared.failed.NoMemory.{NoMemory}
 use Rattle.nats_history.specs.declared.call.CallReply.{CallReply}
 use Rattle.nats_history.specs.declared.call.CallReply.TheVariants as replies
@@ -19,7 +19,7 @@ use Rattle.nats_rpc.specs.declared.asked.Stage.{Stage}
 use Rattle.nats_rpc.specs.declared.asked.Stage.TheVariants as stages
 use Rattle.nats_rpc.specs.declared.asked.Asked.{Asked}
 use Rattle.nats_rpc.specs.declared.terms.Terms.{Terms}
-use Rattle.nats_rpc.specs.Calls.{request_of, is_over, outcome_of, outcome_in, settled_as, rested, is_numbered, answered}
+use Rattle.nats_rpc.specs.Calls.{request_of, is_over, outcome_of, outcome_in, takes_memory, settled_as, rested, is_numbered, answered}
 
 -- ---- a caller as it is seen
 
@@ -41,7 +41,8 @@ taken_out ticket core = with_session (record core.session { ready = without tick
 -- the deadline of a ticket was played, where it is of a request; else it is out of turn
 abbrev pub PlaysDeadline : ℕ → Logged → Logged → Type 0
 PlaysDeadline ticket old new =
-    Steps old (turns.Deadline ticket) (Ok steps.Done) new ⊎ Steps old (turns.Deadline ticket) (Err refused.OutOfTurn) new
+    Steps old (turns.Deadline ticket) (Ok steps.Done) new
+    ⊎ Steps old (turns.Deadline ticket) (Err refused.OutOfTurn) new
 
 -- memory was wanting for a turn
 abbrev pub is_wanting : Result StepReply StepError → Bool
@@ -58,15 +59,16 @@ abbrev pub numbers_after : CallReply → ℕ → ℕ
 numbers_after reply numbers = if is_numbered reply then suc numbers else numbers
 
 -- the request of the next attempt was submitted, and its reply is what the call and the numbers go by
-pub record Sends (terms : Terms) (now numbers : ℕ) (asked : Asked) (old : Logged) (numbers' : ℕ) (asked' : Asked) (new : Logged) : Type 0 where
+pub record Sends (terms : Terms) (now numbers : ℕ) (asked : Asked) (old : Logged) (numbers' : ℕ) (asked' : Asked)
+    (new : Logged) : Type 0 where
   pub reply : CallReply
   pub submits : Submits old (request_of terms (suc numbers) asked) (Ok reply) new
   pub call : asked' ≡ answered now reply asked
   pub used : numbers' ≡ numbers_after reply numbers
 
 -- a call without an attempt, at this time
-pub data Tries (terms : Terms) (now numbers : ℕ) (asked : Asked) (old : Logged) (r : Result (Unit {0}) NoMemory) (numbers' : ℕ)
-    (asked' : Asked) (new : Logged) : Type 0 where
+pub data Tries (terms : Terms) (now numbers : ℕ) (asked : Asked) (old : Logged) (r : Result (Unit {0}) NoMemory)
+    (numbers' : ℕ) (asked' : Asked) (new : Logged) : Type 0 where
   -- no try is left, and it timed out
   spent : terms.tries ≤ asked.tried → IsOk r → asked' ≡ settled_as outcomes.TimedOut asked → numbers' ≡ numbers
       → new ≡ old → Tries terms now numbers asked old r numbers' asked' new
@@ -104,7 +106,8 @@ pub data Waits (terms : Terms) (now : ℕ) (attempt : Attempt) (numbers : ℕ) (
       → Waits terms now attempt numbers asked old r numbers' asked' new
 
 -- a call, at this time, by how far it is
-abbrev pub MovesFrom : Stage → Terms → ℕ → ℕ → Asked → Logged → Result (Unit {0}) NoMemory → ℕ → Asked → Logged → Type 0
+abbrev pub MovesFrom : Stage → Terms → ℕ → ℕ → Asked → Logged → Result (Unit {0}) NoMemory → ℕ → Asked → Logged
+    → Type 0
 MovesFrom (stages.Settled outcome) terms now numbers asked old r numbers' asked' new =
     IsOk r × (asked' ≡ asked) × (numbers' ≡ numbers) × (new ≡ old)
 MovesFrom (stages.Live attempt) terms now numbers asked old r numbers' asked' new =
@@ -112,12 +115,14 @@ MovesFrom (stages.Live attempt) terms now numbers asked old r numbers' asked' ne
 MovesFrom stages.Resting terms now numbers asked old r numbers' asked' new =
     Tries terms now numbers asked old r numbers' asked' new
 
+-- the same, by how far the call is
 abbrev pub Moves : Terms → ℕ → ℕ → Asked → Logged → Result (Unit {0}) NoMemory → ℕ → Asked → Logged → Type 0
 Moves terms now numbers asked old r numbers' asked' new =
     MovesFrom asked.stage terms now numbers asked old r numbers' asked' new
 
 -- ---- a whole caller
 
+-- as it is made: it has no calls
 abbrev pub new_caller : List ℕ → ℕ → ℕ → Calling
 new_caller name tries patience =
     calling_of (record { name = name; tries = tries; patience = patience }) 0 []
@@ -125,18 +130,33 @@ new_caller name tries patience =
 abbrev pub new_call : List ℕ → List ℕ → Asked
 new_call subject payload = record { subject = subject; payload = payload; tried = 0; stage = stages.Resting }
 
+-- one more call was taken in
 abbrev pub with_call : List ℕ → List ℕ → Calling → Calling
 with_call subject payload caller = record caller { calls = caller.calls ++ new_call subject payload ∷ [] }
 
--- a poll of the call of a number at a time: once no step of the core is due, the call is moved on, and what it came to is
--- told; or memory was wanting for a due step, and the caller stayed as it was
+-- what is told of a call that was moved on: what it came to. Memory may be wanting on the way, or for a copy of an
+-- outcome that holds a message or a reply, and for nothing else
+abbrev pub Tells : Result (Unit {0}) NoMemory → Outcome → Result Outcome NoMemory → Type 0
+Tells (Ok moved) outcome (Ok told) = told ≡ outcome
+Tells (Ok moved) outcome (Err wanting) = takes_memory outcome ≡ true
+Tells (Err wanting) outcome (Ok told) = ⊥
+Tells (Err wanting) outcome (Err told) = Unit {0}
+
+-- the call of a number was moved on at a time, once no step of the core was due
+pub record MovesCall (call now : ℕ) (caller : Calling) (old : Logged) (asked : Asked) (r : Result (Unit {0}) NoMemory)
+    (asked' : Asked) (caller' : Calling) (new : Logged) : Type 0 where
+  pub at : asked ≡ slice_index_or caller.calls (call - 1) asked
+  pub moves : Moves caller.terms now caller.numbers asked (caught_up old) r caller'.numbers asked' new
+  pub terms : caller'.terms ≡ caller.terms
+  pub calls : caller'.calls ≡ slice_set caller.calls (call - 1) asked'
+
+-- a poll of the call of a number at a time: once no step of the core is due, the call is moved on, and what it came to
+-- is told; or memory was wanting for a due step, and the caller stayed as it was
 pub data Polls (call now : ℕ) (caller : Calling) (old : Logged) (result : Result Outcome NoMemory) (caller' : Calling)
     (new : Logged) : Type 0 where
   behind : IsErr result → caller' ≡ caller → PlaysDue old new → is_some (due (parts_in new)) ≡ true
       → Polls call now caller old result caller' new
   polled : (asked asked' : Asked) (r : Result (Unit {0}) NoMemory)
-      → asked ≡ slice_index_or caller.calls (call - 1) asked
-      → Moves caller.terms now caller.numbers asked (caught_up old) r caller'.numbers asked' new
-      → caller'.terms ≡ caller.terms → caller'.calls ≡ slice_set caller.calls (call - 1) asked'
-      → IfOk result (λ outcome. IsOk r × (outcome ≡ outcome_in asked'.stage))
+      → MovesCall call now caller old asked r asked' caller' new
+      → Tells r (outcome_in asked'.stage) result
       → Polls call now caller old result caller' new

@@ -1,6 +1,6 @@
 //! One call as its caller keeps it.
-ghost use Rattle.std.specs.Prelude.{◌≡◌, ◌<◌, ◌^◌, ◌-◌, IfOk};
-ghost use Rattle.nats_rpc.specs.Calls.{outcome_in, phase_of, settled_as, rested, live_at, is_numbered, answered};
+ghost use Rattle.std.specs.Prelude.{◌≡◌, ◌<◌, ◌^◌, ◌-◌, IfOk, OnErr, true};
+ghost use Rattle.nats_rpc.specs.Calls.{outcome_in, takes_memory, phase_of, settled_as, rested, live_at, is_numbered, answered};
 
 use crate::outcome::Outcome;
 use nats_core::{Bytes, CallReply, NoMemory, Subject};
@@ -55,7 +55,8 @@ impl Asked {
 
     /// What a poll answers of it.
     pub fn outcome(&self, alloc: Global) -> Result<Outcome, NoMemory>
-        ensures { IfOk result (λ o. o ≡ outcome_in self.now.stage) }
+        ensures ok { IfOk result (λ o. o ≡ outcome_in self.now.stage) }
+        ensures wants { OnErr result (takes_memory (outcome_in self.now.stage) ≡ true) }
     {
         match &self.stage {
             Stage::Settled(outcome) => outcome.copy(alloc),

@@ -9,13 +9,13 @@ ghost use Rattle.nats_rpc.specs.Polling.{taken_out, is_wanting, PlaysDeadline, E
 
 use crate::asked::{Asked, Attempt, Phase};
 use crate::outcome::Outcome;
-use crate::terms::Terms;
+use crate::terms::{NAME_LIMIT, Terms};
 use nats_core::{Call, CallReply, Core, NoMemory, StepError, StepReply, Token, Turn};
 use std::alloc::Global;
 
 /// The token of an attempt: the name, and the attempt's number in decimal.
 fn token_of(alloc: Global, terms: &Terms, number: u64) -> Result<Token, NoMemory>
-    requires { length terms.now.name ≤ 40 }
+    requires { length terms.now.name ≤ NAME_LIMIT }
     ensures { IfOk result (λ token. token ≡ token_of terms.now.name number) }
 {
     let name = terms.name.as_str();
@@ -28,7 +28,7 @@ fn token_of(alloc: Global, terms: &Terms, number: u64) -> Result<Token, NoMemory
 
 /// The request of an attempt.
 fn request_of(alloc: Global, terms: &Terms, asked: &Asked, number: u64) -> Result<Call, NoMemory>
-    requires { length terms.now.name ≤ 40 }
+    requires { length terms.now.name ≤ NAME_LIMIT }
     ensures { IfOk result (λ call. call ≡ request_of terms.now number asked.now) }
 {
     let token = token_of(alloc, terms, number)?;
@@ -103,7 +103,7 @@ fn send(
     core: &mut Core,
     now: u64,
 ) -> Result<(), NoMemory>
-    requires name { length terms.now.name ≤ 40 }
+    requires name { length terms.now.name ≤ NAME_LIMIT }
     requires numbers { numbers.old < 2 ^ 64 - 1 }
     requires tried { asked.old.tried < 2 ^ 64 - 1 }
     ensures ok { OnOk result (Sends terms.now now numbers.old asked.old core.old numbers.new asked.new core.new) }
@@ -132,7 +132,7 @@ fn try_again(
     core: &mut Core,
     now: u64,
 ) -> Result<(), NoMemory>
-    requires { length terms.now.name ≤ 40 }
+    requires { length terms.now.name ≤ NAME_LIMIT }
     ensures { Tries terms.now now numbers.old asked.old core.old result numbers.new asked.new core.new }
 {
     if asked.tried >= terms.tries {
@@ -156,7 +156,7 @@ fn await_longer(
     now: u64,
     attempt: Attempt,
 ) -> Result<(), NoMemory>
-    requires name { length terms.now.name ≤ 40 }
+    requires name { length terms.now.name ≤ NAME_LIMIT }
     requires none { reply_in attempt.ticket core.old.session.ready ≡ None }
     ensures { Waits terms.now now attempt numbers.old asked.old core.old result numbers.new asked.new core.new }
 {
@@ -177,7 +177,7 @@ fn await_reply(
     now: u64,
     attempt: Attempt,
 ) -> Result<(), NoMemory>
-    requires { length terms.now.name ≤ 40 }
+    requires { length terms.now.name ≤ NAME_LIMIT }
     ensures { Waits terms.now now attempt numbers.old asked.old core.old result numbers.new asked.new core.new }
 {
     match core.reply_of(attempt.ticket) {
@@ -198,7 +198,7 @@ pub fn advance(
     core: &mut Core,
     now: u64,
 ) -> Result<(), NoMemory>
-    requires { length terms.now.name ≤ 40 }
+    requires { length terms.now.name ≤ NAME_LIMIT }
     ensures { Moves terms.now now numbers.old asked.old core.old result numbers.new asked.new core.new }
 {
     match asked.phase() {

@@ -6,7 +6,7 @@ ghost use Rattle.nats_rpc.specs.Polling.{new_caller, with_call, Polls};
 use crate::asked::{Asked, Stage};
 use crate::attempt::advance;
 use crate::outcome::Outcome;
-use crate::terms::Terms;
+use crate::terms::{NAME_LIMIT, Terms};
 use nats_core::{Bytes, Core, NoMemory, Subject, Token};
 use std::alloc::{AllocError, Global};
 use std::marker::Model;
@@ -37,20 +37,21 @@ pub struct Caller {
 impl Model for Caller {
     ghost use Rattle.std.specs.Prelude.{◌≤◌, length};
     ghost use Rattle.nats_rpc.specs.Polling.{Calling, calling_of};
+    ghost use Rattle.nats_rpc.specs.declared.terms.TheConstants.{NAME_LIMIT};
 
     ghost Value = { Calling };
 
     ghost view = { λ caller. calling_of caller.terms caller.numbers caller.calls.items };
 
-    ghost invariant = { λ caller. length caller.terms.name ≤ 40 };
+    ghost invariant = { λ caller. length caller.terms.name ≤ NAME_LIMIT };
 }
 
 impl Caller {
     /// A caller with this name, whose calls make so many requests each at most, and whose attempts wait so many
-    /// milliseconds for their replies. It has no calls. Its conditions are that the name has 40 bytes at most, and
-    /// that there is one try at least. It takes no memory.
+    /// milliseconds for their replies. It has no calls. Its conditions are that the name has `NAME_LIMIT` bytes at
+    /// most, and that there is one try at least. It takes no memory.
     pub fn new(alloc: Global, name: Token, tries: u64, patience: u64) -> Caller
-        requires name { length name ≤ 40 }
+        requires name { length name ≤ NAME_LIMIT }
         requires tries { 1 ≤ tries }
         ensures { result ≡ new_caller name tries patience }
     {

@@ -1,6 +1,6 @@
 //! What a poll of a call comes to.
-ghost use Rattle.std.specs.Prelude.{◌≡◌, IfOk};
-ghost use Rattle.nats_rpc.specs.Calls.{outcome_of};
+ghost use Rattle.std.specs.Prelude.{◌≡◌, IfOk, OnErr, true};
+ghost use Rattle.nats_rpc.specs.Calls.{outcome_of, takes_memory};
 
 use nats_core::{CallReply, Message, NoMemory};
 use std::alloc::Global;
@@ -25,9 +25,10 @@ impl Outcome {
     ///
     /// # Errors
     ///
-    /// `NoMemory` for want of memory.
+    /// `NoMemory`, only for an outcome that holds a message or a reply.
     pub fn copy(&self, alloc: Global) -> Result<Outcome, NoMemory>
-        ensures { IfOk result (λ o. o ≡ self.now) }
+        ensures ok { IfOk result (λ o. o ≡ self.now) }
+        ensures wants { OnErr result (takes_memory self.now ≡ true) }
     {
         match self {
             Outcome::Waiting => Ok(Outcome::Waiting),

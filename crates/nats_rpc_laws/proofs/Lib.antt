@@ -1,0 +1,5 @@
+pub mod Attempts
+pub mod Growing
+pub mod Runs
+pub mod Services
+pub mod Tokens

@@ -1,0 +1,4 @@
+pub mod Attempts
+pub mod Runs
+pub mod Services
+pub mod Tokens
