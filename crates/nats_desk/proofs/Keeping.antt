@@ -76,6 +76,7 @@ plain_more (x ∷ journal) e = ap (λ es. plain_entry x ∷ es) (plain_more jour
 right_after : (core : Logged) (journal : List SeatEntry) (seat : ℕ) (t : Turn) → IsNoted core journal
     → StandsForAll (config_of core) (journal_turns core) core.session → is_valid_turn (parts_in core) t ≡ true
     → IsRightBySeat (config_of core) (journal ++ entry seat t (reply_to (parts_in core) t) ∷ [])
+unfolding IsRightBySeat
 right_after core journal seat t noted stands valid =
     let right : IsRight (config_of core) core.entries = subst (IsRight (config_of core)) (sym noted.same) noted.right in
     let more = right_more (config_of core) core.entries t (parts_in core) right (sym stands.stands.parts) valid in
@@ -112,9 +113,11 @@ noted_same old new journal more noted same entries kept config = record {
 pub may_come_is : (core : Logged) (journal : List SeatEntry) (t : Turn) (valid : Bool) → IsNoted core journal
     → StandsForAll (config_of core) (journal_turns core) core.session → is_valid_turn (parts_in core) t ≡ valid
     → may_come (config_of core) journal t ≡ valid
+unfolding may_come
 may_come_is core journal t valid noted stands is = ap (λ p. is_valid_turn p t) (parts_are_at core journal noted stands) ∙ is
 
 pub reply_at_is : (core : Logged) (journal : List SeatEntry) (t : Turn) (reply : StepReply) → IsNoted core journal
     → StandsForAll (config_of core) (journal_turns core) core.session → reply ≡ reply_to (parts_in core) t
     → reply ≡ reply_at (config_of core) journal t
+unfolding reply_at
 reply_at_is core journal t reply noted stands is = is ∙ ap (λ p. reply_to p t) (sym (parts_are_at core journal noted stands))

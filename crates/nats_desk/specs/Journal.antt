@@ -27,7 +27,7 @@ plain journal = map plain_entry journal
 
 -- a journal by seats is right under a config where it is so less the numbers: each turn may come where it stands, and
 -- has its reply
-abbrev pub IsRightBySeat : Config → List SeatEntry → Type 0
+unfoldable pub IsRightBySeat : Config → List SeatEntry → Type 0
 IsRightBySeat c journal = IsRight c (plain journal)
 
 -- what the turns of a journal make of a session, with all steps that they make due
@@ -35,11 +35,11 @@ unfoldable pub parts_at : Config → List SeatEntry → Parts
 parts_at c journal = parts_of c (steps c (turns_of (plain journal)))
 
 -- whether a turn may come behind a journal
-abbrev pub may_come : Config → List SeatEntry → Turn → Bool
+unfoldable pub may_come : Config → List SeatEntry → Turn → Bool
 may_come c journal turn = is_valid_turn (parts_at c journal) turn
 
 -- what it answers there
-abbrev pub reply_at : Config → List SeatEntry → Turn → StepReply
+unfoldable pub reply_at : Config → List SeatEntry → Turn → StepReply
 reply_at c journal turn = reply_to (parts_at c journal) turn
 
 -- ---- a desk as it is seen

@@ -58,6 +58,7 @@ impl Desk {
     /// # Errors
     ///
     /// `NoMemory` for want of memory.
+    #[tactic(auto, unfolding(crate::specs::Journal::IsRightBySeat))]
     pub fn new(alloc: Global, config: Config) -> Result<Desk, NoMemory>
         ensures { IfOk result (λ desk. desk ≡ new_desk config) }
     {

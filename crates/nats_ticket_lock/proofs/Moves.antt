@@ -104,7 +104,7 @@ module _ {K E D : Type 0} (by : E → ℕ) (entries : D → List E) (made : D �
   turn_at : (s : St) (h : Rule s) (id : ℕ) (v : Vw) (stage : Stage) → get_elem? s.views id ≡ some v → v.stage ≡ stage → HasTurn h.all h.count h.served v stage
   turn_at s h id v stage at is = subst (HasTurn h.all h.count h.served v) is (h.each id v at).turn
 
-  pub counts : (slots id : ℕ) (me : Sat K E D) (t : ℕ) → me.0.stage ≡ Held t → Allows Rule slots id me 0 (λ n. n) (counted (step slots 0 0 0 none) me)
+  pub counts : (slots id : ℕ) (me : Sat K E D) (t : ℕ) → me.0.stage ≡ Held t → Allows Rule slots id me 0 (λ n. n) (counted by (step slots 0 0 0 none) me)
   counts slots id me t is s h deep at small =
       let k = turn_at s h id me.0 (Held t) at is in (
         me.0,
@@ -118,6 +118,7 @@ module _ {K E D : Type 0} (by : E → ℕ) (entries : D → List E) (made : D �
             (λ full n lo le. spread_full numbers s.views id me.0 (suc h.count) at h.numbers_are (omega (arith, l, full, k.2)) n lo (omega (arith, le, k.2))),
             (λ ne. let r = spread_lacks numbers s.views id me.0 (suc h.count) at h.numbers_are (λ q. ne (omega (arith, q, l, k.2))) in (r.0, r.1, omega (arith, r.2, k.2), r.3)),
           )),
+          (λ n out. ap (calls_of by n) k.1 ∙ h.others n (λ some few. out some (omega (arith, few, k.2)))),
         ),
       )
 

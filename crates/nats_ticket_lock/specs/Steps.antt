@@ -6,7 +6,7 @@ use Rattle.nats_ticket_lock.specs.declared.rule.Stage.TheVariants.{Idle, Waits, 
 use Rattle.nats_ticket_lock.specs.declared.rule.Account.{Account}
 use Rattle.nats_ticket_lock.specs.declared.rule.View.{View}
 use Rattle.nats_ticket_lock.specs.Tally.{count_in}
-use Rattle.nats_ticket_lock.specs.Rule.{Begins, Owns, numbers}
+use Rattle.nats_ticket_lock.specs.Rule.{Begins, Owns, calls_of, numbers}
 
 -- the first of two, if that is so
 abbrev pub pick : {A : Type 0} → Bool → A → A → A
@@ -113,6 +113,10 @@ module _ {K E : Type 0} where
   abbrev pub Counted : View K E → Type 0
   Counted v = (length v.accounts ≡ v.made → HasAll v) × (length v.accounts ≢ v.made → Lacks v)
 
+  -- no entry that was seen is under a number that was not given
+  abbrev pub OnlyGiven : (E → ℕ) → View K E → Type 0
+  OnlyGiven by v = (n : ℕ) → (0 < n → n ≤ v.made → ⊥) → calls_of by n v.seen ≡ []
+
   module _ {D : Type 0} where
     -- a try to draw the ticket old
     abbrev pub drew : Step (Option D) → Sat K E D → ℕ → Sat K E D → Type 0
@@ -133,8 +137,8 @@ module _ {K E : Type 0} where
     passed st me n w = w ≡ (staged Idle me.0, me.1)
 
     -- how many entries and seats there are
-    abbrev pub counted : Step (Option D) → Sat K E D → ℕ → Sat K E D → Type 0
-    counted st me n w = (w ≡ me) × (n ≡ length me.0.seen + me.0.made) × Counted me.0
+    abbrev pub counted : (E → ℕ) → Step (Option D) → Sat K E D → ℕ → Sat K E D → Type 0
+    counted by st me n w = (w ≡ me) × (n ≡ length me.0.seen + me.0.made) × Counted me.0 × OnlyGiven by me.0
 
     -- the value is given back
     abbrev pub gave : Step (Option D) → Sat K E D → ℕ → Sat K E D → Type 0

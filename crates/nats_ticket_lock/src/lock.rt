@@ -2,7 +2,7 @@
 ghost use Rattle.std.specs.Prelude.{◌≡◌, ◌≢◌, ℕ, suc, ◌+◌, ◌^◌, ◌<◌, ◌≤◌, List, [], ◌∷◌, ◌++◌, length, IfOk, Some, None};
 ghost use Rattle.nats_ticket_lock.specs.declared.rule.Stage.TheVariants.{Idle, Waits, Turn, Held};
 ghost use Rattle.nats_ticket_lock.specs.Rule.{Begins, Owns, newcomer};
-ghost use Rattle.nats_ticket_lock.specs.Steps.{staged, told, joined, caught_up, recorded, numbered, first_number, Earlier, Counted};
+ghost use Rattle.nats_ticket_lock.specs.Steps.{staged, told, joined, caught_up, recorded, numbered, first_number, Earlier, Counted, OnlyGiven};
 ghost use Rattle.nats_ticket_lock.specs.Places.{view, hand, IsAt, IsSame};
 
 use crate::plays::{Adds, Compares, Counts, Draws, Gives, Looks, Numbers, Passes, Takes, Tells};
@@ -149,11 +149,13 @@ impl<D: Journaled<K, E>, K, E> TicketLock<D, K, E> {
         self.table.shared.exchange(place, 0, None).unwrap()
     }
 
-    /// How many entries and seats there are in all, in turn; and whether this place has the numbers of all seats.
+    /// How many entries and seats there are in all, in turn; and whether this place has the numbers of all seats. No
+    /// entry is under a number that was not given.
     pub fn count(&self, place: &mut Place<D, K, E>, ticket: u64) -> u64
         requires { IsAt self.now place.old × ((view place.old).stage ≡ Held ticket) }
         ensures { IsSame place.old place.new × (place.new.me ≡ place.old.me)
-            × (result ≡ length (view place.old).seen + (view place.old).made) × Counted (view place.old) }
+            × (result ≡ length (view place.old).seen + (view place.old).made) × Counted (view place.old)
+            × OnlyGiven D.by (view place.old) }
     {
         self.table.shared.load::<Counts>(place, SUM)
     }

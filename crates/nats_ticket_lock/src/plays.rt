@@ -57,8 +57,8 @@ impl<K, E, D: Journaled<K, E>> Play<Option<D>, View<K, E>> for Takes {
 /// Entries and seats are counted.
 pub struct Counts;
 
-impl<K, E, D> Play<Option<D>, View<K, E>> for Counts {
-    ghost then = { counted };
+impl<K, E, D: Journaled<K, E>> Play<Option<D>, View<K, E>> for Counts {
+    ghost then = { counted D.by };
 }
 
 /// An entry was added.
