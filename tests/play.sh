@@ -1,8 +1,8 @@
 #!/usr/bin/env bash
 # tests/play.sh PROGRAM FOLDER..: gives each script of each folder to `PROGRAM run`, and compares what it prints and its
-# exit status with what is stored. NAME.script.stdout beside a script holds its output; FOLDER.statuses beside a folder
-# has a line `NAME.script STATUS` for each script whose status is not 0. It prints a line for each script that differs, and
-# ends with 1 where one does.
+# exit status with what is stored. NAME.script.stdout beside a script holds its output, NAME.script.args the words that it
+# is played with in place of `run`, one a line; FOLDER.statuses beside a folder has a line `NAME.script STATUS` for each
+# script whose status is not 0. It prints a line for each script that differs, and ends with 1 where one does.
 set -u
 
 program=$1
@@ -19,7 +19,11 @@ for folder in "$@"; do
         if [ -f "$folder.statuses" ]; then
             line=$(grep "^$name " "$folder.statuses") && wanted=${line##* }
         fi
-        timeout 60 "$program" run < "$script" > "$printed"
+        words=(run)
+        if [ -f "$script.args" ]; then
+            mapfile -t words < "$script.args"
+        fi
+        timeout 60 "$program" "${words[@]}" < "$script" > "$printed"
         status=$?
         if [ "$status" -ne "$wanted" ]; then
             echo "differs: $script: status $status, wanted $wanted"

@@ -1,3 +1,4 @@
+mod Asking
 mod Lived
 mod Outcomes
 mod Transfers

@@ -1,6 +1,6 @@
 -- From what was read to what it comes to; and the words that play a script.
 use Rattle.std.proofs.Common.{inl, refl, ◌≡◌, ℕ, ◌<◌, ◌≤◌, Bool, true, false, List, [], ◌∷◌, length, get_or, map, Option, Some, None, Result, Ok, Err, sym, ap, subst, ◌∙◌, arith}
-use Rattle.std.specs.Prelude.{◌≢◌, ◌⊎◌, IfSome, MatchBool, codes}
+use Rattle.std.specs.Prelude.{◌≢◌, ◌⊎◌, IfSome, MatchBool, codes, if◌then◌else◌}
 use Rattle.std.specs.Str.{bytes_eq}
 use Rattle.std.proofs.lemmas.Slice.Eq.{bytes_eq-Decides}
 use Rattle.nats_replay.specs.declared.top.Refusal.{Refusal}
@@ -9,8 +9,10 @@ use Rattle.nats_replay.specs.declared.top.Output.{Output}
 use Rattle.nats_replay.specs.Outside.{Rose, Tally}
 use Rattle.nats_replay.specs.declared.top.Ending.{Ending}
 use Rattle.nats_replay.specs.declared.top.Ending.TheVariants.{Transcript, Unreadable, OutOfTurn}
+use Rattle.nats_replay.specs.declared.asked.Asked.TheVariants.{Route}
+use Rattle.nats_replay.specs.Asked.{asked_by}
 use Rattle.nats_replay.specs.Words.{run_words, bulk_count, Prints, IsPlayable}
-use Rattle.nats_replay.specs.Played.{Comes, Whole, Played, status_of_ending}
+use Rattle.nats_replay.specs.Played.{ComesBy, Whole, PlayedBy, status_of_ending}
 use Rattle.nats_replay.specs.declared.whole.TheConstants.{SCRIPT_LIMIT}
 
 -- what is so of the bytes that were read is so of those that were held
@@ -26,12 +28,12 @@ whole_is held before after bytes Is read h =
     (held_is held bytes Is read.0 h, held_is held bytes (λ b. length b ≤ SCRIPT_LIMIT) read.0 read.1, read.2)
 
 -- what the bytes that were read come to is what the source's bytes come to
-pub played : (held : Option (List ℕ)) (before after : Tally) (bytes : List ℕ) (r : Result Output Refusal) → Parts held before after bytes
-    → Comes bytes r → Played held before after r
-played held before after bytes (Ok output) read h = whole_is held before after bytes (λ b. Prints output.ending b output.text.items) read h
-played held before after bytes (Err NoMemory) read h = tt
-played held before after bytes (Err ReadFault) read h = absurd h
-played held before after bytes (Err TooLong) read h = absurd h
+pub played : (Says : Ending → List ℕ → List ℕ → Type 0) (held : Option (List ℕ)) (before after : Tally) (bytes : List ℕ) (r : Result Output Refusal)
+    → Parts held before after bytes → ComesBy Says bytes r → PlayedBy Says held before after r
+played Says held before after bytes (Ok output) read h = whole_is held before after bytes (λ b. Says output.ending b output.text.items) read h
+played Says held before after bytes (Err NoMemory) read h = tt
+played Says held before after bytes (Err ReadFault) read h = absurd h
+played Says held before after bytes (Err TooLong) read h = absurd h
 
 -- a script that can be played ends with its transcript
 plays_out : (ending : Ending) (bytes text : List ℕ) → Prints ending bytes text → IsPlayable bytes → status_of_ending ending ≡ 0
@@ -73,3 +75,34 @@ more_count_none text [] many = absurd (omega arith)
 more_count_none text (w ∷ []) many = absurd (omega arith)
 more_count_none text (w ∷ n ∷ []) many = absurd (omega arith)
 more_count_none text (w ∷ n ∷ v ∷ words) many = refl
+
+-- ---- words that ask for a script of another kind
+
+pub route_is : (texts : List (List ℕ)) (text : List ℕ) (b : Bool) → texts ≡ text ∷ [] → b ≡ bytes_eq text (codes "route")
+    → asked_by texts ≡ (if b then Some Route else None)
+route_is texts text b one is = rw (one, is) refl
+
+pub three_words : {A : Type 0} (text : A → List ℕ) (words : List A) (a b c : A) → 3 ≤ length words → length words < 4
+    → a ≡ get_or words 0 a → b ≡ get_or words 1 b → c ≡ get_or words 2 c → map text words ≡ text a ∷ text b ∷ text c ∷ []
+three_words text [] a b c some few p q r = absurd (omega arith)
+three_words text (x ∷ []) a b c some few p q r = absurd (omega arith)
+three_words text (x ∷ y ∷ []) a b c some few p q r = absurd (omega arith)
+three_words text (x ∷ y ∷ z ∷ []) a b c some few p q r = rw (p, q, r) refl
+three_words text (x ∷ y ∷ z ∷ w ∷ words) a b c some few p q r = absurd (omega arith)
+
+pub none_not_asked : {A : Type 0} (text : A → List ℕ) (words : List A) → length words < 1 → None ≡ asked_by (map text words)
+none_not_asked text [] few = refl
+none_not_asked text (w ∷ words) few = absurd (omega arith)
+
+pub two_not_asked : {A : Type 0} (text : A → List ℕ) (words : List A) → 2 ≤ length words → length words < 3 → None ≡ asked_by (map text words)
+two_not_asked text [] some few = absurd (omega arith)
+two_not_asked text (w ∷ []) some few = absurd (omega arith)
+two_not_asked text (w ∷ v ∷ []) some few = refl
+two_not_asked text (w ∷ v ∷ u ∷ words) some few = absurd (omega arith)
+
+pub more_not_asked : {A : Type 0} (text : A → List ℕ) (words : List A) → 4 ≤ length words → None ≡ asked_by (map text words)
+more_not_asked text [] many = absurd (omega arith)
+more_not_asked text (w ∷ []) many = absurd (omega arith)
+more_not_asked text (w ∷ v ∷ []) many = absurd (omega arith)
+more_not_asked text (w ∷ v ∷ u ∷ []) many = absurd (omega arith)
+more_not_asked text (w ∷ v ∷ u ∷ t ∷ words) many = refl

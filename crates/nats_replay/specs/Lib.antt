@@ -1,7 +1,9 @@
 pub mod Adapters
+pub mod Asked
 pub mod Live
 pub mod Memory
 pub mod Outside
 pub mod Played
+pub mod Scripts
 pub mod Whole
 pub mod Words

@@ -15,6 +15,7 @@ use Rattle.nats_script.specs.Spelling.{field_number}
 use Rattle.nats_bulk.specs.Generated.{bulk_config, generated}
 use Rattle.nats_bulk.specs.Summary.{summary}
 use Rattle.nats_replay.specs.declared.whole.TheConstants.{SCRIPT_LIMIT}
+use Rattle.nats_replay.specs.Asked.{asked_by}
 use Rattle.nats_replay.specs.Live.{live_of, others}
 
 -- the words that play a script: the one word `run`
@@ -36,7 +37,8 @@ bulk_count words = None
 
 -- the words are no command
 abbrev pub IsUnknown : List (List ℕ) → Type 0
-IsUnknown words = (words ≢ run_words) × (bulk_count words ≡ None) × (live_of words ≡ others)
+IsUnknown words =
+    (words ≢ run_words) × (asked_by words ≡ None) × (bulk_count words ≡ None) × (live_of words ≡ others)
 
 -- the words ask for a command on a live link
 abbrev pub IsLive : List (List ℕ) → Type 0
@@ -50,11 +52,13 @@ unknown_command = codes "unknown command\n"
 abbrev pub is_status : ℕ → Bool
 is_status n = list_any (λ status. status == n) (0 ∷ 2 ∷ 3 ∷ 4 ∷ 5 ∷ 6 ∷ 7 ∷ 8 ∷ 9 ∷ [])
 
--- those that come to scripts alone, those that come to lists that are made by a rule, those to commands on a
--- live link, and those
--- to words but `run`
+-- those that come to scripts alone, all that come to scripts, those that come to lists that are made by a rule, those
+-- to commands on a live link, and those to words but `run`
 abbrev pub is_status_of_run : ℕ → Bool
 is_status_of_run n = list_any (λ status. status == n) (3 ∷ 5 ∷ 6 ∷ 8 ∷ [])
+
+abbrev pub is_status_of_scripts : ℕ → Bool
+is_status_of_scripts n = list_any (λ status. status == n) (0 ∷ 3 ∷ 4 ∷ 5 ∷ 6 ∷ 7 ∷ 8 ∷ [])
 
 abbrev pub is_status_of_bulk : ℕ → Bool
 is_status_of_bulk n = list_any (λ status. status == n) (0 ∷ 4 ∷ 7 ∷ [])

@@ -2,12 +2,14 @@
 //! sink; and commands on a live link, which a world gives.
 #![tactic(auto)]
 
+mod asked;
 mod live;
 mod memory;
 mod outside;
 mod top;
 mod whole;
 
+pub use asked::{Asked, PATIENCE_LIMIT, TRIES_LIMIT};
 pub use live::RECEIVE_LIMIT;
 pub use memory::{Failing, MemorySink, MemorySource};
 pub use nats_client::{MemoryWorld, World, memory_world};

@@ -18,8 +18,12 @@ ghost use Rattle.nats_live.specs.Causes.{Shows, WhyNotPublished, WhyNotReceived}
 ghost use Rattle.nats_live.specs.Ended.{WasPublished, WasReceived};
 ghost use Rattle.nats_replay.specs.Live.{IsToldOf, LiveAnswers, PubPrints, SubPrints, error_line, live_of, others, published_line, publishes, receives};
 ghost use Rattle.nats_replay.specs.Words.{run_words, in_bulk, bulk_count, IsLive, IsUnknown, unknown_command, unreadable_text, out_of_turn_text, is_status, is_status_of_run, is_status_of_bulk, is_status_of_live, is_status_of_others, IsUnreadable, IsOutOfTurn, IsSummary, Prints, IsPlayable};
+ghost use Rattle.nats_replay.specs.declared.asked.Asked.{Asked};
+ghost use Rattle.nats_replay.specs.Asked.{asked_by};
+ghost use Rattle.nats_replay.specs.Scripts.{AskedAnswers};
 ghost use Rattle.nats_replay.specs.Played.{Comes, Played, status_of_ending, status_of};
 
+use crate::asked::{answer_asked, asked_of};
 use crate::live::answer_live;
 use crate::outside::{Sink, Source};
 use crate::whole::{ReadRefusal, SCRIPT_LIMIT, read_all, write_all};
@@ -219,7 +223,7 @@ fn bulk_count(words: &[String]) -> Option<u64>
     }
 }
 
-fn status_of_ending(ending: Ending) -> u8
+pub(crate) fn status_of_ending(ending: Ending) -> u8
     ensures { result ≡ status_of_ending ending }
 {
     match ending {
@@ -229,7 +233,7 @@ fn status_of_ending(ending: Ending) -> u8
     }
 }
 
-fn status_of(refusal: Refusal) -> u8
+pub(crate) fn status_of(refusal: Refusal) -> u8
     ensures { result ≡ status_of refusal }
 {
     match refusal {
@@ -316,7 +320,10 @@ fn answer_others<R: Wait, K: Sink, W: World>(
 }
 
 /// What the program does: where the words are the one word `run`, it reads the source whole as a script, plays
-/// its turns and prints their transcript into the sink; where they are `bulk N`, N from 1 to 1,000,000 in
+/// its turns and prints their transcript into the sink; where they are `route` it does so with a script of a broker,
+/// and prints how its peers stand and what they were told; where they are `rpc TRIES PATIENCE`, TRIES from 1 to 100 and
+/// PATIENCE below 2^32 in decimal, it does so with a script of calls that are tried again, and prints what becomes of
+/// the calls and the transcript of the core below them; where they are `bulk N`, N from 1 to 1,000,000 in
 /// decimal, it plays a list of N turns that is made by a rule, behind the opening of that list, and prints what
 /// its transcript comes to in eight lines; where they are `pub ADDR SUBJECT PAYLOAD` it connects to the server
 /// of that address, publishes that, and prints `published` once the link took all of it; where they are `sub
@@ -344,6 +351,12 @@ pub fn replay<R: Wait, S: Source, K: Sink, W: World>(
         × Appends (K.written sink.old) (K.written sink.new) (printed (transcript config turns))) }
     // Every answer is one of these.
     ensures status { IsTrue (is_status result) }
+    // `route`, and `rpc TRIES PATIENCE`: what a script of a broker or of calls comes to, by each status.
+    ensures scripts { (asked : Asked) → asked_by (map string_bytes words.now) ≡ Some asked → AskedAnswers asked
+        (S.left source.old)
+        (record { given = S.given source.old; ends = S.ends source.old; faults = S.faults source.old })
+        (record { given = S.given source.new; ends = S.ends source.new; faults = S.faults source.new }) result
+        (K.faults sink.old) (K.faults sink.new) (K.written sink.old) (K.written sink.new) }
     // 0 to `bulk N`: what was written sums up the transcript of the generated turns, which may come where they stand.
     ensures summary { (n : _) → bulk_count (map string_bytes words.now) ≡ Some n → result ≡ 0 →
         (text : List _) × IsSummary n text × Appends (K.written sink.old) (K.written sink.new) text }
@@ -390,9 +403,11 @@ pub fn replay<R: Wait, S: Source, K: Sink, W: World>(
     ensures unknown { IsUnknown (map string_bytes words.now) → (result ≡ 2) ⊎ (result ≡ 4) }
     ensures unknown_only { result ≡ 2 → IsUnknown (map string_bytes words.now) }
     ensures unknown_text { result ≡ 2 → Appends (K.written sink.old) (K.written sink.new) unknown_command }
-    ensures unread { map string_bytes words.now ≢ run_words → source.new ≡ source.old }
-    // These come to `run` alone: 3, 5, 6 and 8.
-    ensures run_only { IsTrue (is_status_of_run result) → map string_bytes words.now ≡ run_words }
+    ensures unread { map string_bytes words.now ≢ run_words → asked_by (map string_bytes words.now) ≡ None
+        → source.new ≡ source.old }
+    // These come to scripts alone: 3, 5, 6 and 8.
+    ensures run_only { IsTrue (is_status_of_run result) → asked_by (map string_bytes words.now) ≡ None
+        → map string_bytes words.now ≡ run_words }
     // 3: the source failed.
     ensures read_fault { result ≡ 3 → Rose (S.faults source.old) (S.faults source.new) }
     // 4: the sink failed, behind a first part of the text.
@@ -403,10 +418,12 @@ pub fn replay<R: Wait, S: Source, K: Sink, W: World>(
     ensures unknown_cut_short { result ≡ 4 → IsUnknown (map string_bytes words.now) →
         AppendsFront (K.written sink.old) (K.written sink.new) unknown_command }
     // 5: a line cannot be read, and the text says which is the first.
-    ensures unreadable { result ≡ 5 → IfSome (S.left source.old) (λ bytes. (text : List _) × IsUnreadable bytes text
+    ensures unreadable { result ≡ 5 → asked_by (map string_bytes words.now) ≡ None →
+        IfSome (S.left source.old) (λ bytes. (text : List _) × IsUnreadable bytes text
         × Appends (K.written sink.old) (K.written sink.new) text) }
     // 6: every line can be read, a turn may not come where it stands, and the text says which is the first.
-    ensures out_of_turn { result ≡ 6 → IfSome (S.left source.old) (λ bytes. (text : List _) × IsOutOfTurn bytes text
+    ensures out_of_turn { result ≡ 6 → asked_by (map string_bytes words.now) ≡ None →
+        IfSome (S.left source.old) (λ bytes. (text : List _) × IsOutOfTurn bytes text
         × Appends (K.written sink.old) (K.written sink.new) text) }
     // 8: the source held more than a script may have, and gave more.
     ensures too_long { result ≡ 8 → IfSome (S.left source.old) (λ bytes. SCRIPT_LIMIT < length bytes) }
@@ -424,6 +441,9 @@ pub fn replay<R: Wait, S: Source, K: Sink, W: World>(
     ensures silent { result ≢ 0 → result ≢ 2 → result ≢ 4 → result ≢ 5 → result ≢ 6 → result ≢ 9
         → sink.new ≡ sink.old }
 {
+    if let Some(asked) = asked_of(words) {
+        return answer_asked(alloc, asked, source, sink);
+    }
     if !are_run(words) {
         return answer_others(rt, alloc, words, sink, world);
     }

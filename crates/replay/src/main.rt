@@ -20,12 +20,16 @@ const VERSION: &str = "replay 0.1.0, of Wichapok, a port of the core of async-na
 /// What `--help` prints: the words and the statuses of `nats_replay::replay`.
 const HELP: &str = "\
 usage: replay run < SCRIPT
+       replay route < SCRIPT
+       replay rpc TRIES PATIENCE < SCRIPT
        replay bulk N
        replay pub ADDR SUBJECT PAYLOAD
        replay sub ADDR SUBJECT N
        replay --help | -h | help | --version
 
 run reads a script of turns from standard input, plays them and prints their transcript.
+route plays a script of a broker in memory, and prints what its peers were told.
+rpc plays a script of requests that are tried again: TRIES, 1 to 100, times each, PATIENCE milliseconds each.
 bulk plays N turns that are made by a rule, 1 to 1,000,000, and prints what they came to.
 pub connects to a server and publishes a message, and prints published once it was written.
 sub connects to a server, receives N messages, 1 to 1,000,000, and prints a line for each.

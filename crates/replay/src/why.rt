@@ -19,7 +19,7 @@ const TOO_LONG: u8 = 8;
 
 /// What the words should have been.
 const USAGE: &str =
-    "the commands are `run`, `bulk N`, `pub ADDR SUBJECT PAYLOAD` and `sub ADDR SUBJECT N`; see `replay --help`";
+    "the commands are `run`, `route`, `rpc TRIES PATIENCE`, `bulk N`, `pub ADDR SUBJECT PAYLOAD` and `sub ADDR SUBJECT N`; see `replay --help`";
 
 /// What is known of a run that ended: its status and words, the bytes of the script where they were kept, and whom
 /// it asked of the system.
@@ -54,15 +54,25 @@ fn of_words(alloc: Global, words: &[String]) -> Result<String, NoMemory> {
     Ok(format!(in alloc; "`{text}` is no command; {USAGE}")?)
 }
 
-/// Why a script is not played.
-fn of_script(alloc: Global, script: Option<&[u8]>) -> Result<String, NoMemory> {
+fn are_run(words: &[String]) -> bool {
+    match words {
+        [word] => word.as_str() == "run",
+        _ => false,
+    }
+}
+
+/// Why a script is not played. Of scripts of turns the rule is told that a line breaks.
+fn of_script(alloc: Global, words: &[String], script: Option<&[u8]>) -> Result<String, NoMemory> {
     let why = match script {
-        Some(script) => trouble(alloc, script)?,
-        None => None,
+        Some(script) if are_run(words) => trouble(alloc, script)?,
+        Some(_) | None => None,
     };
     match why {
         Some(text) => Ok(text),
-        None => Ok(String::from_str(alloc, "the script cannot be played")?),
+        None => Ok(String::from_str(
+            alloc,
+            "the script cannot be played: standard output says which line is the first that is not as it should be",
+        )?),
     }
 }
 
@@ -92,7 +102,7 @@ impl<R> Run<'_, R> {
             UNKNOWN => of_words(alloc, self.words)?,
             READ_FAULT => String::from_str(alloc, "standard input could not be read")?,
             WRITE_FAULT => String::from_str(alloc, "standard output could not be written")?,
-            UNREADABLE | OUT_OF_TURN => of_script(alloc, self.script)?,
+            UNREADABLE | OUT_OF_TURN => of_script(alloc, self.words, self.script)?,
             NO_MEMORY => String::from_str(alloc, "out of memory")?,
             TOO_LONG => String::from_str(alloc, "the script is longer than 16,777,216 bytes")?,
             _ => self.of_link(alloc)?,
