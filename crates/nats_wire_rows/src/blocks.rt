@@ -18,12 +18,23 @@ fn push_default(alloc: Global, out: &mut String) -> Result<(), Bad> {
     push_info(alloc, &info, out)
 }
 
-fn push_read_info(alloc: Global, text: &[u8], out: &mut String) -> Result<(), Bad> {
-    match &read_info(alloc, text) {
+fn push_found_info(
+    alloc: Global,
+    read: &Result<ServerInfo, InfoError>,
+    out: &mut String,
+) -> Result<(), Bad> {
+    match read {
         Ok(info) => push_info(alloc, info, out),
         Err(InfoError::Unreadable) => Ok(out.push_str("unreadable")?),
         Err(InfoError::NoMemory) => Err(Bad::NoMemory),
     }
+}
+
+fn push_read_info(alloc: Global, text: &[u8], out: &mut String) -> Result<(), Bad> {
+    let read = read_info(alloc, text);
+    let pushed = push_found_info(alloc, &read, out);
+    drop(read);
+    pushed
 }
 
 /// Appends what a block says: status, description, and each name with its values.
@@ -41,12 +52,23 @@ fn push_parts(alloc: Global, block: &Block, out: &mut String) -> Result<(), Bad>
     Ok(())
 }
 
-fn push_block(alloc: Global, text: &[u8], out: &mut String) -> Result<(), Bad> {
-    match &read_block(alloc, text) {
+fn push_found_block(
+    alloc: Global,
+    read: &Result<Block, BlockError>,
+    out: &mut String,
+) -> Result<(), Bad> {
+    match read {
         Ok(block) => push_parts(alloc, block, out),
         Err(BlockError::Malformed) => Ok(out.push_str("malformed")?),
         Err(BlockError::NoMemory) => Err(Bad::NoMemory),
     }
+}
+
+fn push_block(alloc: Global, text: &[u8], out: &mut String) -> Result<(), Bad> {
+    let read = read_block(alloc, text);
+    let pushed = push_found_block(alloc, &read, out);
+    drop(read);
+    pushed
 }
 
 /// Answers a question on a text, and tells whether it is one.

@@ -36,36 +36,58 @@ fn push_numbers(alloc: Global, sid: u64, max: Option<u64>, out: &mut String) -> 
     Ok(())
 }
 
-/// Appends a command: a subscription is its number, subject and group, a publish its subject, reply, headers and
-/// payload.
-fn push_op(alloc: Global, op: &ClientOp, out: &mut String) -> Result<(), Bad> {
+fn push_subscribed(
+    alloc: Global,
+    sid: u64,
+    subject: &Subject,
+    queue_group: &Option<Subject>,
+    out: &mut String,
+) -> Result<(), Bad> {
+    out.push_str(format!(in alloc; "sub {sid}")?.as_str())?;
+    push_word(out, subject.as_str().as_bytes())?;
+    push_name(queue_group, out)
+}
+
+/// Appends where a publish goes.
+fn push_address(subject: &Subject, respond: &Option<Subject>, out: &mut String) -> Result<(), Bad> {
+    out.push_str("pub")?;
+    push_word(out, subject.as_str().as_bytes())?;
+    push_name(respond, out)
+}
+
+/// Appends what a publish carries.
+fn push_carried(headers: &Option<HeaderMap>, payload: &[u8], out: &mut String) -> Result<(), Bad> {
+    push_headers(headers, out)?;
+    Ok(push_word(out, payload)?)
+}
+
+fn push_command(alloc: Global, op: &ClientOp, out: &mut String) -> Result<(), Bad> {
     match op {
-        ClientOp::Ping => out.push_str("ping")?,
-        ClientOp::Pong => out.push_str("pong")?,
-        ClientOp::Connect(_) => out.push_str("connect")?,
-        ClientOp::Unsubscribe { sid, max } => push_numbers(alloc, *sid, *max, out)?,
+        ClientOp::Ping => Ok(out.push_str("ping")?),
+        ClientOp::Pong => Ok(out.push_str("pong")?),
+        ClientOp::Connect(_) => Ok(out.push_str("connect")?),
+        ClientOp::Unsubscribe { sid, max } => push_numbers(alloc, *sid, *max, out),
         ClientOp::Subscribe {
             sid,
             subject,
             queue_group,
-        } => {
-            out.push_str(format!(in alloc; "sub {sid}")?.as_str())?;
-            push_word(out, subject.as_str().as_bytes())?;
-            push_name(queue_group, out)?;
-        }
+        } => push_subscribed(alloc, *sid, subject, queue_group, out),
         ClientOp::Publish {
             subject,
             payload,
             respond,
             headers,
         } => {
-            out.push_str("pub")?;
-            push_word(out, subject.as_str().as_bytes())?;
-            push_name(respond, out)?;
-            push_headers(headers, out)?;
-            push_word(out, payload.as_slice())?;
+            push_address(subject, respond, out)?;
+            push_carried(headers, payload.as_slice(), out)
         }
     }
+}
+
+/// Appends a command: a subscription is its number, subject and group, a publish its subject, reply, headers and
+/// payload.
+fn push_op(alloc: Global, op: &ClientOp, out: &mut String) -> Result<(), Bad> {
+    push_command(alloc, op, out)?;
     Ok(out.push(';')?)
 }
 

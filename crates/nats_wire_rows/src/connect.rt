@@ -67,11 +67,17 @@ fn push_op(alloc: Global, op: &ClientOp, out: &mut String) -> Result<(), Bad> {
     push_waiting(alloc, &mut connection, op, out)
 }
 
+fn push_connect(alloc: Global, info: ConnectInfo, out: &mut String) -> Result<(), Bad> {
+    let op = ClientOp::Connect(info);
+    let pushed = push_op(alloc, &op, out);
+    drop(op);
+    pushed
+}
+
 /// Appends the line that a connection writes of a plain one.
 fn push_written(alloc: Global, out: &mut String) -> Result<(), Bad> {
     out.push('\n')?;
-    let op = ClientOp::Connect(plain(alloc)?);
-    push_op(alloc, &op, out)
+    push_connect(alloc, plain(alloc)?, out)
 }
 
 fn renamed(mut info: ConnectInfo, name: Option<Text>) -> ConnectInfo {

@@ -1,16 +1,20 @@
 //! A connection by its calls: each word is a call with its texts behind commas, and is answered by a word.
-use nats_rows::{Bad, number_of, push_bytes, push_optional, push_word, string_of};
+use nats_rows::{Bad, number_of, push_bytes, push_optional, push_word};
 use nats_wire::{
-    Bytes, ClientOp, Connection, HeaderMap, Message, OutboundMessage, ServerOp, ShouldFlush,
-    Subject, WireError,
+    Bytes, ClientOp, Connection, HeaderMap, Message, OutboundMessage, Peeked, ServerError,
+    ServerOp, ShouldFlush, Subject, WireError,
 };
+use serde_json::Value;
 use std::alloc::Global;
 
-/// A connection, and an operation that was read and is told of later.
+/// What a reading gives.
+type Read = Result<Option<ServerOp>, WireError>;
+
+/// A connection, and a reading that is told of later.
 #[derive(Drop)]
 struct Driven {
     connection: Connection,
-    kept: Option<Box<ServerOp>>,
+    kept: Read,
 }
 
 fn push_number(alloc: Global, number: usize, out: &mut String) -> Result<(), Bad> {
@@ -31,37 +35,53 @@ fn push_headers(alloc: Global, headers: &Option<HeaderMap>, out: &mut String) ->
     }
 }
 
-/// Appends a message: its number, subject, reply, payload, length, status, description and headers.
-fn push_message(alloc: Global, sid: u64, message: &Message, out: &mut String) -> Result<(), Bad> {
-    out.push_str(format!(in alloc; "{sid}")?.as_str())?;
+/// Appends where a message goes and what it carries.
+fn push_sent(message: &Message, out: &mut String) -> Result<(), Bad> {
     push_word(out, message.subject.as_str().as_bytes())?;
     out.push(' ')?;
     push_optional(out, message.reply.as_ref().map(|reply| reply.as_str()))?;
-    push_word(out, message.payload.as_slice())?;
+    Ok(push_word(out, message.payload.as_slice())?)
+}
+
+/// Appends the length, the status and the description of a message.
+fn push_marks(alloc: Global, message: &Message, out: &mut String) -> Result<(), Bad> {
     let status = message.status.map_or(0, |status| status.as_u16());
     let length = message.length;
     out.push_str(format!(in alloc; " {length} {status} ")?.as_str())?;
     let description = message.description.as_ref();
-    push_optional(out, description.map(|text| text.as_str()))?;
+    Ok(push_optional(out, description.map(|text| text.as_str()))?)
+}
+
+/// Appends a message: its number, subject, reply, payload, length, status, description and headers.
+fn push_message(alloc: Global, sid: u64, message: &Message, out: &mut String) -> Result<(), Bad> {
+    out.push_str(format!(in alloc; "{sid}")?.as_str())?;
+    push_sent(message, out)?;
+    push_marks(alloc, message, out)?;
     out.push(' ')?;
     push_headers(alloc, &message.headers, out)
 }
 
-fn push_op(alloc: Global, op: &ServerOp, out: &mut String) -> Result<(), Bad> {
-    match op {
-        ServerOp::Ok => out.push_str("ok")?,
-        ServerOp::Ping => out.push_str("ping")?,
-        ServerOp::Pong => out.push_str("pong")?,
-        ServerOp::Info(info) => out.push_str(format!(in alloc; "info {}", info.port)?.as_str())?,
-        ServerOp::Error(error) => out.push_str(error.to_string(alloc)?.as_str())?,
-        ServerOp::Message { sid, message } => push_message(alloc, *sid, message, out)?,
-    }
-    Ok(())
+fn push_port(alloc: Global, port: u16, out: &mut String) -> Result<(), Bad> {
+    Ok(out.push_str(format!(in alloc; "info {port}")?.as_str())?)
 }
 
-/// Reads an operation and appends it.
-fn push_read(alloc: Global, connection: &mut Connection, out: &mut String) -> Result<(), Bad> {
-    match &connection.read_op(alloc) {
+fn push_error(alloc: Global, error: &ServerError, out: &mut String) -> Result<(), Bad> {
+    Ok(out.push_str(error.to_string(alloc)?.as_str())?)
+}
+
+fn push_op(alloc: Global, op: &ServerOp, out: &mut String) -> Result<(), Bad> {
+    match op {
+        ServerOp::Ok => Ok(out.push_str("ok")?),
+        ServerOp::Ping => Ok(out.push_str("ping")?),
+        ServerOp::Pong => Ok(out.push_str("pong")?),
+        ServerOp::Info(info) => push_port(alloc, info.port, out),
+        ServerOp::Error(error) => push_error(alloc, error, out),
+        ServerOp::Message { sid, message } => push_message(alloc, *sid, message, out),
+    }
+}
+
+fn push_found(alloc: Global, read: &Read, out: &mut String) -> Result<(), Bad> {
+    match read {
         Ok(Some(op)) => push_op(alloc, op, out),
         Ok(None) => Ok(out.push_str("unfinished")?),
         Err(WireError::ReadFault) => Ok(out.push_str("fault")?),
@@ -69,14 +89,33 @@ fn push_read(alloc: Global, connection: &mut Connection, out: &mut String) -> Re
     }
 }
 
+/// Reads an operation and appends it.
+fn push_read(alloc: Global, connection: &mut Connection, out: &mut String) -> Result<(), Bad> {
+    let read = connection.read_op(alloc);
+    let pushed = push_found(alloc, &read, out);
+    drop(read);
+    pushed
+}
+
+fn len_of(peeked: &Result<Option<Peeked>, WireError>) -> Result<usize, Bad> {
+    match peeked {
+        Ok(Some(peeked)) => Ok(peeked.len),
+        Ok(None) => Ok(0),
+        Err(WireError::ReadFault) => Err(Bad::Form),
+        Err(WireError::NoMemory) => Err(Bad::NoMemory),
+    }
+}
+
+fn peeked_len(alloc: Global, connection: &Connection) -> Result<usize, Bad> {
+    let peeked = connection.peek_op(alloc);
+    let len = len_of(&peeked);
+    drop(peeked);
+    len
+}
+
 /// Looks at the operation at the front, takes it away, and appends how long it was.
 fn push_peeked(alloc: Global, connection: &mut Connection, out: &mut String) -> Result<(), Bad> {
-    let len = match &connection.peek_op(alloc) {
-        Ok(Some(peeked)) => peeked.len,
-        Ok(None) => 0,
-        Err(WireError::ReadFault) => return Err(Bad::Form),
-        Err(WireError::NoMemory) => return Err(Bad::NoMemory),
-    };
+    let len = peeked_len(alloc, connection)?;
     connection.consume(len.min(connection.unread()));
     push_number(alloc, len, out)
 }
@@ -96,20 +135,34 @@ fn push_by_bytes(
     push_truth(is_unfinished, out)
 }
 
-/// Appends whether a message is again what its JSON says.
-fn push_read_back(alloc: Global, op: &Option<ServerOp>, out: &mut String) -> Result<(), Bad> {
-    let Some(ServerOp::Message { message, .. }) = op else {
-        return Err(Bad::Form);
-    };
-    let read = Message::from_json(alloc, &message.to_json(alloc)?);
-    push_truth(matches!(&read, Ok(read) if *read == *message), out)
+fn is_again(alloc: Global, message: &Message, json: &Value) -> bool {
+    let read = Message::from_json(alloc, json);
+    let is_same = matches!(&read, Ok(read) if *read == *message);
+    drop(read);
+    is_same
 }
 
-fn kept(alloc: Global, connection: &mut Connection) -> Result<Option<Box<ServerOp>>, Bad> {
-    match connection.read_op(alloc) {
-        Ok(Some(op)) => Ok(Some(Box::new(alloc, op)?)),
-        Ok(None) | Err(_) => Ok(None),
+/// Appends whether a message is again what its JSON says.
+fn push_again(alloc: Global, message: &Message, out: &mut String) -> Result<(), Bad> {
+    let json = message.to_json(alloc)?;
+    let is_same = is_again(alloc, message, &json);
+    drop(json);
+    push_truth(is_same, out)
+}
+
+fn push_message_again(alloc: Global, read: &Read, out: &mut String) -> Result<(), Bad> {
+    match read {
+        Ok(Some(ServerOp::Message { message, .. })) => push_again(alloc, message, out),
+        _ => Err(Bad::Form),
     }
+}
+
+/// Reads a message, and appends whether it is again what its JSON says.
+fn push_read_back(alloc: Global, connection: &mut Connection, out: &mut String) -> Result<(), Bad> {
+    let read = connection.read_op(alloc);
+    let pushed = push_message_again(alloc, &read, out);
+    drop(read);
+    pushed
 }
 
 // ---- what is written
@@ -136,14 +189,10 @@ fn push_first(alloc: Global, connection: &mut Connection, out: &mut String) -> R
     }
 }
 
-fn subject_of(alloc: Global, text: &str) -> Result<Subject, Bad> {
-    Ok(Subject::from_text(alloc, text)?)
-}
-
 fn group_of(alloc: Global, text: &str) -> Result<Option<Subject>, Bad> {
     match text {
         "~" => Ok(None),
-        text => Ok(Some(Subject::from_text(alloc, text)?)),
+        text => Subject::from_text(alloc, text).map(Some).map_err(Bad::from),
     }
 }
 
@@ -158,74 +207,125 @@ fn map_of(alloc: Global, texts: &[&str]) -> Result<HeaderMap, Bad> {
     Ok(headers)
 }
 
-fn publish(
-    alloc: Global,
-    [subject, respond, payload]: [&str; 3],
-    headers: Option<HeaderMap>,
-) -> Result<ClientOp, Bad> {
-    Ok(ClientOp::Publish {
-        subject: subject_of(alloc, subject)?,
-        payload: Bytes::copy_from_slice(alloc, payload.as_bytes())?,
-        respond: group_of(alloc, respond)?,
-        headers,
-    })
+fn add(ops: &mut Vec<ClientOp>, op: ClientOp) -> Result<(), Bad> {
+    Ok(ops.push(op)?)
 }
 
-/// The operation of a call's texts.
-fn op_of(alloc: Global, texts: &[&str]) -> Result<ClientOp, Bad> {
+/// The subject, the subject of replies and the payload of a publication.
+type Said = (Subject, Option<Subject>, Bytes);
+
+fn said(alloc: Global, [subject, respond, payload]: [&str; 3]) -> Result<Said, Bad> {
+    let subject = Subject::from_text(alloc, subject)?;
+    let respond = group_of(alloc, respond)?;
+    let payload = Bytes::copy_from_slice(alloc, payload.as_bytes())?;
+    Ok((subject, respond, payload))
+}
+
+fn published((subject, respond, payload): Said, headers: Option<HeaderMap>) -> ClientOp {
+    ClientOp::Publish {
+        subject,
+        payload,
+        respond,
+        headers,
+    }
+}
+
+fn publish(alloc: Global, ops: &mut Vec<ClientOp>, texts: [&str; 3]) -> Result<(), Bad> {
+    let said = said(alloc, texts)?;
+    add(ops, published(said, None))
+}
+
+fn publish_with(
+    alloc: Global,
+    ops: &mut Vec<ClientOp>,
+    texts: [&str; 3],
+    headers: &[&str],
+) -> Result<(), Bad> {
+    let said = said(alloc, texts)?;
+    let headers = map_of(alloc, headers)?;
+    add(ops, published(said, Some(headers)))
+}
+
+fn subscribe(
+    alloc: Global,
+    ops: &mut Vec<ClientOp>,
+    [sid, subject, group]: [&str; 3],
+) -> Result<(), Bad> {
+    let sid = number_of(sid)?;
+    let queue_group = group_of(alloc, group)?;
+    let subject = Subject::from_text(alloc, subject)?;
+    add(
+        ops,
+        ClientOp::Subscribe {
+            sid,
+            subject,
+            queue_group,
+        },
+    )
+}
+
+fn unsubscribe(ops: &mut Vec<ClientOp>, sid: &str, max: Option<u64>) -> Result<(), Bad> {
+    let sid = number_of(sid)?;
+    add(ops, ClientOp::Unsubscribe { sid, max })
+}
+
+/// Adds the operation of a call's texts.
+fn add_op(alloc: Global, ops: &mut Vec<ClientOp>, texts: &[&str]) -> Result<(), Bad> {
     match texts {
-        ["ping"] => Ok(ClientOp::Ping),
-        ["pong"] => Ok(ClientOp::Pong),
-        ["sub", sid, subject, group] => Ok(ClientOp::Subscribe {
-            sid: number_of(sid)?,
-            subject: subject_of(alloc, subject)?,
-            queue_group: group_of(alloc, group)?,
-        }),
-        ["unsub", sid] => Ok(ClientOp::Unsubscribe {
-            sid: number_of(sid)?,
-            max: None,
-        }),
-        ["unsub", sid, max] => Ok(ClientOp::Unsubscribe {
-            sid: number_of(sid)?,
-            max: Some(number_of(max)?),
-        }),
-        ["pub", subject, respond, payload] => publish(alloc, [*subject, *respond, *payload], None),
+        ["ping"] => add(ops, ClientOp::Ping),
+        ["pong"] => add(ops, ClientOp::Pong),
+        ["sub", sid, subject, group] => subscribe(alloc, ops, [sid, subject, group]),
+        ["unsub", sid] => unsubscribe(ops, sid, None),
+        ["unsub", sid, max] => unsubscribe(ops, sid, Some(number_of(max)?)),
+        ["pub", subject, respond, payload] => publish(alloc, ops, [subject, respond, payload]),
         ["hpub", subject, respond, payload, headers @ ..] => {
-            let headers = map_of(alloc, headers)?;
-            publish(alloc, [*subject, *respond, *payload], Some(headers))
+            publish_with(alloc, ops, [subject, respond, payload], headers)
         }
         _ => Err(Bad::Form),
     }
 }
 
-/// A publication with a payload of so many bytes.
-fn large(alloc: Global, count: usize) -> Result<ClientOp, Bad> {
-    Ok(ClientOp::Publish {
-        subject: Subject::from_static("FOO"),
-        payload: Bytes::from_vec(vec![in alloc; b'x'; count]?)?,
-        respond: None,
-        headers: None,
-    })
-}
-
-fn write(alloc: Global, connection: &mut Connection, text: &str) -> Result<(), Bad> {
-    let texts: Vec<&str> = text.split(',').collect(alloc)?;
-    let op = op_of(alloc, texts.as_slice())?;
-    Ok(connection.enqueue_write_op(alloc, &op)?)
-}
-
-fn write_large(alloc: Global, connection: &mut Connection, text: &str) -> Result<(), Bad> {
-    let count = text.parse().map_err(|_| Bad::Form)?;
-    Ok(connection.enqueue_write_op(alloc, &large(alloc, count)?)?)
-}
-
 /// The operations of texts with bars between them.
-fn write_all(alloc: Global, connection: &mut Connection, text: &str) -> Result<(), Bad> {
+fn ops_of(alloc: Global, text: &str) -> Result<Vec<ClientOp>, Bad> {
     let mut ops = Vec::new(alloc);
     for op in text.split('|') {
         let texts: Vec<&str> = op.split(',').collect(alloc)?;
-        ops.push(op_of(alloc, texts.as_slice())?)?;
+        add_op(alloc, &mut ops, texts.as_slice())?;
     }
+    Ok(ops)
+}
+
+/// A publication with this payload.
+fn plain(payload: Bytes) -> ClientOp {
+    ClientOp::Publish {
+        subject: Subject::from_static("FOO"),
+        payload,
+        respond: None,
+        headers: None,
+    }
+}
+
+/// Writes each of the operations by itself.
+fn write(alloc: Global, connection: &mut Connection, text: &str) -> Result<(), Bad> {
+    let ops = ops_of(alloc, text)?;
+    for op in ops.as_slice() {
+        connection.enqueue_write_op(alloc, op)?;
+    }
+    Ok(())
+}
+
+/// Writes a publication with a payload of so many bytes.
+fn write_large(alloc: Global, connection: &mut Connection, text: &str) -> Result<(), Bad> {
+    let count = text.parse().map_err(|_| Bad::Form)?;
+    let op = plain(Bytes::from_vec(vec![in alloc; b'x'; count]?)?);
+    let done = connection.enqueue_write_op(alloc, &op);
+    drop(op);
+    Ok(done?)
+}
+
+/// Writes the operations at once.
+fn write_all(alloc: Global, connection: &mut Connection, text: &str) -> Result<(), Bad> {
+    let ops = ops_of(alloc, text)?;
     Ok(connection.enqueue_write_ops(alloc, ops.as_slice())?)
 }
 
@@ -246,10 +346,7 @@ fn push_told(alloc: Global, driven: &mut Driven, call: &str, out: &mut String) -
         "peek" => push_peeked(alloc, connection, out),
         "unread" => push_number(alloc, connection.unread(), out),
         "unfinished" => push_truth(connection.is_unfinished(), out),
-        "readback" => match &connection.read_op(alloc) {
-            Ok(op) => push_read_back(alloc, op, out),
-            Err(_) => Err(Bad::Form),
-        },
+        "readback" => push_read_back(alloc, connection, out),
         "pending" => push_number(alloc, connection.pending(), out),
         "pieces" => push_pieces(alloc, connection, out),
         "first" => push_first(alloc, connection, out),
@@ -264,15 +361,19 @@ fn push_waiting(alloc: Global, connection: &Connection, out: &mut String) -> Res
 
 fn push_kept(alloc: Global, driven: &Driven, out: &mut String) -> Result<(), Bad> {
     match &driven.kept {
-        Some(op) => push_op(alloc, op, out),
-        None => Ok(out.push_str("none")?),
+        Ok(Some(op)) => push_op(alloc, op, out),
+        Ok(None) | Err(_) => Ok(out.push_str("none")?),
     }
+}
+
+fn keep(alloc: Global, driven: &mut Driven) {
+    driven.kept = driven.connection.read_op(alloc);
 }
 
 fn push_more(alloc: Global, driven: &mut Driven, call: &str, out: &mut String) -> Result<(), Bad> {
     match call {
         "keep" => {
-            driven.kept = kept(alloc, &mut driven.connection)?;
+            keep(alloc, driven);
             push_number(alloc, driven.connection.unread(), out)
         }
         "kept" => push_kept(alloc, driven, out),
@@ -326,22 +427,33 @@ fn push_each(alloc: Global, driven: &mut Driven, calls: &str, out: &mut String) 
 fn push_calls(alloc: Global, calls: &str, out: &mut String) -> Result<(), Bad> {
     let mut driven = Driven {
         connection: Connection::new(alloc),
-        kept: None,
+        kept: Ok(None),
     };
     push_each(alloc, &mut driven, calls, out)
 }
 
-/// Appends whether a message that is to be sent is equal to its copy.
-fn push_copied(alloc: Global, out: &mut String) -> Result<(), Bad> {
-    let headers = map_of(alloc, &["Header", "X"])?;
-    let message = OutboundMessage {
+fn is_copied(alloc: Global, message: &OutboundMessage) -> bool {
+    let copy = message.copy(alloc);
+    let is_same = matches!(&copy, Ok(copy) if *copy == *message);
+    drop(copy);
+    is_same
+}
+
+fn outbound(headers: HeaderMap) -> OutboundMessage {
+    OutboundMessage {
         subject: Subject::from_static("FOO.BAR"),
         reply: None,
         payload: Bytes::from_static(b"hi"),
         headers: Some(headers),
-    };
-    let copy = message.copy(alloc);
-    push_truth(matches!(&copy, Ok(copy) if *copy == message), out)
+    }
+}
+
+/// Appends whether a message that is to be sent is equal to its copy.
+fn push_copied(alloc: Global, out: &mut String) -> Result<(), Bad> {
+    let message = outbound(map_of(alloc, &["Header", "X"])?);
+    let is_same = is_copied(alloc, &message);
+    drop(message);
+    push_truth(is_same, out)
 }
 
 /// Answers a question on a connection, and tells whether it is one.

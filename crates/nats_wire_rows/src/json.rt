@@ -24,15 +24,34 @@ fn push(out: &mut String, text: &str) -> Result<(), JsonError> {
     out.push_str(text).map_err(|_| JsonError::NoMemory)
 }
 
-fn headers(alloc: Global, json: &Value) -> Result<String, JsonError> {
-    let map = HeaderMap::from_json(alloc, json)?;
-    let mut out = String::new(alloc);
+/// Appends the names of a map in order, and its JSON.
+fn push_map(alloc: Global, map: &HeaderMap, out: &mut String) -> Result<(), JsonError> {
     for (name, _values) in map.iter() {
-        push(&mut out, name.as_str())?;
-        push(&mut out, " ")?;
+        push(out, name.as_str())?;
+        push(out, " ")?;
     }
-    push(&mut out, text_of(alloc, &map.to_json(alloc)?)?.as_str())?;
-    Ok(out)
+    let json = map.to_json(alloc)?;
+    let text = text_of(alloc, &json);
+    drop(json);
+    push(out, text?.as_str())
+}
+
+fn map_text(alloc: Global, read: &Result<HeaderMap, JsonError>) -> Result<String, JsonError> {
+    match read {
+        Ok(map) => {
+            let mut out = String::new(alloc);
+            push_map(alloc, map, &mut out)?;
+            Ok(out)
+        }
+        Err(error) => Err(*error),
+    }
+}
+
+fn headers(alloc: Global, json: &Value) -> Result<String, JsonError> {
+    let map = HeaderMap::from_json(alloc, json);
+    let text = map_text(alloc, &map);
+    drop(map);
+    text
 }
 
 fn name(alloc: Global, json: &Value) -> Result<String, JsonError> {
@@ -43,20 +62,40 @@ fn value(alloc: Global, json: &Value) -> Result<String, JsonError> {
     said(alloc, HeaderValue::from_json(alloc, json)?.as_str())
 }
 
+fn message_json(alloc: Global, read: &Result<Message, JsonError>) -> Result<Value, JsonError> {
+    match read {
+        Ok(message) => message.to_json(alloc).map_err(JsonError::from),
+        Err(error) => Err(*error),
+    }
+}
+
+fn message_again(alloc: Global, json: &Value) -> Result<Value, JsonError> {
+    let message = Message::from_json(alloc, json);
+    let again = message_json(alloc, &message);
+    drop(message);
+    again
+}
+
 fn message(alloc: Global, json: &Value) -> Result<String, JsonError> {
-    let message = Message::from_json(alloc, json)?;
-    text_of(alloc, &message.to_json(alloc)?)
+    let again = message_again(alloc, json)?;
+    text_of(alloc, &again)
+}
+
+fn read_as(alloc: Global, kind: &str, json: &Value) -> Result<String, JsonError> {
+    match kind {
+        "headers" => headers(alloc, json),
+        "name" => name(alloc, json),
+        "value" => value(alloc, json),
+        "message" => message(alloc, json),
+        _ => said(alloc, "no kind"),
+    }
 }
 
 fn read(alloc: Global, kind: &str, text: &str) -> Result<String, JsonError> {
     let json = json_of(alloc, text)?;
-    match kind {
-        "headers" => headers(alloc, &json),
-        "name" => name(alloc, &json),
-        "value" => value(alloc, &json),
-        "message" => message(alloc, &json),
-        _ => said(alloc, "no kind"),
-    }
+    let read = read_as(alloc, kind, &json);
+    drop(json);
+    read
 }
 
 /// Appends what is read of a kind and a JSON text.

@@ -4,14 +4,20 @@ use nats_header::{HeaderError, HeaderMap, HeaderName, HeaderValue};
 use nats_rows::{Bad, push_bytes, push_optional, string_of};
 use std::alloc::Global;
 
-/// A map of names without values, in the order of the texts between commas.
-fn of_names(alloc: Global, texts: &str) -> Result<HeaderMap, Bad> {
+/// Names without values, in the order of the texts between commas.
+fn pairs_of(alloc: Global, texts: &str) -> Result<Vec<(HeaderName, HeaderValue)>, Bad> {
     let mut pairs = Vec::new(alloc);
     for text in texts.split(',') {
         if let Ok(name) = HeaderName::parse(alloc, text) {
             pairs.push((name, HeaderValue::new(alloc)))?;
         }
     }
+    Ok(pairs)
+}
+
+/// A map of names without values, in the order of the texts between commas.
+fn of_names(alloc: Global, texts: &str) -> Result<HeaderMap, Bad> {
+    let pairs = pairs_of(alloc, texts)?;
     Ok(HeaderMap::from_pairs(alloc, pairs)?)
 }
 
@@ -30,6 +36,16 @@ fn append_owned(alloc: Global, map: &mut HeaderMap, field: &str) -> Result<(), H
     let (name, value) = field.split_once(',').unwrap_or((field, ""));
     let name = String::from_str(alloc, name).map_err(|_| HeaderError::NoMemory)?;
     map.append(alloc, name, value)
+}
+
+/// Inserts with a name that stands in the program.
+fn insert_key(alloc: Global, map: &mut HeaderMap, value: &str) -> Result<(), HeaderError> {
+    map.insert(alloc, HeaderName::from_static("Key"), value)
+}
+
+fn set_names(alloc: Global, map: &mut HeaderMap, texts: &str) -> Result<(), Bad> {
+    *map = of_names(alloc, texts)?;
+    Ok(())
 }
 
 fn push_done(done: Result<(), HeaderError>, out: &mut String) -> Result<(), Bad> {
@@ -67,18 +83,46 @@ fn push_truth(is_so: bool, out: &mut String) -> Result<(), Bad> {
     Ok(out.push_str(if is_so { "true" } else { "false" })?)
 }
 
+/// Appends the names of a map's copy.
+fn push_copy(alloc: Global, map: &HeaderMap, out: &mut String) -> Result<(), Bad> {
+    let copy = map.copy(alloc)?;
+    let pushed = push_names(&copy, out);
+    drop(copy);
+    pushed
+}
+
+fn is_new(alloc: Global, map: &HeaderMap) -> bool {
+    let new = HeaderMap::new(alloc);
+    let is_same = *map == new;
+    drop(new);
+    is_same
+}
+
+fn push_block(alloc: Global, map: &HeaderMap, out: &mut String) -> Result<(), Bad> {
+    let block = map.to_bytes(alloc)?;
+    Ok(push_bytes(out, block.as_slice())?)
+}
+
 /// Appends what a map tells of itself.
 fn push_told(alloc: Global, map: &HeaderMap, call: &str, out: &mut String) -> Result<(), Bad> {
     match call {
         "names" => push_names(map, out),
-        "copy" => push_names(&map.copy(alloc)?, out),
+        "copy" => push_copy(alloc, map, out),
         "len" => push_number(alloc, map.len(), out),
         "wire" => push_number(alloc, map.wire_len(), out),
         "empty" => push_truth(map.is_empty(), out),
-        "new" => push_truth(*map == HeaderMap::new(alloc), out),
-        "block" => Ok(push_bytes(out, map.to_bytes(alloc)?.as_slice())?),
+        "new" => push_truth(is_new(alloc, map), out),
+        "block" => push_block(alloc, map, out),
         _ => Err(Bad::Form),
     }
+}
+
+/// Whether a map is that of these names.
+fn is_of(alloc: Global, map: &HeaderMap, names: &str) -> Result<bool, Bad> {
+    let other = of_names(alloc, names)?;
+    let is_same = other == *map;
+    drop(other);
+    Ok(is_same)
 }
 
 /// Appends what a map tells of a name.
@@ -93,7 +137,7 @@ fn push_asked(
         "get" => Ok(push_optional(out, map.get(key).map(|value| value.as_str()))?),
         "last" => Ok(push_optional(out, map.get_last(key).map(|value| value.as_str()))?),
         "all" => push_values(map, key, out),
-        "equals" => push_truth(of_names(alloc, key)? == *map, out),
+        "equals" => push_truth(is_of(alloc, map, key)?, out),
         _ => Err(Bad::Form),
     }
 }
@@ -107,12 +151,9 @@ fn push_call(alloc: Global, map: &mut HeaderMap, call: &str, out: &mut String) -
         "insert" => push_done(insert(alloc, map, text), out),
         "append" => push_done(append(alloc, map, text), out),
         "append_owned" => push_done(append_owned(alloc, map, text), out),
-        "insert_key" => {
-            let done = map.insert(alloc, HeaderName::from_static("Key"), text);
-            push_done(done, out)
-        }
+        "insert_key" => push_done(insert_key(alloc, map, text), out),
         "pairs" => {
-            *map = of_names(alloc, text)?;
+            set_names(alloc, map, text)?;
             Ok(out.push_str("ok")?)
         }
         _ => push_asked(alloc, map, verb, text, out),

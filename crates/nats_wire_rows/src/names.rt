@@ -3,17 +3,33 @@ use nats_names::{StatusCode, Subject, SubjectError, Token};
 use nats_rows::{Bad, push_bytes, push_word, spelled_bytes, string_of};
 use std::alloc::Global;
 
+fn push_kinds(alloc: Global, subject: &Subject, out: &mut String) -> Result<(), Bad> {
+    let (valid, publishable) = (subject.is_valid(), subject.is_publishable());
+    Ok(out.push_str(format!(in alloc; "valid={valid} publishable={publishable}")?.as_str())?)
+}
+
+fn push_outcome(validated: &Result<Subject, SubjectError>, out: &mut String) -> Result<(), Bad> {
+    match validated {
+        Ok(subject) => Ok(push_word(out, subject.as_str().as_bytes())?),
+        Err(SubjectError::InvalidFormat) => Ok(out.push_str(" !format")?),
+        Err(SubjectError::NoMemory) => Err(Bad::NoMemory),
+    }
+}
+
+fn push_validated(alloc: Global, text: &str, out: &mut String) -> Result<(), Bad> {
+    let validated = Subject::validated(alloc, text);
+    let pushed = push_outcome(&validated, out);
+    drop(validated);
+    pushed
+}
+
 /// Appends whether a text is a subject, by each of the calls that tell it.
 fn push_subject(alloc: Global, text: &str, out: &mut String) -> Result<(), Bad> {
     let subject = Subject::from_text(alloc, text)?;
-    let (valid, publishable) = (subject.is_valid(), subject.is_publishable());
-    out.push_str(format!(in alloc; "valid={valid} publishable={publishable}")?.as_str())?;
-    match Subject::validated(alloc, text) {
-        Ok(subject) => push_word(out, subject.as_str().as_bytes())?,
-        Err(SubjectError::InvalidFormat) => out.push_str(" !format")?,
-        Err(SubjectError::NoMemory) => return Err(Bad::NoMemory),
-    }
-    Ok(())
+    let pushed = push_kinds(alloc, &subject, out);
+    drop(subject);
+    pushed?;
+    push_validated(alloc, text, out)
 }
 
 fn class_of(code: StatusCode) -> u16 {

@@ -102,8 +102,19 @@ fn push_errors(alloc: Global, out: &mut String) -> Result<(), Bad> {
     push_printed(alloc, &Cause::Payload { limit, size }, out)
 }
 
+fn push_id(out: &mut String) -> Result<(), Bad> {
+    let id = NATS_MESSAGE_ID();
+    push_line(out, id.as_str())
+}
+
+fn is_same_name() -> bool {
+    let upper = HeaderName::from_static("Key");
+    let lower = HeaderName::from_static("key");
+    upper == lower
+}
+
 fn push_known(out: &mut String) -> Result<(), Bad> {
-    push_line(out, NATS_MESSAGE_ID().as_str())?;
+    push_id(out)?;
     for known in [
         NATS_BATCH_COMMIT_FINAL,
         NATS_BATCH_COMMIT_EOB,
@@ -116,10 +127,9 @@ fn push_known(out: &mut String) -> Result<(), Bad> {
     ] {
         push_line(out, known)?;
     }
-    let is_same = HeaderName::from_static("Key") == HeaderName::from_static("key");
     push_line(
         out,
-        if is_same {
+        if is_same_name() {
             "Key is key"
         } else {
             "Key is not key"
@@ -146,13 +156,30 @@ fn push_source<S: ToSubject>(alloc: Global, source: &S, out: &mut String) -> Res
     push_line(out, source.to_subject(alloc)?.as_str())
 }
 
+fn push_copy(alloc: Global, subject: &Subject, out: &mut String) -> Result<(), Bad> {
+    let copy = subject.copy(alloc)?;
+    push_line(out, copy.as_str())
+}
+
+fn is_before(subject: &Subject) -> bool {
+    let other = Subject::from_static("a.c");
+    *subject < other
+}
+
+/// Appends the copy of a subject, what it is to others, and whether it is before `a.c`.
+fn push_lent(alloc: Global, subject: &Subject, out: &mut String) -> Result<(), Bad> {
+    push_copy(alloc, subject, out)?;
+    push_source(alloc, subject, out)?;
+    let is_before = is_before(subject);
+    push_line(out, if is_before { "before" } else { "behind" })
+}
+
 /// Appends what a subject is: its copy, what it is to others, whether it is before `a.c`, and its own text.
 fn push_subject(alloc: Global, subject: Subject, out: &mut String) -> Result<(), Bad> {
-    push_line(out, subject.copy(alloc)?.as_str())?;
-    push_source(alloc, &subject, out)?;
-    let is_before = subject < Subject::from_static("a.c");
-    push_line(out, if is_before { "before" } else { "behind" })?;
-    push_source(alloc, &subject.into_string(alloc)?, out)
+    let pushed = push_lent(alloc, &subject, out);
+    let text = subject.into_string(alloc);
+    pushed?;
+    push_source(alloc, &text?, out)
 }
 
 fn push_subjects(alloc: Global, out: &mut String) -> Result<(), Bad> {

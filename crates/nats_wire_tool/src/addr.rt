@@ -7,14 +7,19 @@ use std::alloc::{AllocError, Global};
 #[derive(Drop)]
 pub struct Addrs;
 
-/// Appends what an address says.
-fn push_addr(alloc: Global, out: &mut String, addr: &ServerAddr) -> Result<(), AllocError> {
+/// Appends what an address says of a server.
+fn push_server(alloc: Global, out: &mut String, addr: &ServerAddr) -> Result<(), AllocError> {
     push_bytes(out, addr.as_url_str().as_bytes())?;
     out.push_str(" host=")?;
     push_bytes(out, addr.host().as_bytes())?;
     let (port, tls, ws) = (addr.port(), addr.tls_required(), addr.is_websocket());
-    let numbers = format!(in alloc; " port={port} tls={tls} ws={ws} user=")?;
-    out.push_str(numbers.as_str())?;
+    out.push_str(format!(in alloc; " port={port} tls={tls} ws={ws}")?.as_str())
+}
+
+/// Appends what an address says.
+fn push_addr(alloc: Global, out: &mut String, addr: &ServerAddr) -> Result<(), AllocError> {
+    push_server(alloc, out, addr)?;
+    out.push_str(" user=")?;
     push_optional(out, addr.username())?;
     out.push_str(" pass=")?;
     push_optional(out, addr.password())?;

@@ -2,7 +2,7 @@
 use crate::lines::push_op;
 use memchr::memchr;
 use nats_rows::{Bad, Fault};
-use nats_wire::{Connection, WireError};
+use nats_wire::{Connection, ServerOp, WireError};
 use std::alloc::Global;
 
 /// Where the bytes of a case are cut.
@@ -32,6 +32,33 @@ struct Reader {
     is_faulty: bool,
 }
 
+/// What a reading came to.
+#[derive(Clone, Copy)]
+enum Found {
+    /// An operation.
+    Op,
+    /// No whole operation.
+    Nothing,
+    /// Bytes that are no operation.
+    Fault,
+}
+
+/// Appends the operation that was read, where one was.
+fn push_read(
+    alloc: Global,
+    out: &mut String,
+    read: &Result<Option<ServerOp>, WireError>,
+) -> Result<Found, Bad> {
+    match read {
+        Ok(Some(op)) => push_op(alloc, out, op)
+            .map(|()| Found::Op)
+            .map_err(Bad::from),
+        Ok(None) => Ok(Found::Nothing),
+        Err(WireError::ReadFault) => Ok(Found::Fault),
+        Err(WireError::NoMemory) => Err(Bad::NoMemory),
+    }
+}
+
 impl Reader {
     /// Feeds a piece and reads the operations that are then there, up to a fault.
     fn feed(&mut self, alloc: Global, out: &mut String, piece: &[u8]) -> Result<(), Bad> {
@@ -50,15 +77,12 @@ impl Reader {
 
     /// Reads an operation, where one is there, and tells whether one was.
     fn read(&mut self, alloc: Global, out: &mut String) -> Result<bool, Bad> {
-        match &self.connection.read_op(alloc) {
-            Ok(Some(op)) => push_op(alloc, out, op).map(|()| true).map_err(Bad::from),
-            Ok(None) => Ok(false),
-            Err(WireError::ReadFault) => {
-                self.is_faulty = true;
-                Ok(false)
-            }
-            Err(WireError::NoMemory) => Err(Bad::NoMemory),
-        }
+        let read = self.connection.read_op(alloc);
+        let found = push_read(alloc, out, &read);
+        drop(read);
+        let found = found?;
+        self.is_faulty = matches!(found, Found::Fault);
+        Ok(matches!(found, Found::Op))
     }
 
     /// Feeds pieces that end at these places.
@@ -135,18 +159,31 @@ fn cuts_of(words: &str) -> Option<Cuts<'_>> {
     }
 }
 
+/// The first line of some bytes, and what stands behind its LF.
+fn first_line(bytes: &[u8]) -> Option<(&str, &[u8])> {
+    let end = memchr(b'\n', bytes)?;
+    let behind = bytes.get(end.checked_add(1)?..)?;
+    Some((str::from_utf8(bytes.get(..end)?).ok()?, behind))
+}
+
+/// The length and the cuts that the line of a case says.
+fn head_of(line: &str) -> Option<(usize, Cuts<'_>)> {
+    let (length, cuts) = line.split_once(' ')?;
+    Some((length.parse().ok()?, cuts_of(cuts)?))
+}
+
+/// So many bytes, and what stands behind them and an LF.
+fn body_of(bytes: &[u8], length: usize) -> Option<(&[u8], &[u8])> {
+    let rest = bytes.get(length..)?.strip_prefix(b"\n")?;
+    Some((bytes.get(..length)?, rest))
+}
+
 /// The first case of some bytes: a line with its length and its cuts, so many bytes, and an LF.
 fn first_case(bytes: &[u8]) -> Option<Case<'_>> {
-    let end = memchr(b'\n', bytes)?;
-    let line = str::from_utf8(bytes.get(..end)?).ok()?;
-    let (length, cuts) = line.split_once(' ')?;
-    let length: usize = length.parse().ok()?;
-    let behind = bytes.get(end.checked_add(1)?..)?;
-    Some(Case {
-        bytes: behind.get(..length)?,
-        cuts: cuts_of(cuts)?,
-        rest: behind.get(length..)?.strip_prefix(b"\n")?,
-    })
+    let (line, behind) = first_line(bytes)?;
+    let (length, cuts) = head_of(line)?;
+    let (bytes, rest) = body_of(behind, length)?;
+    Some(Case { bytes, cuts, rest })
 }
 
 /// Appends the lines of one server's bytes.

@@ -17,9 +17,8 @@ fn optional_text_of(alloc: Global, word: &str) -> Result<Option<Text>, Bad> {
     }
 }
 
-/// What a client tells where its options say nothing.
-fn plain(alloc: Global) -> Result<ConnectInfo, Bad> {
-    Ok(ConnectInfo {
+fn plain_of(lang: Text, version: Text) -> ConnectInfo {
+    ConnectInfo {
         verbose: false,
         pedantic: false,
         user_jwt: None,
@@ -27,8 +26,8 @@ fn plain(alloc: Global) -> Result<ConnectInfo, Bad> {
         signature: None,
         name: None,
         echo: true,
-        lang: Text::from_text(alloc, "rust")?,
-        version: Text::from_text(alloc, "0.51.0")?,
+        lang,
+        version,
         protocol: Protocol::Dynamic,
         tls_required: false,
         user: None,
@@ -36,7 +35,14 @@ fn plain(alloc: Global) -> Result<ConnectInfo, Bad> {
         auth_token: None,
         headers: true,
         no_responders: true,
-    })
+    }
+}
+
+/// What a client tells where its options say nothing.
+fn plain(alloc: Global) -> Result<ConnectInfo, Bad> {
+    let lang = Text::from_text(alloc, "rust")?;
+    let version = Text::from_text(alloc, "0.51.0")?;
+    Ok(plain_of(lang, version))
 }
 
 fn protocol_of(word: &str) -> Result<Protocol, Bad> {
@@ -62,19 +68,40 @@ fn set_switch(info: &mut ConnectInfo, key: &str, word: &str) -> Result<(), Bad> 
     Ok(())
 }
 
+/// Gives a text that may be left out to its field; the token is what is left of the keys.
+fn set_optional(info: &mut ConnectInfo, key: &str, text: Option<Text>) {
+    match key {
+        "jwt" => info.user_jwt = text,
+        "nkey" => info.nkey = text,
+        "sig" => info.signature = text,
+        "name" => info.name = text,
+        "user" => info.user = text,
+        "pass" => info.pass = text,
+        _ => info.auth_token = text,
+    }
+}
+
 /// Gives a field its value.
 fn set(alloc: Global, info: &mut ConnectInfo, key: &str, word: &str) -> Result<(), Bad> {
     match key {
-        "jwt" => info.user_jwt = optional_text_of(alloc, word)?,
-        "nkey" => info.nkey = optional_text_of(alloc, word)?,
-        "sig" => info.signature = optional_text_of(alloc, word)?,
-        "name" => info.name = optional_text_of(alloc, word)?,
+        "jwt" | "nkey" | "sig" | "name" | "user" | "pass" | "auth_token" => {
+            set_optional(info, key, optional_text_of(alloc, word)?);
+        }
         "lang" => info.lang = text_of(alloc, word)?,
         "version" => info.version = text_of(alloc, word)?,
-        "user" => info.user = optional_text_of(alloc, word)?,
-        "pass" => info.pass = optional_text_of(alloc, word)?,
-        "auth_token" => info.auth_token = optional_text_of(alloc, word)?,
         key => set_switch(info, key, word)?,
+    }
+    Ok(())
+}
+
+/// Gives the fields of a line their values.
+fn set_all(alloc: Global, info: &mut ConnectInfo, fields: &str) -> Result<(), Bad> {
+    for field in fields.split(' ') {
+        if field.is_empty() {
+            continue;
+        }
+        let (key, word) = field.split_once('=').ok_or(Bad::Form)?;
+        set(alloc, info, key, word)?;
     }
     Ok(())
 }
@@ -82,12 +109,9 @@ fn set(alloc: Global, info: &mut ConnectInfo, key: &str, word: &str) -> Result<(
 /// What a client tells, by the fields of a line.
 pub fn connect_of(alloc: Global, fields: &str) -> Result<ConnectInfo, Bad> {
     let mut info = plain(alloc)?;
-    for field in fields.split(' ') {
-        if field.is_empty() {
-            continue;
-        }
-        let (key, word) = field.split_once('=').ok_or(Bad::Form)?;
-        set(alloc, &mut info, key, word)?;
+    let done = set_all(alloc, &mut info, fields);
+    match done {
+        Ok(()) => Ok(info),
+        Err(bad) => Err(bad),
     }
-    Ok(info)
 }

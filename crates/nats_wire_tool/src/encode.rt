@@ -1,5 +1,5 @@
 //! Operations of a client as bytes: a line is an operation, empty lines and those that begin with `#` are passed over.
-use crate::ops::op_of;
+use crate::ops::write_op;
 use nats_rows::{Answers, Bad, Fault, answer_lines};
 use nats_wire::Connection;
 use std::alloc::Global;
@@ -16,8 +16,7 @@ impl Answers for Ops {
         if line.is_empty() || line.starts_with('#') {
             return Ok(());
         }
-        let op = op_of(alloc, line)?;
-        Ok(self.connection.enqueue_write_op(alloc, &op)?)
+        write_op(alloc, &mut self.connection, line)
     }
 }
 

@@ -16,30 +16,65 @@ fn value_of(alloc: Global, text: &str) -> Result<Value, JsonError> {
     })
 }
 
+fn json_of_headers(alloc: Global, read: &Result<HeaderMap, JsonError>) -> Result<Value, JsonError> {
+    match read {
+        Ok(headers) => headers.to_json(alloc).map_err(JsonError::from),
+        Err(error) => Err(*error),
+    }
+}
+
 fn headers_as(alloc: Global, text: &str) -> Result<Value, JsonError> {
-    let map = HeaderMap::from_json(alloc, &value_of(alloc, text)?)?;
-    Ok(map.to_json(alloc)?)
+    let value = value_of(alloc, text)?;
+    let read = HeaderMap::from_json(alloc, &value);
+    let json = json_of_headers(alloc, &read);
+    drop(read);
+    json
+}
+
+fn json_of_message(alloc: Global, read: &Result<Message, JsonError>) -> Result<Value, JsonError> {
+    match read {
+        Ok(message) => message.to_json(alloc).map_err(JsonError::from),
+        Err(error) => Err(*error),
+    }
 }
 
 fn message_as(alloc: Global, text: &str) -> Result<Value, JsonError> {
-    let message = Message::from_json(alloc, &value_of(alloc, text)?)?;
-    Ok(message.to_json(alloc)?)
+    let value = value_of(alloc, text)?;
+    let read = Message::from_json(alloc, &value);
+    let json = json_of_message(alloc, &read);
+    drop(read);
+    json
 }
 
-fn read(alloc: Global, line: &str) -> Result<Result<Value, JsonError>, Bad> {
-    match line.split_once(' ') {
-        Some(("headers", text)) => Ok(headers_as(alloc, text)),
-        Some(("message", text)) => Ok(message_as(alloc, text)),
-        _ => Err(Bad::Form),
+/// Appends the JSON that was made, or that the text is none.
+fn push_json(alloc: Global, out: &mut String, json: &Result<Value, JsonError>) -> Result<(), Bad> {
+    match json {
+        Ok(json) => Ok(out.push_str(json.to_string(alloc)?.as_str())?),
+        Err(JsonError::NoMatch) => Ok(out.push_str("refused")?),
+        Err(JsonError::NoMemory) => Err(Bad::NoMemory),
     }
+}
+
+fn push_headers(alloc: Global, out: &mut String, text: &str) -> Result<(), Bad> {
+    let json = headers_as(alloc, text);
+    let pushed = push_json(alloc, out, &json);
+    drop(json);
+    pushed
+}
+
+fn push_message(alloc: Global, out: &mut String, text: &str) -> Result<(), Bad> {
+    let json = message_as(alloc, text);
+    let pushed = push_json(alloc, out, &json);
+    drop(json);
+    pushed
 }
 
 impl Answers for Jsons {
     fn answer(&mut self, alloc: Global, line: &str, out: &mut String) -> Result<(), Bad> {
-        match read(alloc, line)? {
-            Ok(json) => out.push_str(json.to_string(alloc)?.as_str())?,
-            Err(JsonError::NoMatch) => out.push_str("refused")?,
-            Err(JsonError::NoMemory) => return Err(Bad::NoMemory),
+        match line.split_once(' ') {
+            Some(("headers", text)) => push_headers(alloc, out, text)?,
+            Some(("message", text)) => push_message(alloc, out, text)?,
+            _ => return Err(Bad::Form),
         }
         Ok(out.push('\n')?)
     }

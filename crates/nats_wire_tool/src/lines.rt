@@ -1,6 +1,6 @@
 //! An operation as a line.
 use nats_rows::{push_bytes, push_optional, push_word};
-use nats_wire::{HeaderMap, Message, ServerError, ServerInfo, ServerOp, Text};
+use nats_wire::{HeaderMap, Message, ServerError, ServerInfo, ServerOp, StatusCode, Text};
 use std::alloc::{AllocError, Global};
 
 /// Appends a space, the name of a field and `=`.
@@ -24,8 +24,8 @@ fn push_texts(out: &mut String, fields: &[(&str, &str)]) -> Result<(), AllocErro
     Ok(())
 }
 
-fn push_info(alloc: Global, out: &mut String, info: &ServerInfo) -> Result<(), AllocError> {
-    out.push_str("info")?;
+/// Appends who a server is: its names, its address and its version.
+fn push_server(alloc: Global, out: &mut String, info: &ServerInfo) -> Result<(), AllocError> {
     push_texts(
         out,
         &[
@@ -36,7 +36,11 @@ fn push_info(alloc: Global, out: &mut String, info: &ServerInfo) -> Result<(), A
     )?;
     let port = format!(in alloc; " port={}", info.port)?;
     out.push_str(port.as_str())?;
-    push_texts(out, &[("version", info.version.as_str())])?;
+    push_texts(out, &[("version", info.version.as_str())])
+}
+
+/// Appends what a server demands and allows, and what it tells of the client and of this link.
+fn push_limits(alloc: Global, out: &mut String, info: &ServerInfo) -> Result<(), AllocError> {
     let limits = format!(in alloc;
         " auth_required={} tls_required={} max_payload={} proto={} client_id={}",
         info.auth_required, info.tls_required, info.max_payload, info.proto, info.client_id
@@ -49,12 +53,20 @@ fn push_info(alloc: Global, out: &mut String, info: &ServerInfo) -> Result<(), A
             ("nonce", info.nonce.as_str()),
             ("client_ip", info.client_ip.as_str()),
         ],
-    )?;
+    )
+}
+
+/// Appends what a server can do.
+fn push_switches(alloc: Global, out: &mut String, info: &ServerInfo) -> Result<(), AllocError> {
     let switches = format!(in alloc;
         " headers={} ldm={} jetstream={}",
         info.headers, info.lame_duck_mode, info.jetstream
     )?;
-    out.push_str(switches.as_str())?;
+    out.push_str(switches.as_str())
+}
+
+/// Appends what a server stands in, and the URLs of others.
+fn push_others(out: &mut String, info: &ServerInfo) -> Result<(), AllocError> {
     push_key(out, "cluster")?;
     push_text(out, &info.cluster)?;
     push_key(out, "domain")?;
@@ -63,6 +75,27 @@ fn push_info(alloc: Global, out: &mut String, info: &ServerInfo) -> Result<(), A
         push_texts(out, &[("connect_url", url.as_str())])?;
     }
     Ok(())
+}
+
+fn push_info(alloc: Global, out: &mut String, info: &ServerInfo) -> Result<(), AllocError> {
+    out.push_str("info")?;
+    push_server(alloc, out, info)?;
+    push_limits(alloc, out, info)?;
+    push_switches(alloc, out, info)?;
+    push_others(out, info)
+}
+
+/// Appends a name and a value for each value, and answers how many there are.
+fn push_values(words: &mut String, headers: &HeaderMap) -> Result<u64, AllocError> {
+    let mut count = 0u64;
+    for (name, values) in headers.iter() {
+        for value in values {
+            push_word(words, name.as_str().as_bytes())?;
+            push_word(words, value.as_str().as_bytes())?;
+            count = count.saturating_add(1);
+        }
+    }
+    Ok(count)
 }
 
 /// Appends the number of values, and a name and a value for each, or `~` where there is no map.
@@ -75,16 +108,29 @@ fn push_headers(
         return out.push('~');
     };
     let mut words = String::new(alloc);
-    let mut count = 0u64;
-    for (name, values) in headers.iter() {
-        for value in values {
-            push_word(&mut words, name.as_str().as_bytes())?;
-            push_word(&mut words, value.as_str().as_bytes())?;
-            count = count.saturating_add(1);
-        }
-    }
+    let count = push_values(&mut words, headers)?;
     let line = format!(in alloc; "{count}{words}")?;
     out.push_str(line.as_str())
+}
+
+/// Appends the status of a message between spaces, or `~`.
+fn push_status(
+    alloc: Global,
+    out: &mut String,
+    status: Option<StatusCode>,
+) -> Result<(), AllocError> {
+    match status {
+        Some(status) => out.push_str(format!(in alloc; " {status} ")?.as_str()),
+        None => out.push_str(" ~ "),
+    }
+}
+
+/// Appends where a message goes and what it carries.
+fn push_sent(out: &mut String, message: &Message) -> Result<(), AllocError> {
+    push_word(out, message.subject.as_str().as_bytes())?;
+    out.push(' ')?;
+    push_optional(out, message.reply.as_ref().map(|reply| reply.as_str()))?;
+    push_word(out, message.payload.as_slice())
 }
 
 fn push_message(
@@ -93,22 +139,11 @@ fn push_message(
     sid: u64,
     message: &Message,
 ) -> Result<(), AllocError> {
-    let start = format!(in alloc; "msg {sid}")?;
-    out.push_str(start.as_str())?;
-    push_word(out, message.subject.as_str().as_bytes())?;
-    out.push(' ')?;
-    push_optional(out, message.reply.as_ref().map(|reply| reply.as_str()))?;
-    push_word(out, message.payload.as_slice())?;
-    match &message.status {
-        Some(status) => {
-            let status = format!(in alloc; " {status} ")?;
-            out.push_str(status.as_str())?;
-        }
-        None => out.push_str(" ~ ")?,
-    }
+    out.push_str(format!(in alloc; "msg {sid}")?.as_str())?;
+    push_sent(out, message)?;
+    push_status(alloc, out, message.status)?;
     push_text(out, &message.description)?;
-    let length = format!(in alloc; " {} ", message.length)?;
-    out.push_str(length.as_str())?;
+    out.push_str(format!(in alloc; " {} ", message.length)?.as_str())?;
     push_headers(alloc, out, &message.headers)
 }
 
