@@ -68,7 +68,53 @@ fn publish<G: Tallies, R: Wait + Print>(
     Ok(())
 }
 
+/// The link gives messages, and the subscriber takes them in each way.
+fn take_all<G: Tallies, R: Wait + Print>(
+    rt: &R,
+    alloc: Global,
+    client: &Client<G>,
+    subscriber: &mut Subscriber<G>,
+) -> Result<()> {
+    let hub = client.hub();
+    hand::gives(rt, alloc, hub, b"MSG b 1 2\r\nhi\r\n")?;
+    take(rt, alloc, subscriber)?;
+    hand::gives(rt, alloc, hub, b"MSG b 1 2\r\nyo\r\nMSG b 1 3\r\nyes\r\n")?;
+    take(rt, alloc, subscriber)?;
+    hand::gives(rt, alloc, hub, b"MSG b 1 4\r\nlast\r\n")?;
+    wait(rt, alloc, subscriber)?;
+    subscriber.unsubscribe(rt, alloc)?;
+    wait(rt, alloc, subscriber)
+}
+
+/// What a client refuses to publish: a subject that may not be published to, and anything once it drains.
+fn refuse<G: Tallies, R: Wait + Print>(
+    rt: &R,
+    alloc: Global,
+    client: &mut Client<G>,
+) -> Result<()> {
+    publish(rt, alloc, client, "no good")?;
+    client.drain(rt, alloc)?;
+    publish(rt, alloc, client, "b")
+}
+
 /// A subscription, from its first message to its last.
+fn subscription<G: Tallies, R: Wait + Print>(
+    rt: &R,
+    alloc: Global,
+    client: &mut Client<G>,
+) -> Result<()>
+    requires { G.parts ≡ 2 ^ 63 }
+{
+    let mut subscriber = client.subscribe(rt, alloc, "b")?;
+    take_all(rt, alloc, client, &mut subscriber)?;
+    refuse(rt, alloc, client)?;
+    match subscriber.close(rt, alloc, client) {
+        Ok(()) => Ok(()),
+        Err(_) => Err(anyhow!("no memory")),
+    }
+}
+
+/// A hub with one subscription, and what it came to.
 pub(crate) fn play_takes<G: Tallies, R: Wait + Print>(
     rt: &R,
     alloc: Global,
@@ -80,27 +126,7 @@ pub(crate) fn play_takes<G: Tallies, R: Wait + Print>(
     requires kept { G.is_kept ≡ true }
 {
     let mut client = hand::begin::<G, R>(rt, alloc, blank)?;
-    let mut subscriber = client.subscribe(rt, alloc, "b")?;
-    hand::gives(rt, alloc, client.hub(), b"MSG b 1 2\r\nhi\r\n")?;
-    take(rt, alloc, &mut subscriber)?;
-    hand::gives(
-        rt,
-        alloc,
-        client.hub(),
-        b"MSG b 1 2\r\nyo\r\nMSG b 1 3\r\nyes\r\n",
-    )?;
-    take(rt, alloc, &mut subscriber)?;
-    hand::gives(rt, alloc, client.hub(), b"MSG b 1 4\r\nlast\r\n")?;
-    wait(rt, alloc, &mut subscriber)?;
-    subscriber.unsubscribe(rt, alloc)?;
-    wait(rt, alloc, &mut subscriber)?;
-    publish(rt, alloc, &mut client, "no good")?;
-    client.drain(rt, alloc)?;
-    publish(rt, alloc, &mut client, "b")?;
-    match subscriber.close(rt, alloc, &mut client) {
-        Ok(()) => {}
-        Err(_) => return Err(anyhow!("no memory")),
-    }
+    subscription(rt, alloc, &mut client)?;
     let audit = hand::finishes(rt, alloc, client)?;
     println!(rt; "turns {}", audit.journal.len())?;
     Ok(())

@@ -55,21 +55,46 @@ fn publish<G: Tallies, R: Wait + Print>(
     hand::takes(rt, alloc, client.hub(), "start_send")
 }
 
+/// Subscribes in each way, and prints what waits for the link after each.
+fn subscribe<G: Tallies, R: Wait + Print>(
+    rt: &R,
+    alloc: Global,
+    client: &mut Client<G>,
+    subscribers: &mut Vec<Subscriber<G>>,
+) -> Result<()> {
+    subscribers.push(client.subscribe(rt, alloc, "h")?)?;
+    hand::takes(rt, alloc, client.hub(), "subscribe")?;
+    let group = Subject::from_static("q");
+    subscribers.push(client.queue_subscribe(rt, alloc, "i", group)?)?;
+    hand::takes(rt, alloc, client.hub(), "queue_subscribe")?;
+    subscribers.push(client.try_subscribe(rt, alloc, "j")?)?;
+    hand::takes(rt, alloc, client.hub(), "try_subscribe")
+}
+
 /// Ends the three subscriptions in its own way each, and prints what waits for the link.
 fn end<G: Tallies, R: Wait + Print>(
     rt: &R,
     alloc: Global,
     client: &mut Client<G>,
-    first: &mut Subscriber<G>,
-    second: &mut Subscriber<G>,
-    third: &mut Subscriber<G>,
+    subscribers: &mut [Subscriber<G>],
 ) -> Result<()> {
+    let [first, second, third] = subscribers else {
+        return Err(anyhow!("no three subscriptions"));
+    };
     first.unsubscribe(rt, alloc)?;
     hand::takes(rt, alloc, client.hub(), "unsubscribe")?;
     second.unsubscribe_after(rt, alloc, 3)?;
     hand::takes(rt, alloc, client.hub(), "unsubscribe_after")?;
     third.drain(rt, alloc)?;
-    hand::takes(rt, alloc, client.hub(), "drain of a subscriber")?;
+    hand::takes(rt, alloc, client.hub(), "drain of a subscriber")
+}
+
+/// Loses the link, and drains once the next is up.
+fn reconnect<G: Tallies, R: Wait + Print>(
+    rt: &R,
+    alloc: Global,
+    client: &mut Client<G>,
+) -> Result<()> {
     client.force_reconnect(rt, alloc)?;
     println!(rt; "reconnect: {}", client.connection_state(rt))?;
     hand::up(rt, alloc, client.hub())?;
@@ -77,19 +102,36 @@ fn end<G: Tallies, R: Wait + Print>(
     hand::takes(rt, alloc, client.hub(), "drain")
 }
 
-/// Closes a subscriber into a client.
+/// Closes the subscribers into a client, the last first.
 fn close<G: Tallies, R: Wait>(
     rt: &R,
     alloc: Global,
     client: &mut Client<G>,
-    subscriber: Subscriber<G>,
+    subscribers: &mut Vec<Subscriber<G>>,
 ) -> Result<()>
     requires { G.parts ≡ 2 ^ 63 }
 {
-    match subscriber.close(rt, alloc, client) {
-        Ok(()) => Ok(()),
-        Err(_) => Err(anyhow!("no memory")),
+    for _ in 0..3u64 {
+        if let Some(subscriber) = subscribers.pop()
+            && subscriber.close(rt, alloc, client).is_err()
+        {
+            return Err(anyhow!("no memory"));
+        }
     }
+    Ok(())
+}
+
+/// Makes each call once.
+fn calls<G: Tallies, R: Wait + Print>(rt: &R, alloc: Global, client: &mut Client<G>) -> Result<()>
+    requires { G.parts ≡ 2 ^ 63 }
+{
+    let mut subscribers = Vec::new(alloc);
+    publish(rt, alloc, client)?;
+    subscribe(rt, alloc, client, &mut subscribers)?;
+    client.flush(rt, alloc)?;
+    end(rt, alloc, client, subscribers.as_mut_slice())?;
+    reconnect(rt, alloc, client)?;
+    close(rt, alloc, client, &mut subscribers)
 }
 
 /// Plays all calls once.
@@ -104,19 +146,7 @@ pub(crate) fn play_words<G: Tallies, R: Wait + Print>(
     requires kept { G.is_kept ≡ true }
 {
     let mut client = hand::begin::<G, R>(rt, alloc, blank)?;
-    publish(rt, alloc, &mut client)?;
-    let mut first = client.subscribe(rt, alloc, "h")?;
-    hand::takes(rt, alloc, client.hub(), "subscribe")?;
-    let group = Subject::from_static("q");
-    let mut second = client.queue_subscribe(rt, alloc, "i", group)?;
-    hand::takes(rt, alloc, client.hub(), "queue_subscribe")?;
-    let mut third = client.try_subscribe(rt, alloc, "j")?;
-    hand::takes(rt, alloc, client.hub(), "try_subscribe")?;
-    client.flush(rt, alloc)?;
-    end(rt, alloc, &mut client, &mut first, &mut second, &mut third)?;
-    close(rt, alloc, &mut client, first)?;
-    close(rt, alloc, &mut client, second)?;
-    close(rt, alloc, &mut client, third)?;
+    calls(rt, alloc, &mut client)?;
     let audit = hand::finishes(rt, alloc, client)?;
     println!(rt; "turns {}", audit.journal.len())?;
     Ok(())
