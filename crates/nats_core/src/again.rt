@@ -72,8 +72,8 @@ fn copied(alloc: Global, message: Option<&Message>) -> Result<Option<Message>, N
     }
 }
 
-/// A copy of the message that a turn is to take next, if it is a take and one waits for it; out of memory otherwise.
-/// Own call.
+/// A copy of the message that a turn is to take next, if it is a take and one waits for it. It takes no memory where
+/// there is no such message. Own call.
 pub fn message_for(
     alloc: Global,
     handler: &ConnectionHandler,

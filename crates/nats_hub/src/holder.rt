@@ -283,7 +283,8 @@ impl<G: Tallies> Holder<G> {
         }
     }
 
-    /// The same at once.
+    /// Makes a call that is given a number and splits off a holder of one part for it, as `call_for_part` does, but
+    /// never waits for room.
     ///
     /// # Errors
     ///

@@ -50,7 +50,8 @@ impl<G: Tallies> Hub<G> {
         reply
     }
 
-    /// The same on the link of this number, if that is the one that is up. Own call.
+    /// Plays a turn that is no call on the link of this number, if that is the one that is up, and wakes the calls that
+    /// wait. Own call.
     ///
     /// # Errors
     ///

@@ -278,7 +278,7 @@ impl<G: Tallies> Locked<G> {
         answer
     }
 
-    /// The same where there is room for it or the session is closed; else the call comes back.
+    /// Makes a call for a holder where there is room for it or the session is closed; else the call comes back.
     pub(crate) fn call_with_room(&mut self, alloc: Global, mine: &mut Share<G>, call: Call) -> Tried
         requires { 0 < mine.old.parts }
         ensures parts { mine.new.parts ≡ mine.old.parts }

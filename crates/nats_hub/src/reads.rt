@@ -116,7 +116,7 @@ impl<G: Tallies> Hub<G> {
         id_text(alloc, &mut *generator)
     }
 
-    /// The same as a token.
+    /// A token of 22 ASCII letters or digits, drawn from the hub's generator.
     ///
     /// # Errors
     ///

@@ -345,7 +345,8 @@ impl ConnectionHandler {
     /// client capacity. A refused call is dropped and changes nothing, but that a `DropSub` lets its subscription
     /// go whatever the reply. An accepted call is handled by `advance`, in the order of acceptance; an accepted
     /// `Unsubscribe` shuts its subscription at once, an accepted `DrainAll` the session to further calls. Its
-    /// condition is `check` of that turn. The crate's tests of what is published and subscribed to, and its bounded channel of commands.
+    /// condition is `check` of that turn. The crate's tests of what is published and subscribed to, and its bounded
+    /// channel of commands.
     ///
     /// # Errors
     ///
