@@ -1,7 +1,7 @@
 //! A core that is driven step by step, as scripts say.
 
 use nats_core::{
-    Bytes, Call, CallReply, Config, Core, Entry, LinkRead, LinkWrite, NoMemory, ReadOnce,
+    Bytes, Call, CallReply, Config, Core, Entry, Event, LinkRead, LinkWrite, NoMemory, ReadOnce,
     StepError, StepReply, Turn, WriteOnce, usual_server,
 };
 use nats_outside::{Dialer, FakeDialer, FakeLink, FakeRead, FakeWrite};
@@ -69,7 +69,9 @@ fn step_copy(
 
 fn step_elsewhere(alloc: Global, core: &mut Core, out: &mut Vec<u8>) -> Result<(), NoMemory> {
     let answer = core.step_on(alloc, OTHER_LINK, Turn::Tick);
-    say_step(out, &answer)
+    let said = say_step(out, &answer);
+    drop(answer);
+    said
 }
 
 fn say_submitted(out: &mut Vec<u8>, answer: &Result<CallReply, Call>) -> Result<(), NoMemory> {
@@ -100,18 +102,32 @@ fn say_journal(out: &mut Vec<u8>, entries: &[Entry]) -> Result<(), NoMemory> {
     Ok(())
 }
 
-fn hand_out(alloc: Global, core: &mut Core, out: &mut Vec<u8>) -> Result<(), NoMemory> {
-    match core.next_event() {
-        Some(event) => say_event(alloc, out, &event),
+fn say_next(alloc: Global, out: &mut Vec<u8>, event: &Option<Event>) -> Result<(), NoMemory> {
+    match event {
+        Some(event) => say_event(alloc, out, event),
         None => say(out, " no event"),
     }
 }
 
-fn say_ticket(core: &mut Core, out: &mut Vec<u8>) -> Result<(), NoMemory> {
-    match core.reply_of(1) {
-        Some(reply) => say_reply(out, &reply),
+fn hand_out(alloc: Global, core: &mut Core, out: &mut Vec<u8>) -> Result<(), NoMemory> {
+    let event = core.next_event();
+    let said = say_next(alloc, out, &event);
+    drop(event);
+    said
+}
+
+fn say_settled(out: &mut Vec<u8>, reply: &Option<CallReply>) -> Result<(), NoMemory> {
+    match reply {
+        Some(reply) => say_reply(out, reply),
         None => say(out, " unsettled"),
     }
+}
+
+fn say_ticket(core: &mut Core, out: &mut Vec<u8>) -> Result<(), NoMemory> {
+    let reply = core.reply_of(1);
+    let said = say_settled(out, &reply);
+    drop(reply);
+    said
 }
 
 fn drive(
@@ -148,14 +164,26 @@ fn drive_new(
     driven
 }
 
-fn steps_of(alloc: Global, script: &str, is_kept: bool) -> Result<Vec<u8>, NoMemory> {
-    let mut out = Vec::new(alloc);
-    match read_script(alloc, script.as_bytes())? {
+fn drive_script(
+    alloc: Global,
+    out: &mut Vec<u8>,
+    script: &Script,
+    is_kept: bool,
+) -> Result<(), NoMemory> {
+    match script {
         Script::Good { config, turns } => {
-            drive_new(alloc, &mut out, &config, turns.as_slice(), is_kept)?
+            drive_new(alloc, out, config, turns.as_slice(), is_kept)
         }
-        Script::Bad(line) => say_number(&mut out, "line", line)?,
+        Script::Bad(line) => say_number(out, "line", *line),
     }
+}
+
+fn steps_of(alloc: Global, script: &str, is_kept: bool) -> Result<Vec<u8>, NoMemory> {
+    let script = read_script(alloc, script.as_bytes())?;
+    let mut out = Vec::new(alloc);
+    let driven = drive_script(alloc, &mut out, &script, is_kept);
+    drop(script);
+    driven?;
     Ok(out)
 }
 

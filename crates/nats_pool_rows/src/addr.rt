@@ -43,17 +43,31 @@ fn push_told(alloc: Global, addr: &ServerAddr, out: &mut String) -> Result<(), B
     Ok(out.push_str(format!(in alloc; " copied={is_same} tls={tls} ws={ws}")?.as_str())?)
 }
 
-/// Appends the text of an address, and again that of the address that its URL is made into.
-fn push_urls(addr: ServerAddr, out: &mut String) -> Result<(), Bad> {
-    push_word(out, addr.as_url_str().as_bytes())?;
-    let again = ServerAddr::from_url(addr.into_inner()).map_err(|_| Bad::Form)?;
-    Ok(push_word(out, again.into_inner().as_str().as_bytes())?)
+/// The address that the URL of an address is made into.
+fn again(addr: ServerAddr) -> Result<ServerAddr, Bad> {
+    ServerAddr::from_url(addr.into_inner()).map_err(|_| Bad::Form)
 }
 
+fn push_url(addr: ServerAddr, out: &mut String) -> Result<(), Bad> {
+    let url = addr.into_inner();
+    let pushed = push_word(out, url.as_str().as_bytes());
+    drop(url);
+    Ok(pushed?)
+}
+
+/// Appends what an address tells, and its text.
+fn push_text(alloc: Global, addr: &ServerAddr, out: &mut String) -> Result<(), Bad> {
+    push_told(alloc, addr, out)?;
+    Ok(push_word(out, addr.as_url_str().as_bytes())?)
+}
+
+/// Appends what an address tells, its text, and again that of the address that its URL is made into.
 fn push_secret(alloc: Global, text: &str, out: &mut String) -> Result<(), Bad> {
     let addr = parsed(alloc, text)?;
-    push_told(alloc, &addr, out)?;
-    push_urls(addr, out)
+    let pushed = push_text(alloc, &addr, out);
+    let again = again(addr)?;
+    let url = push_url(again, out);
+    pushed.and(url)
 }
 
 fn count<A: ToServerAddrs>(alloc: Global, source: &A) -> usize {
@@ -106,15 +120,34 @@ fn push_first(
     Ok(out.push_str(word)?)
 }
 
-/// Asks a resolver that fails at the second asking twice, and one that refuses once.
-fn push_resolved(alloc: Global, out: &mut String) -> Result<(), Bad> {
-    let addr = parsed(alloc, "h")?;
-    let mut resolver = FakeResolver::failing(vec![in alloc; home()]?, vec![in alloc; 2]?);
-    push_first(alloc, &addr, &mut resolver, out)?;
-    push_first(alloc, &addr, &mut resolver, out)?;
-    push_first(alloc, &addr, &mut FakeResolver::refusing(alloc), out)?;
+/// Asks a resolver twice, and another one once.
+fn push_asked(
+    alloc: Global,
+    addr: &ServerAddr,
+    twice: &mut FakeResolver,
+    once: &mut FakeResolver,
+    out: &mut String,
+) -> Result<(), Bad> {
+    push_first(alloc, addr, twice, out)?;
+    push_first(alloc, addr, twice, out)?;
+    push_first(alloc, addr, once, out)
+}
+
+fn push_failed(alloc: Global, out: &mut String) -> Result<(), Bad> {
     let text = ResolveError::Failed.to_string(alloc)?;
     Ok(push_bytes(out, text.as_bytes())?)
+}
+
+/// Asks a resolver that fails at the second asking twice, and one that refuses once.
+fn push_resolved(alloc: Global, out: &mut String) -> Result<(), Bad> {
+    let homes = vec![in alloc; home()]?;
+    let failing = vec![in alloc; 2]?;
+    let addr = parsed(alloc, "h")?;
+    let mut failing = FakeResolver::failing(homes, failing);
+    let mut refusing = FakeResolver::refusing(alloc);
+    let pushed = push_asked(alloc, &addr, &mut failing, &mut refusing, out);
+    let failed = push_failed(alloc, out);
+    pushed.and(failed)
 }
 
 /// Answers a question on addresses, and tells whether it is one.

@@ -27,16 +27,21 @@ fn hello(alloc: Global) -> Result<FakeLink, Bad> {
 
 /// One link; the second dial fails.
 fn dialer(alloc: Global) -> Result<FakeDialer, Bad> {
+    let failing = vec![in alloc; 2]?;
     let links = vec![in alloc; hello(alloc)?]?;
-    Ok(FakeDialer::failing(alloc, links, vec![in alloc; 2]?))
+    Ok(FakeDialer::failing(alloc, links, failing))
 }
 
 fn memory(alloc: Global) -> Result<Memory, Bad> {
+    let homes = vec![in alloc; home()]?;
+    let times = vec![in alloc; 5, 8]?;
+    let drawn = vec![in alloc; 9]?;
+    let dialer = dialer(alloc)?;
     Ok(Joined {
-        dialer: dialer(alloc)?,
-        resolver: FakeResolver::told(alloc, vec![in alloc; home()]?),
-        clock: FakeClock::told(vec![in alloc; 5, 8]?),
-        draw: FakeDraw::told(vec![in alloc; 9]?),
+        dialer,
+        resolver: FakeResolver::told(alloc, homes),
+        clock: FakeClock::told(times),
+        draw: FakeDraw::told(drawn),
     })
 }
 
@@ -66,15 +71,23 @@ fn push_write(
     }
 }
 
+/// Writes pieces twice, and appends what the link took.
+fn push_twice(
+    alloc: Global,
+    link: &mut FakeWrite,
+    pieces: &[Bytes],
+    out: &mut String,
+) -> Result<(), Bad> {
+    push_write(alloc, link, pieces, out)?;
+    push_write(alloc, link, pieces, out)?;
+    Ok(push_word(out, link.taken())?)
+}
+
 /// Writes two pieces twice, and appends what the link took.
 fn push_written(alloc: Global, link: &mut FakeWrite, out: &mut String) -> Result<(), Bad> {
-    let pieces = [
-        Bytes::copy_from_slice(alloc, b"ab")?,
-        Bytes::copy_from_slice(alloc, b"cd")?,
-    ];
-    push_write(alloc, link, &pieces, out)?;
-    push_write(alloc, link, &pieces, out)?;
-    Ok(push_word(out, link.taken())?)
+    let first = Bytes::copy_from_slice(alloc, b"ab")?;
+    let second = Bytes::copy_from_slice(alloc, b"cd")?;
+    push_twice(alloc, link, &[first, second], out)
 }
 
 /// Appends when the clock starts, twice what it shows after a sleep, and what is drawn.
@@ -126,12 +139,22 @@ fn push_link(alloc: Global, world: &mut Memory, out: &mut String) -> Result<(), 
     }
 }
 
+fn is_dialed(world: &mut Memory) -> bool {
+    let dialed = seen::dial(world, &home(), DIAL_TIMEOUT);
+    let is_dialed = dialed.is_ok();
+    drop(dialed);
+    is_dialed
+}
+
 fn push_world(alloc: Global, world: &mut Memory, out: &mut String) -> Result<(), Bad> {
     push_times(alloc, world, out)?;
     push_resolved(alloc, world, out)?;
     push_link(alloc, world, out)?;
-    let is_dialed = seen::dial(world, &home(), DIAL_TIMEOUT).is_ok();
-    Ok(out.push_str(if is_dialed { " a-link" } else { " no-link" })?)
+    Ok(out.push_str(if is_dialed(world) {
+        " a-link"
+    } else {
+        " no-link"
+    })?)
 }
 
 /// Appends what the outside in memory gives, each part in turn.

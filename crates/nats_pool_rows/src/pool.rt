@@ -27,24 +27,45 @@ fn push_refused(alloc: Global, texts: &str, out: &mut String) -> Result<(), Bad>
 fn delay_of(word: &str) -> Result<Option<u64>, Bad> {
     match word {
         "~" => Ok(None),
-        word => Ok(Some(number_of(word)?)),
+        word => number_of(word).map(Some),
     }
 }
 
-/// Appends the host and the delay of the copy of a choice, and whether its address is the same.
-fn push_target(alloc: Global, rest: &str, out: &mut String) -> Result<(), Bad> {
-    let (text, delay) = rest.split_once(' ').ok_or(Bad::Form)?;
-    let target = ReconnectToServer {
-        addr: ServerAddr::parse(alloc, text).map_err(|_| Bad::Form)?,
-        delay: delay_of(delay)?,
-    };
-    let copy = target.copy(alloc)?;
+/// The choice of an address and a delay.
+fn target_of(alloc: Global, text: &str, delay: &str) -> Result<ReconnectToServer, Bad> {
+    let delay = delay_of(delay)?;
+    let addr = ServerAddr::parse(alloc, text).map_err(|_| Bad::Form)?;
+    Ok(ReconnectToServer { addr, delay })
+}
+
+fn push_alike(
+    alloc: Global,
+    copy: &ReconnectToServer,
+    target: &ReconnectToServer,
+    out: &mut String,
+) -> Result<(), Bad> {
     let (host, is_same) = (copy.addr.host(), copy.addr == target.addr);
     out.push_str(format!(in alloc; "{host} {is_same} ")?.as_str())?;
     match copy.delay {
         Some(ms) => push_number(alloc, ms, out),
         None => Ok(out.push('~')?),
     }
+}
+
+fn push_copied(alloc: Global, target: &ReconnectToServer, out: &mut String) -> Result<(), Bad> {
+    let copy = target.copy(alloc)?;
+    let pushed = push_alike(alloc, &copy, target, out);
+    drop(copy);
+    pushed
+}
+
+/// Appends the host and the delay of the copy of a choice, and whether its address is the same.
+fn push_target(alloc: Global, rest: &str, out: &mut String) -> Result<(), Bad> {
+    let (text, delay) = rest.split_once(' ').ok_or(Bad::Form)?;
+    let target = target_of(alloc, text, delay)?;
+    let pushed = push_copied(alloc, &target, out);
+    drop(target);
+    pushed
 }
 
 /// Answers a question on what a pool is made of, and tells whether it is one.
