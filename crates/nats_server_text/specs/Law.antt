@@ -16,8 +16,8 @@ abbrev pub IsWordOrNone : Option (List ℕ) → Type 0
 IsWordOrNone None = Unit {0}
 IsWordOrNone (Some text) = IsWord text
 
--- what can be told: the name of a broker is a token, subjects and replies are words, headers are distinct names with one or more values each, and numbers
--- and lengths are numbers of the protocol
+-- what can be told: the name of a broker is a token, subjects and replies are words, headers are distinct names with
+-- one or more values each, and numbers and lengths are numbers of the protocol
 abbrev pub IsTellable : Said → Type 0
 IsTellable (hello server_id max_payload) = (is_token server_id ≡ true) × (max_payload < 2 ^ 64)
 IsTellable (told sid subject respond headers payload) =
