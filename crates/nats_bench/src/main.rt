@@ -30,7 +30,7 @@ use crate::requests::{Asked, request};
 use crate::streams::{MIXES, Mix};
 use crate::wire::{Outcome, WORKS, Work, come_to, measure_wire};
 use anyhow::{Result, anyhow};
-use nats_session::{Config, NoMemory, Subject, Token, run};
+use nats_session::{Config, NoMemory, RunError, Subject, Token, Transcript, run};
 use std::alloc::Global;
 use std::env;
 use std::process::ExitCode;
@@ -120,50 +120,51 @@ fn settings(alloc: Global) -> Result<Config, NoMemory> {
     })
 }
 
-/// Plays a list of `count` turns: what they showed, and how long they took.
-fn play<R: Clock + AllocGlobal>(rt: &R, count: usize) -> Result<(Counts, Duration)> {
-    let alloc = rt.alloc();
-    let turns = mixed_turns(alloc, count)?;
-    let config = settings(alloc)?;
-    let start = Instant::now(rt)?;
-    match run(alloc, config, turns.as_slice()) {
-        Ok(transcript) => {
-            let elapsed = start.elapsed(rt)?;
-            Ok((counts_of(count, &transcript), elapsed))
-        }
+/// What the transcript of `count` turns counts, or why there is none.
+fn counted_of(count: usize, played: &Result<Transcript, RunError>) -> Result<Counts> {
+    match played {
+        Ok(transcript) => Ok(counts_of(count, transcript)),
         Err(refusal) => Err(anyhow!("{refusal:?}")),
     }
 }
 
+/// Plays a list of `count` turns: what they showed, and how long they took.
+fn play<R: Clock + AllocGlobal>(rt: &R, count: usize) -> Result<(Counts, Duration)> {
+    let turns = mixed_turns(rt.alloc(), count)?;
+    let start = Instant::now(rt)?;
+    let config = settings(rt.alloc())?;
+    let played = run(rt.alloc(), config, turns.as_slice());
+    let elapsed = start.elapsed(rt);
+    let counts = counted_of(count, &played);
+    drop(played);
+    Ok((counts?, elapsed?))
+}
+
 /// Makes and drops `count` subscriptions: what they left, and how long it took.
 fn play_churn<R: Clock + AllocGlobal>(rt: &R, count: usize) -> Result<(Left, Duration)> {
-    let config = settings(rt.alloc())?;
     let start = Instant::now(rt)?;
-    let left = churn(rt.alloc(), config, count)?;
+    let left = churn(rt.alloc(), settings(rt.alloc())?, count)?;
     Ok((left, start.elapsed(rt)?))
 }
 
 /// Carries `count` subscriptions over as many links: what they came to, and how long it took.
 fn play_links<R: Clock + AllocGlobal>(rt: &R, count: usize) -> Result<(Carried, Duration)> {
-    let config = settings(rt.alloc())?;
     let start = Instant::now(rt)?;
-    let carried = carry(rt.alloc(), config, count)?;
+    let carried = carry(rt.alloc(), settings(rt.alloc())?, count)?;
     Ok((carried, start.elapsed(rt)?))
 }
 
 /// Settles `count` flushes: what they came to, and how long it took.
 fn play_flushes<R: Clock + AllocGlobal>(rt: &R, count: usize) -> Result<(Flushed, Duration)> {
-    let config = settings(rt.alloc())?;
     let start = Instant::now(rt)?;
-    let flushed = flush(rt.alloc(), config, count)?;
+    let flushed = flush(rt.alloc(), settings(rt.alloc())?, count)?;
     Ok((flushed, start.elapsed(rt)?))
 }
 
 /// Answers `count` requests: what they came to, and how long it took.
 fn play_requests<R: Clock + AllocGlobal>(rt: &R, count: usize) -> Result<(Asked, Duration)> {
-    let config = settings(rt.alloc())?;
     let start = Instant::now(rt)?;
-    let asked = request(rt.alloc(), config, count)?;
+    let asked = request(rt.alloc(), settings(rt.alloc())?, count)?;
     Ok((asked, start.elapsed(rt)?))
 }
 

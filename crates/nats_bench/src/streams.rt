@@ -160,12 +160,16 @@ pub fn server_stream(alloc: Global, mix: Mix, count: usize) -> Result<Vec<u8>, N
 
 // ---- what a client sends
 
+fn append_all(alloc: Global, headers: &mut HeaderMap, id: &str) -> Result<()> {
+    headers.append(alloc, "Nats-Msg-Id", id)?;
+    headers.append(alloc, "X-Trace", "0123456789abcdef")?;
+    Ok(headers.append(alloc, "Content-Type", "text/plain")?)
+}
+
 #[inline(never)]
 fn headers(alloc: Global, id: &str) -> Result<HeaderMap> {
     let mut headers = HeaderMap::new(alloc);
-    headers.append(alloc, "Nats-Msg-Id", id)?;
-    headers.append(alloc, "X-Trace", "0123456789abcdef")?;
-    headers.append(alloc, "Content-Type", "text/plain")?;
+    append_all(alloc, &mut headers, id)?;
     Ok(headers)
 }
 
@@ -175,6 +179,19 @@ fn reply_subject(alloc: Global, has_reply: bool) -> Result<Option<Subject>, NoMe
         Ok(Some(Subject::from_text(alloc, REPLY)?))
     } else {
         Ok(None)
+    }
+}
+
+/// The subject, the payload and the subject of replies of a publication.
+type Said = (Subject, Bytes, Option<Subject>);
+
+#[inline(always)]
+fn published((subject, payload, respond): Said, headers: Option<HeaderMap>) -> ClientOp {
+    ClientOp::Publish {
+        subject,
+        payload,
+        respond,
+        headers,
     }
 }
 
@@ -194,36 +211,27 @@ impl Parts {
             Shape::Hmsg => WITH_HEADERS,
             Shape::Ping | Shape::Ok => 0,
         };
-        Ok(Parts {
-            shape,
-            payload: filled(alloc, k, size)?,
-            id: format!(in alloc; "{k}")?,
-        })
+        let payload = filled(alloc, k, size)?;
+        let id = format!(in alloc; "{k}")?;
+        Ok(Parts { shape, payload, id })
     }
 
     #[inline(always)]
-    fn publish(
-        &self,
-        alloc: Global,
-        has_reply: bool,
-        headers: Option<HeaderMap>,
-    ) -> Result<ClientOp, NoMemory> {
-        Ok(ClientOp::Publish {
-            subject: Subject::from_text(alloc, SUBJECT)?,
-            payload: Bytes::copy_from_slice(alloc, self.payload.as_slice())?,
-            respond: reply_subject(alloc, has_reply)?,
-            headers,
-        })
+    fn said(&self, alloc: Global, has_reply: bool) -> Result<Said, NoMemory> {
+        let subject = Subject::from_text(alloc, SUBJECT)?;
+        let payload = Bytes::copy_from_slice(alloc, self.payload.as_slice())?;
+        let respond = reply_subject(alloc, has_reply)?;
+        Ok((subject, payload, respond))
     }
 
     /// The operation, its texts copied.
     #[inline(always)]
     pub fn made(&self, alloc: Global) -> Result<ClientOp> {
         match self.shape {
-            Shape::Msg { has_reply, .. } => Ok(self.publish(alloc, has_reply, None)?),
+            Shape::Msg { has_reply, .. } => Ok(published(self.said(alloc, has_reply)?, None)),
             Shape::Hmsg => {
                 let headers = headers(alloc, self.id.as_str())?;
-                Ok(self.publish(alloc, false, Some(headers))?)
+                Ok(published(self.said(alloc, false)?, Some(headers)))
             }
             Shape::Ping => Ok(ClientOp::Ping),
             Shape::Ok => Ok(ClientOp::Pong),

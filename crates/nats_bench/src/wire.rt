@@ -2,7 +2,7 @@
 
 use crate::streams::{CYCLE, Mix, Parts, client_parts, server_stream};
 use anyhow::{Result, anyhow};
-use nats_wire::{ClientOp, Connection, Message, NoMemory, ServerOp};
+use nats_wire::{ClientOp, Connection, Message, NoMemory, ServerOp, WireError};
 use std::alloc::Global;
 use std::fmt;
 use std::rt::Clock;
@@ -157,12 +157,39 @@ impl Tally {
     }
 }
 
+type Read = Result<Option<ServerOp>, WireError>;
+
+/// Notes what was read, and tells whether an operation was.
+#[inline(always)]
+fn note_read(read: &Read, tally: &mut Tally) -> Result<bool, WireError> {
+    match read {
+        Ok(Some(op)) => {
+            tally.note(op);
+            Ok(true)
+        }
+        Ok(None) => Ok(false),
+        Err(error) => Err(*error),
+    }
+}
+
+/// Reads an operation and notes it, and tells whether one was there.
+#[inline(always)]
+fn read_one(
+    alloc: Global,
+    connection: &mut Connection,
+    tally: &mut Tally,
+) -> Result<bool, WireError> {
+    let read = connection.read_op(alloc);
+    let noted = note_read(&read, tally);
+    drop(read);
+    noted
+}
+
 /// Reads all that stands whole in the unread bytes.
 fn read_all(alloc: Global, connection: &mut Connection, tally: &mut Tally) -> Result<()> {
     for _ in 0..connection.unread() {
-        match connection.read_op(alloc)? {
-            Some(op) => tally.note(&op),
-            None => return Ok(()),
+        if !read_one(alloc, connection, tally)? {
+            return Ok(());
         }
     }
     Ok(())
@@ -262,10 +289,15 @@ fn publish(alloc: Global, parts: &[Parts], count: usize) -> Result<u64> {
     publish_on(alloc, &mut connection, parts, count)
 }
 
+fn add_op(alloc: Global, ops: &mut Vec<ClientOp>, parts: &Parts) -> Result<()> {
+    let op = parts.made(alloc)?;
+    Ok(ops.push(op)?)
+}
+
 fn client_ops(alloc: Global, parts: &[Parts]) -> Result<Vec<ClientOp>> {
     let mut ops = Vec::new(alloc);
     for parts in parts {
-        ops.push(parts.made(alloc)?)?;
+        add_op(alloc, &mut ops, parts)?;
     }
     Ok(ops)
 }
@@ -308,13 +340,15 @@ enum Prepared {
     Parts(Vec<Parts>),
 }
 
+fn prepared_ops(alloc: Global, mix: Mix) -> Result<Vec<ClientOp>> {
+    let parts = client_parts(alloc, mix)?;
+    client_ops(alloc, parts.as_slice())
+}
+
 fn prepare(alloc: Global, work: Work, mix: Mix, count: usize) -> Result<Prepared> {
     match work {
         Work::Decode => Ok(Prepared::Server(server_stream(alloc, mix, count)?)),
-        Work::Encode => {
-            let parts = client_parts(alloc, mix)?;
-            Ok(Prepared::Ops(client_ops(alloc, parts.as_slice())?))
-        }
+        Work::Encode => Ok(Prepared::Ops(prepared_ops(alloc, mix)?)),
         Work::Publish => Ok(Prepared::Parts(client_parts(alloc, mix)?)),
     }
 }

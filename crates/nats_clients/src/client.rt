@@ -4,6 +4,7 @@ ghost use Rattle.nats_core.specs.Journal.{IsRight};
 ghost use Rattle.nats_hub.specs.Tallying.{accepted_in};
 ghost use Rattle.nats_hub.specs.declared.holder.CloneError.TheVariants as refused;
 ghost use Rattle.nats_clients.specs.Finishing.{Returned};
+ghost use Rattle.nats_clients.specs.Views.{client_of};
 
 use nats_core::{Config, NoMemory};
 use nats_hub::{Audit, CloneError, Holder, Hub, Tallies, Unfinished};
@@ -99,6 +100,18 @@ impl<G: Tallies> Client<G> {
             timeout: Some(REQUEST_TIMEOUT_MS),
             is_shut: false,
         })
+    }
+
+    /// A client over a holder of a hub, whose requests wait for so many milliseconds, if not for ever. Own call: what
+    /// connects makes the hub and its holder first.
+    pub fn over_holder(holder: Holder<G>, timeout: Option<u64>) -> Client<G>
+        ensures { result ≡ client_of holder timeout false }
+    {
+        Client {
+            holder,
+            timeout,
+            is_shut: false,
+        }
     }
 
     /// Another client of this hub, which made no call yet and is not shut. It takes the 65,536th part of this one's

@@ -91,21 +91,34 @@ pub(crate) fn takes<G: Tallies, R: Wait + Print>(
     play(rt, alloc, hub, Turn::Write(count))
 }
 
-/// Prints what a hub came to: how many accepted calls its holders made, and how many its journal has.
+fn show_audit<R: Print>(rt: &R, audit: &Audit) -> Result<usize> {
+    let (made, accepted) = (audit.tally.made, audit.tally.accepted);
+    println!(rt; "made {made} accepted {accepted}")?;
+    Ok(audit.journal.len())
+}
+
+fn show_finish<G: Tallies, R: Print>(
+    rt: &R,
+    finished: &Result<Audit, FinishError<G>>,
+) -> Result<usize> {
+    match finished {
+        Ok(audit) => show_audit(rt, audit),
+        Err(FinishError::Held(_)) => Err(anyhow!("held")),
+        Err(FinishError::NoMemory(_)) => Err(anyhow!("no memory")),
+    }
+}
+
+/// Prints what a hub came to: how many accepted calls its holders made, and how many its journal has. It answers how
+/// many turns that has.
 pub(crate) fn finishes<G: Tallies, R: Wait + Print>(
     rt: &R,
     alloc: Global,
     client: Client<G>,
-) -> Result<Audit>
+) -> Result<usize>
     requires { G.parts ≡ 2 ^ 63 }
 {
-    match client.finish(rt, alloc) {
-        Ok(audit) => {
-            let (made, accepted) = (audit.tally.made, audit.tally.accepted);
-            println!(rt; "made {made} accepted {accepted}")?;
-            Ok(audit)
-        }
-        Err(FinishError::Held(_)) => Err(anyhow!("held")),
-        Err(FinishError::NoMemory(_)) => Err(anyhow!("no memory")),
-    }
+    let finished = client.finish(rt, alloc);
+    let shown = show_finish(rt, &finished);
+    drop(finished);
+    shown
 }

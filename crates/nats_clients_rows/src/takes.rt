@@ -3,24 +3,58 @@ ghost use Rattle.std.specs.Prelude.{◌≡◌, ◌^◌, true};
 
 use crate::hand;
 use anyhow::{Result, anyhow};
-use nats_clients::{Bytes, Client, Subscriber, TakeReply, Tallies};
+use nats_clients::{
+    Bytes, Client, Message, NoMemory, PublishError, Subscriber, TakeReply, Tallies,
+};
 use std::alloc::Global;
 use std::str;
 use std::sync::Wait;
 use std::sync::ledger::Blank;
 
+fn show_message<R: Print>(rt: &R, name: &str, message: &Message) -> Result<()> {
+    let payload = str::from_utf8(message.payload.as_slice()).unwrap_or("(bytes)");
+    println!(rt; "{name}: {} {payload}", message.subject.as_str())?;
+    Ok(())
+}
+
 /// Prints what one take answered.
 fn show<R: Print>(rt: &R, name: &str, reply: &TakeReply) -> Result<()> {
     match reply {
-        TakeReply::Message(message) => println!(rt;
-            "{name}: {} {}",
-            message.subject.as_str(),
-            str::from_utf8(message.payload.as_slice()).unwrap_or("(bytes)")
-        )?,
-        TakeReply::Empty => println!(rt; "{name}: empty")?,
-        TakeReply::Ended => println!(rt; "{name}: ended")?,
+        TakeReply::Message(message) => show_message(rt, name, message),
+        TakeReply::Empty => Ok(println!(rt; "{name}: empty")?),
+        TakeReply::Ended => Ok(println!(rt; "{name}: ended")?),
     }
-    Ok(())
+}
+
+fn show_reply<R: Print>(rt: &R, name: &str, reply: &Result<TakeReply, NoMemory>) -> Result<()> {
+    match reply {
+        Ok(reply) => show(rt, name, reply),
+        Err(NoMemory) => Err(anyhow!("no memory")),
+    }
+}
+
+/// Takes once.
+fn poll<G: Tallies, R: Wait + Print>(
+    rt: &R,
+    alloc: Global,
+    subscriber: &mut Subscriber<G>,
+) -> Result<()> {
+    let reply = subscriber.poll_next(rt, alloc);
+    let shown = show_reply(rt, "poll_next", &reply);
+    drop(reply);
+    shown
+}
+
+/// Takes at most three times.
+fn within<G: Tallies, R: Wait + Print>(
+    rt: &R,
+    alloc: Global,
+    subscriber: &mut Subscriber<G>,
+) -> Result<()> {
+    let reply = subscriber.next_within(rt, alloc, 3);
+    let shown = show_reply(rt, "next_within", &reply);
+    drop(reply);
+    shown
 }
 
 /// Takes once, and then at most three times.
@@ -29,16 +63,16 @@ fn take<G: Tallies, R: Wait + Print>(
     alloc: Global,
     subscriber: &mut Subscriber<G>,
 ) -> Result<()> {
-    let reply = subscriber
-        .poll_next(rt, alloc)
-        .ok()
-        .ok_or(anyhow!("no memory"))?;
-    show(rt, "poll_next", &reply)?;
-    let reply = subscriber
-        .next_within(rt, alloc, 3)
-        .ok()
-        .ok_or(anyhow!("no memory"))?;
-    show(rt, "next_within", &reply)
+    poll(rt, alloc, subscriber)?;
+    within(rt, alloc, subscriber)
+}
+
+fn show_next<R: Print>(rt: &R, next: &Result<Option<Message>, NoMemory>) -> Result<()> {
+    match next {
+        Ok(Some(message)) => show_message(rt, "next", message),
+        Ok(None) => Ok(println!(rt; "next: ended")?),
+        Err(NoMemory) => Err(anyhow!("no memory")),
+    }
 }
 
 /// Waits for the next message, which is there.
@@ -47,10 +81,16 @@ fn wait<G: Tallies, R: Wait + Print>(
     alloc: Global,
     subscriber: &mut Subscriber<G>,
 ) -> Result<()> {
-    match subscriber.next(rt, alloc) {
-        Ok(Some(message)) => show(rt, "next", &TakeReply::Message(message)),
-        Ok(None) => show(rt, "next", &TakeReply::Ended),
-        Err(_) => Err(anyhow!("no memory")),
+    let next = subscriber.next(rt, alloc);
+    let shown = show_next(rt, &next);
+    drop(next);
+    shown
+}
+
+fn show_published<R: Print>(rt: &R, answer: &Result<(), PublishError>) -> Result<()> {
+    match answer {
+        Ok(()) => Ok(println!(rt; "published")?),
+        Err(error) => Ok(println!(rt; "{error}")?),
     }
 }
 
@@ -61,11 +101,10 @@ fn publish<G: Tallies, R: Wait + Print>(
     client: &mut Client<G>,
     subject: &'static str,
 ) -> Result<()> {
-    match client.publish(rt, alloc, subject, Bytes::from_static(b"x")) {
-        Ok(()) => println!(rt; "published")?,
-        Err(error) => println!(rt; "{error}")?,
-    }
-    Ok(())
+    let answer = client.publish(rt, alloc, subject, Bytes::from_static(b"x"));
+    let shown = show_published(rt, &answer);
+    drop(answer);
+    shown
 }
 
 /// The link gives messages, and the subscriber takes them in each way.
@@ -127,7 +166,7 @@ pub(crate) fn play_takes<G: Tallies, R: Wait + Print>(
 {
     let mut client = hand::begin::<G, R>(rt, alloc, blank)?;
     subscription(rt, alloc, &mut client)?;
-    let audit = hand::finishes(rt, alloc, client)?;
-    println!(rt; "turns {}", audit.journal.len())?;
+    let turns = hand::finishes(rt, alloc, client)?;
+    println!(rt; "turns {turns}")?;
     Ok(())
 }

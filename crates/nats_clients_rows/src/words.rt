@@ -28,31 +28,70 @@ fn message(subject: &'static str, payload: &'static [u8]) -> OutboundMessage {
     }
 }
 
+fn publish_plain<G: Tallies, R: Wait + Print>(
+    rt: &R,
+    alloc: Global,
+    client: &mut Client<G>,
+) -> Result<()> {
+    client.publish(rt, alloc, "a", Bytes::from_static(b"p1"))?;
+    hand::takes(rt, alloc, client.hub(), "publish")
+}
+
+fn publish_with_headers<G: Tallies, R: Wait + Print>(
+    rt: &R,
+    alloc: Global,
+    client: &mut Client<G>,
+) -> Result<()> {
+    let with = headers(alloc, "v")?;
+    client.publish_with_headers(rt, alloc, "b", with, Bytes::from_static(b"p2"))?;
+    hand::takes(rt, alloc, client.hub(), "publish_with_headers")
+}
+
+fn publish_with_reply<G: Tallies, R: Wait + Print>(
+    rt: &R,
+    alloc: Global,
+    client: &mut Client<G>,
+) -> Result<()> {
+    client.publish_with_reply(rt, alloc, "c", "r1", Bytes::from_static(b"p3"))?;
+    hand::takes(rt, alloc, client.hub(), "publish_with_reply")
+}
+
+fn publish_with_both<G: Tallies, R: Wait + Print>(
+    rt: &R,
+    alloc: Global,
+    client: &mut Client<G>,
+) -> Result<()> {
+    let with = headers(alloc, "w")?;
+    client.publish_with_reply_and_headers(rt, alloc, "d", "r2", with, Bytes::from_static(b"p4"))?;
+    hand::takes(rt, alloc, client.hub(), "publish_with_reply_and_headers")
+}
+
+fn publish_at_once<G: Tallies, R: Wait + Print>(
+    rt: &R,
+    alloc: Global,
+    client: &mut Client<G>,
+) -> Result<()> {
+    client.try_publish(rt, alloc, message("e", b"p5"))?;
+    hand::takes(rt, alloc, client.hub(), "try_publish")
+}
+
+fn send<G: Tallies, R: Wait + Print>(rt: &R, alloc: Global, client: &mut Client<G>) -> Result<()> {
+    client.start_send(rt, alloc, message("f", b"p6"))?;
+    hand::takes(rt, alloc, client.hub(), "start_send")
+}
+
 /// Publishes in each way, and prints what waits for the link after each.
 fn publish<G: Tallies, R: Wait + Print>(
     rt: &R,
     alloc: Global,
     client: &mut Client<G>,
 ) -> Result<()> {
-    client.publish(rt, alloc, "a", Bytes::from_static(b"p1"))?;
-    hand::takes(rt, alloc, client.hub(), "publish")?;
-    client.publish_with_headers(
-        rt,
-        alloc,
-        "b",
-        headers(alloc, "v")?,
-        Bytes::from_static(b"p2"),
-    )?;
-    hand::takes(rt, alloc, client.hub(), "publish_with_headers")?;
-    client.publish_with_reply(rt, alloc, "c", "r1", Bytes::from_static(b"p3"))?;
-    hand::takes(rt, alloc, client.hub(), "publish_with_reply")?;
-    let with = headers(alloc, "w")?;
-    client.publish_with_reply_and_headers(rt, alloc, "d", "r2", with, Bytes::from_static(b"p4"))?;
-    hand::takes(rt, alloc, client.hub(), "publish_with_reply_and_headers")?;
-    client.try_publish(rt, alloc, message("e", b"p5"))?;
-    hand::takes(rt, alloc, client.hub(), "try_publish")?;
-    client.start_send(rt, alloc, message("f", b"p6"))?;
-    hand::takes(rt, alloc, client.hub(), "start_send")
+    publish_plain(rt, alloc, client)?;
+    publish_with_headers(rt, alloc, client)?;
+    publish_with_reply(rt, alloc, client)?;
+    publish_with_both(rt, alloc, client)?;
+    publish_at_once(rt, alloc, client)?;
+    send(rt, alloc, client)
 }
 
 /// Subscribes in each way, and prints what waits for the link after each.
@@ -147,7 +186,7 @@ pub(crate) fn play_words<G: Tallies, R: Wait + Print>(
 {
     let mut client = hand::begin::<G, R>(rt, alloc, blank)?;
     calls(rt, alloc, &mut client)?;
-    let audit = hand::finishes(rt, alloc, client)?;
-    println!(rt; "turns {}", audit.journal.len())?;
+    let turns = hand::finishes(rt, alloc, client)?;
+    println!(rt; "turns {turns}")?;
     Ok(())
 }

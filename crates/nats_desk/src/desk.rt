@@ -111,6 +111,7 @@ impl Desk {
             × (self.new ≡ record self.old { made = number })) }
         ensures room { OnOk result (length self.old.journal + self.old.made < 2 ^ 63) }
         ensures refused { IfErr result (λ error. (self.new ≡ self.old) × Unnumbered self.old error) }
+        ensures right { IsRightBySeat self.new.config self.new.journal }
     {
         if self.made == LAST_SEAT {
             return Err(SplitError::NoNumber);

@@ -11,8 +11,8 @@ ghost use Rattle.nats_hub.specs.Waiting.{MayTry, counts_tried};
 use crate::events::Events;
 use crate::{Audit, Tallies, Tally};
 use nats_core::{
-    Bytes, Call, CallReply, ConnectionHandler, Core, Entry, Event, NoMemory, StepError, StepReply,
-    TakeReply, Turn,
+    Bytes, Call, CallReply, ConnectionHandler, Core, Entry, Event, NoMemory, ServerInfo, StepError,
+    StepReply, TakeReply, Turn,
 };
 use nats_refusals::{Refusal, answer};
 use std::alloc::Global;
@@ -173,6 +173,21 @@ impl<G: Tallies> Locked<G> {
     pub(crate) fn next_event(&mut self) -> Option<Event> {
         self.hand_on();
         self.events.take()
+    }
+
+    /// What the server said of itself last, where that is news, as a core tells it.
+    pub(crate) fn news(
+        &self,
+        alloc: Global,
+        seen: u64,
+    ) -> Result<Option<(u64, ServerInfo)>, NoMemory> {
+        self.core.news(alloc, seen)
+    }
+
+    /// Puts an event behind those that wait.
+    pub(crate) fn note(&mut self, event: Event) {
+        self.hand_on();
+        self.events.put(event)
     }
 
     /// The reply by which a ticket settled, once.

@@ -84,6 +84,22 @@ impl<G: Tallies> Hub<G> {
         }
     }
 
+    /// What a server said of itself last, where that is news: none where just `seen` INFOs were read, over all links and
+    /// those by which links came up left out; else how many were read, and the last one. Own call: what drives the
+    /// links of a client tells its pool what is news.
+    ///
+    /// # Errors
+    ///
+    /// `NoMemory` for want of memory.
+    pub fn news<R: Wait>(
+        &self,
+        rt: &R,
+        alloc: Global,
+        seen: u64,
+    ) -> Result<Option<(u64, ServerInfo)>, NoMemory> {
+        self.locked.lock(rt).news(alloc, seen)
+    }
+
     /// Whether the server that spoke last has what came with this version; no server has before any link came up.
     pub fn is_server_compatible<R: Wait>(
         &self,
@@ -101,6 +117,12 @@ impl<G: Tallies> Hub<G> {
     /// The oldest event that was not handed out yet. At most 128 wait; later ones are dropped.
     pub fn next_event<R: Wait>(&self, rt: &R) -> Option<Event> {
         self.locked.lock(rt).next_event()
+    }
+
+    /// Puts an event behind those that wait to be handed out; it is dropped where 128 wait. Own call: what drives the
+    /// links of a client tells so of what it found by itself.
+    pub fn note<R: Wait>(&self, rt: &R, event: Event) {
+        self.locked.lock(rt).note(event)
     }
 
     /// A text of 22 ASCII letters or digits, drawn from the hub's generator.

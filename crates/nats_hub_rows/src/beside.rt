@@ -28,12 +28,12 @@ fn lacks(_: NoMemory) -> anyhow::Error {
 /// Both halves of a link in memory.
 fn link(alloc: Global) -> Result<(FakeRead, FakeWrite)> {
     let link = FakeLink::new(alloc, Bytes::from_static(GIVEN), MOST).map_err(lacks)?;
-    let mut dialer = FakeDialer::told(alloc, vec![in alloc; link]?);
+    let links = vec![in alloc; link]?;
+    let mut dialer = FakeDialer::told(alloc, links);
     let to = SocketAddr::new(IpAddr::V4(Ipv4Addr::new(127, 0, 0, 1)), 4222);
-    match dialer.dial(&to, 1_000) {
-        Ok(halves) => Ok(halves),
-        Err(_) => Err(anyhow!("no link")),
-    }
+    let halves = dialer.dial(&to, 1_000);
+    drop(dialer);
+    halves.map_err(|_| anyhow!("no link"))
 }
 
 fn end_word(end: LoopEnd) -> &'static str {
@@ -134,29 +134,75 @@ fn gone<G: Tallies, R: Wait + Print>(
     Ok(())
 }
 
-/// A second link comes up and answers no tick.
-fn ticks<G: Tallies, R: Wait + Print>(
-    rt: &R,
-    alloc: Global,
-    client: &Client<G>,
-    server: ServerInfo,
-) -> Result<()> {
-    let hub = client.hub();
-    let _ = hub.play(rt, alloc, Turn::Up(server));
+/// A server of this version.
+fn server(alloc: Global) -> Result<ServerInfo> {
+    let version = Text::from_text(alloc, "2.10.18").map_err(lacks)?;
+    let mut info = usual_server(alloc);
+    info.version = version;
+    Ok(info)
+}
+
+/// A link comes up.
+fn up<G: Tallies, R: Wait>(rt: &R, alloc: Global, hub: &Hub<G>) -> Result<()> {
+    let server = server(alloc)?;
+    let played = hub.play(rt, alloc, Turn::Up(server));
+    drop(played);
+    Ok(())
+}
+
+/// How the loop of ticks ends over a clock that stands still.
+fn tick_word<G: Tallies, R: Wait>(rt: &R, alloc: Global, hub: &Hub<G>) -> Result<&'static str> {
     let mut clock = FakeClock::told(vec![in alloc; 0u64]?);
-    let end = end_word(tick_loop(rt, alloc, hub, hub.link(rt), &mut clock, 10));
+    Ok(end_word(tick_loop(rt, alloc, hub, hub.link(rt), &mut clock, 10)))
+}
+
+/// A second link comes up and answers no tick.
+fn ticks<G: Tallies, R: Wait + Print>(rt: &R, alloc: Global, client: &Client<G>) -> Result<()> {
+    up(rt, alloc, client.hub())?;
+    let end = tick_word(rt, alloc, client.hub())?;
     println!(rt; "tick_loop: {end}")?;
     tells::events(rt, alloc, client)
 }
 
-/// A server of this version.
-fn server(alloc: Global) -> Result<ServerInfo> {
-    let mut info = usual_server(alloc);
-    info.version = Text::from_text(alloc, "2.10.18").map_err(lacks)?;
-    Ok(info)
+/// A client beside its first link, once that is lost, and beside a second one.
+fn links<G: Tallies, R: Wait + Print>(
+    rt: &R,
+    alloc: Global,
+    client: &Client<G>,
+    halves: (&mut FakeRead, &mut FakeWrite),
+) -> Result<()> {
+    let (from, out) = halves;
+    let number = client.hub().link(rt);
+    moves(rt, alloc, client.hub(), number, (&mut *from, &mut *out))?;
+    tells::told(rt, alloc, client, "once it is lost")?;
+    gone(rt, alloc, client.hub(), number, (from, out))?;
+    tells::events(rt, alloc, client)?;
+    ticks(rt, alloc, client)
+}
+
+/// Publishes before the link gives or takes anything.
+fn publish<G: Tallies, R: Wait>(rt: &R, alloc: Global, client: &mut Client<G>) -> Result<()> {
+    Ok(client.publish(rt, alloc, "a", Bytes::from_static(b"hello"))?)
+}
+
+/// A client beside a link in memory.
+fn over_link<G: Tallies, R: Wait + Print>(rt: &R, alloc: Global, client: &Client<G>) -> Result<()> {
+    let (mut from, mut out) = link(alloc)?;
+    let shown = links(rt, alloc, client, (&mut from, &mut out));
+    drop(from);
+    drop(out);
+    shown
 }
 
 /// A client, before its first link, beside it, and once it is lost.
+fn lives<G: Tallies, R: Wait + Print>(rt: &R, alloc: Global, client: &mut Client<G>) -> Result<()> {
+    tells::told(rt, alloc, client, "before a link")?;
+    up(rt, alloc, client.hub())?;
+    publish(rt, alloc, client)?;
+    over_link(rt, alloc, client)
+}
+
+/// Plays the life of one client.
 pub(crate) fn play<G: Tallies, R: Wait + Print>(rt: &R, alloc: Global, blank: Blank) -> Result<()>
     requires name { blank.name ≡ G.name }
     requires parts { blank.parts ≡ G.parts }
@@ -165,14 +211,7 @@ pub(crate) fn play<G: Tallies, R: Wait + Print>(rt: &R, alloc: Global, blank: Bl
 {
     let config = Config::new(alloc).map_err(lacks)?;
     let mut client = Client::<G>::over(alloc, blank, config, true, 7).map_err(lacks)?;
-    tells::told(rt, alloc, &client, "before a link")?;
-    let _ = client.hub().play(rt, alloc, Turn::Up(server(alloc)?));
-    client.publish(rt, alloc, "a", Bytes::from_static(b"hello"))?;
-    let (mut from, mut out) = link(alloc)?;
-    let number = client.hub().link(rt);
-    moves(rt, alloc, client.hub(), number, (&mut from, &mut out))?;
-    tells::told(rt, alloc, &client, "once it is lost")?;
-    gone(rt, alloc, client.hub(), number, (&mut from, &mut out))?;
-    tells::events(rt, alloc, &client)?;
-    ticks(rt, alloc, &client, server(alloc)?)
+    let shown = lives(rt, alloc, &mut client);
+    drop(client);
+    shown
 }

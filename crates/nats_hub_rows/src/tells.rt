@@ -1,7 +1,7 @@
 //! What a client tells of the server and of itself.
 
 use anyhow::{Result, anyhow};
-use nats_clients::{Client, State, Tallies};
+use nats_clients::{Client, Event, NoMemory, ServerInfo, State, Tallies};
 use std::alloc::Global;
 use std::sync::Wait;
 
@@ -14,17 +14,41 @@ fn state_word(state: State) -> &'static str {
     }
 }
 
+fn show_found<R: Print>(rt: &R, found: &Result<Option<ServerInfo>, NoMemory>) -> Result<()> {
+    match found {
+        Ok(Some(info)) => Ok(println!(rt; "server {}", info.version.as_str())?),
+        Ok(None) => Ok(println!(rt; "no server")?),
+        Err(_) => Err(anyhow!("no memory")),
+    }
+}
+
+/// Prints the version of the server, if one spoke.
+fn version<G: Tallies, R: Wait + Print>(rt: &R, alloc: Global, client: &Client<G>) -> Result<()> {
+    let found = client.try_server_info(rt, alloc);
+    let shown = show_found(rt, &found);
+    drop(found);
+    shown
+}
+
+fn show_port<R: Print>(rt: &R, info: &Result<ServerInfo, NoMemory>) -> Result<()> {
+    match info {
+        Ok(info) => Ok(println!(rt; "port {}", info.port)?),
+        Err(_) => Err(anyhow!("no memory")),
+    }
+}
+
+/// Prints the port of the server, which is 0 where none spoke.
+fn port<G: Tallies, R: Wait + Print>(rt: &R, alloc: Global, client: &Client<G>) -> Result<()> {
+    let info = client.server_info(rt, alloc);
+    let shown = show_port(rt, &info);
+    drop(info);
+    shown
+}
+
 /// Prints the server, if one spoke, and which versions it has.
 fn server<G: Tallies, R: Wait + Print>(rt: &R, alloc: Global, client: &Client<G>) -> Result<()> {
-    match client.try_server_info(rt, alloc) {
-        Ok(Some(info)) => println!(rt; "server {}", info.version.as_str())?,
-        Ok(None) => println!(rt; "no server")?,
-        Err(_) => return Err(anyhow!("no memory")),
-    }
-    match client.server_info(rt, alloc) {
-        Ok(info) => println!(rt; "port {}", info.port)?,
-        Err(_) => return Err(anyhow!("no memory")),
-    }
+    version(rt, alloc, client)?;
+    port(rt, alloc, client)?;
     let has_same = client.is_server_compatible(rt, 2, 10, 18);
     let has_older = client.is_server_compatible(rt, 2, 9, 99);
     let has_newer = client.is_server_compatible(rt, 2, 11, 0);
@@ -52,6 +76,25 @@ pub(crate) fn told<G: Tallies, R: Wait + Print>(
     server(rt, alloc, client)
 }
 
+/// Prints an event, where there is one, and tells whether there is.
+fn show_event<R: Print>(rt: &R, alloc: Global, event: &Option<Event>) -> Result<bool> {
+    match event {
+        Some(event) => {
+            println!(rt; "event: {}", event.to_string(alloc)?)?;
+            Ok(true)
+        }
+        None => Ok(false),
+    }
+}
+
+/// Prints the next event that waits, and tells whether there is one.
+fn event<G: Tallies, R: Wait + Print>(rt: &R, alloc: Global, client: &Client<G>) -> Result<bool> {
+    let event = client.poll_event(rt);
+    let shown = show_event(rt, alloc, &event);
+    drop(event);
+    shown
+}
+
 /// Prints the events that wait, at most eight.
 pub(crate) fn events<G: Tallies, R: Wait + Print>(
     rt: &R,
@@ -59,9 +102,8 @@ pub(crate) fn events<G: Tallies, R: Wait + Print>(
     client: &Client<G>,
 ) -> Result<()> {
     for _ in 0..8u64 {
-        match client.poll_event(rt) {
-            Some(event) => println!(rt; "event: {}", event.to_string(alloc)?)?,
-            None => break,
+        if !event(rt, alloc, client)? {
+            break;
         }
     }
     Ok(())

@@ -1,8 +1,8 @@
 //! A core that is driven step by step, as scripts say.
 
 use nats_core::{
-    Bytes, Call, CallReply, Config, Core, Entry, LinkRead, LinkWrite, NoMemory, ReadOnce,
-    StepError, StepReply, Turn, WriteOnce, usual_server,
+    Bytes, Call, CallReply, Config, Core, Entry, Event, LinkRead, LinkWrite, NoMemory, ReadOnce,
+    ServerInfo, StepError, StepReply, Turn, WriteOnce, usual_server,
 };
 use nats_outside::{Dialer, FakeDialer, FakeLink, FakeRead, FakeWrite};
 use nats_row_words::words::{say, say_event, say_number, say_reply, say_take};
@@ -69,7 +69,9 @@ fn step_copy(
 
 fn step_elsewhere(alloc: Global, core: &mut Core, out: &mut Vec<u8>) -> Result<(), NoMemory> {
     let answer = core.step_on(alloc, OTHER_LINK, Turn::Tick);
-    say_step(out, &answer)
+    let said = say_step(out, &answer);
+    drop(answer);
+    said
 }
 
 fn say_submitted(out: &mut Vec<u8>, answer: &Result<CallReply, Call>) -> Result<(), NoMemory> {
@@ -100,18 +102,32 @@ fn say_journal(out: &mut Vec<u8>, entries: &[Entry]) -> Result<(), NoMemory> {
     Ok(())
 }
 
-fn hand_out(alloc: Global, core: &mut Core, out: &mut Vec<u8>) -> Result<(), NoMemory> {
-    match core.next_event() {
-        Some(event) => say_event(alloc, out, &event),
+fn say_next(alloc: Global, out: &mut Vec<u8>, event: &Option<Event>) -> Result<(), NoMemory> {
+    match event {
+        Some(event) => say_event(alloc, out, event),
         None => say(out, " no event"),
     }
 }
 
-fn say_ticket(core: &mut Core, out: &mut Vec<u8>) -> Result<(), NoMemory> {
-    match core.reply_of(1) {
-        Some(reply) => say_reply(out, &reply),
+fn hand_out(alloc: Global, core: &mut Core, out: &mut Vec<u8>) -> Result<(), NoMemory> {
+    let event = core.next_event();
+    let said = say_next(alloc, out, &event);
+    drop(event);
+    said
+}
+
+fn say_settled(out: &mut Vec<u8>, reply: &Option<CallReply>) -> Result<(), NoMemory> {
+    match reply {
+        Some(reply) => say_reply(out, reply),
         None => say(out, " unsettled"),
     }
+}
+
+fn say_ticket(core: &mut Core, out: &mut Vec<u8>) -> Result<(), NoMemory> {
+    let reply = core.reply_of(1);
+    let said = say_settled(out, &reply);
+    drop(reply);
+    said
 }
 
 fn drive(
@@ -148,14 +164,26 @@ fn drive_new(
     driven
 }
 
-fn steps_of(alloc: Global, script: &str, is_kept: bool) -> Result<Vec<u8>, NoMemory> {
-    let mut out = Vec::new(alloc);
-    match read_script(alloc, script.as_bytes())? {
+fn drive_script(
+    alloc: Global,
+    out: &mut Vec<u8>,
+    script: &Script,
+    is_kept: bool,
+) -> Result<(), NoMemory> {
+    match script {
         Script::Good { config, turns } => {
-            drive_new(alloc, &mut out, &config, turns.as_slice(), is_kept)?
+            drive_new(alloc, out, config, turns.as_slice(), is_kept)
         }
-        Script::Bad(line) => say_number(&mut out, "line", line)?,
+        Script::Bad(line) => say_number(out, "line", *line),
     }
+}
+
+fn steps_of(alloc: Global, script: &str, is_kept: bool) -> Result<Vec<u8>, NoMemory> {
+    let script = read_script(alloc, script.as_bytes())?;
+    let mut out = Vec::new(alloc);
+    let driven = drive_script(alloc, &mut out, &script, is_kept);
+    drop(script);
+    driven?;
     Ok(out)
 }
 
@@ -190,10 +218,13 @@ fn bring_up(alloc: Global, core: &mut Core) -> Result<(), NoMemory> {
 // The halves of a link in memory that gives this text and takes 4 bytes at a write.
 fn halves(alloc: Global, text: &str) -> Result<(FakeRead, FakeWrite), NoMemory> {
     let bytes = Bytes::copy_from_slice(alloc, text.as_bytes())?;
-    let links = vec![in alloc; FakeLink::new(alloc, bytes, 4)?]?;
+    let link = FakeLink::new(alloc, bytes, 4)?;
+    let links = vec![in alloc; link]?;
     let home = SocketAddr::new(IpAddr::V4(Ipv4Addr::LOCALHOST), 4222);
     let mut dialer = FakeDialer::told(alloc, links);
-    dialer.dial(&home, 5_000).map_err(|_| NoMemory)
+    let halves = dialer.dial(&home, 5_000);
+    drop(dialer);
+    halves.map_err(|_| NoMemory)
 }
 
 fn reads<L: LinkRead>(core: &mut Core, alloc: Global, link: &mut L) -> Option<ReadOnce> {
@@ -227,12 +258,32 @@ fn answers_a_ping(
     )
 }
 
+/// What news came: a link's INFO with its number, or want of memory.
+type News = Result<Option<(u64, ServerInfo)>, NoMemory>;
+
+fn number_of(news: &News) -> Result<Option<u64>, NoMemory> {
+    match news {
+        Ok(Some((number, _))) => Ok(Some(*number)),
+        Ok(None) => Ok(None),
+        Err(NoMemory) => Err(NoMemory),
+    }
+}
+
+/// The number of the INFO that came after so many, where one did.
+fn news_after(alloc: Global, core: &Core, seen: u64) -> Result<Option<u64>, NoMemory> {
+    let news = core.news(alloc, seen);
+    let number = number_of(&news);
+    drop(news);
+    number
+}
+
 fn tells_of_an_info(alloc: Global, core: &mut Core, read: &mut FakeRead) -> Result<bool, NoMemory> {
-    let is_none = core.news(alloc, 0)?.is_none();
+    let before = news_after(alloc, core, 0)?;
     let is_read = reads(core, alloc, read) == Some(ReadOnce::Played(4))
         && reads(core, alloc, read) == Some(ReadOnce::Played(3));
-    let is_news = matches!(core.news(alloc, 0)?, Some((1, _)));
-    Ok(is_none && is_read && is_news && core.news(alloc, 1)?.is_none())
+    let behind = news_after(alloc, core, 0)?;
+    let last = news_after(alloc, core, 1)?;
+    Ok(is_read && (before, behind, last) == (None, Some(1), None))
 }
 
 fn is_lost(alloc: Global, core: &mut Core, read: &mut FakeRead) -> bool {

@@ -234,6 +234,11 @@ fn push_rows(alloc: Global, rows: &mut Transcript) -> Result<(), NoMemory> {
     rows.tickets.push(alloc, Some((7, CallReply::FlushFailed)))
 }
 
+fn print_rows(alloc: Global, rows: &mut Transcript) -> Result<Vec<u8>, NoMemory> {
+    push_rows(alloc, rows)?;
+    print_transcript(alloc, rows)
+}
+
 fn printed_rows(alloc: Global) -> Result<Vec<u8>, NoMemory> {
     let mut rows = Transcript {
         links: Seq::new(alloc),
@@ -242,8 +247,9 @@ fn printed_rows(alloc: Global) -> Result<Vec<u8>, NoMemory> {
         calls: Seq::new(alloc),
         tickets: Seq::new(alloc),
     };
-    push_rows(alloc, &mut rows)?;
-    print_transcript(alloc, &rows)
+    let printed = print_rows(alloc, &mut rows);
+    drop(rows);
+    printed
 }
 
 /// Whether rows of every kind are printed.

@@ -89,10 +89,12 @@ pub fn flushes_settle(alloc: Global) -> Result<bool, NoMemory> {
 }
 
 fn reply_at(alloc: Global, subject: &str) -> Result<Message, NoMemory> {
+    let subject = Subject::from_text(alloc, subject)?;
+    let payload = Bytes::copy_from_slice(alloc, b"hi")?;
     Ok(Message {
-        subject: Subject::from_text(alloc, subject)?,
+        subject,
         reply: None,
-        payload: Bytes::copy_from_slice(alloc, b"hi")?,
+        payload,
         headers: None,
         status: None,
         description: None,

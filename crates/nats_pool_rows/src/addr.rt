@@ -1,8 +1,9 @@
 //! Addresses, lists of them, and who is asked for them.
+use crate::outside::home;
+use crate::says::push;
 use nats_addr::{AddrError, FakeResolver, ResolveError, ServerAddr, ToServerAddrs, addrs_of_texts};
 use nats_rows::{Bad, push_bytes, push_optional, push_word, string_of};
 use std::alloc::Global;
-use std::net::{IpAddr, Ipv4Addr, SocketAddr};
 
 /// How an address is refused, or that memory was wanting.
 pub fn refusal(error: AddrError) -> Result<&'static str, Bad> {
@@ -16,13 +17,13 @@ pub fn refusal(error: AddrError) -> Result<&'static str, Bad> {
 /// Appends the scheme, host and port of an address.
 fn push_parts(alloc: Global, addr: &ServerAddr, out: &mut String) -> Result<(), Bad> {
     let (scheme, host, port) = (addr.scheme(), addr.host(), addr.port());
-    Ok(out.push_str(format!(in alloc; "{scheme} {host} {port}")?.as_str())?)
+    push(out, format!(in alloc; "{scheme} {host} {port}")?.as_str())
 }
 
 fn push_addr(alloc: Global, text: &str, out: &mut String) -> Result<(), Bad> {
     match ServerAddr::parse(alloc, text) {
         Ok(addr) => push_parts(alloc, &addr, out),
-        Err(error) => Ok(out.push_str(refusal(error)?)?),
+        Err(error) => push(out, refusal(error)?),
     }
 }
 
@@ -30,30 +31,50 @@ fn parsed(alloc: Global, text: &str) -> Result<ServerAddr, Bad> {
     ServerAddr::parse(alloc, text).map_err(|_| Bad::Form)
 }
 
+fn is_copied(alloc: Global, addr: &ServerAddr) -> Result<bool, Bad> {
+    let copy = addr.copy(alloc)?;
+    let is_same = copy == *addr;
+    drop(copy);
+    Ok(is_same)
+}
+
 /// Appends what an address tells: its user and password, what is printed of it, whether its copy is equal, and its
 /// kinds.
 fn push_told(alloc: Global, addr: &ServerAddr, out: &mut String) -> Result<(), Bad> {
-    let has_both = addr.has_user_pass();
     push_optional(out, addr.username())?;
     out.push(' ')?;
     push_optional(out, addr.password())?;
-    out.push_str(format!(in alloc; " both={has_both} {addr:?}")?.as_str())?;
-    let is_same = addr.copy(alloc)? == *addr;
+    let (both, same) = (addr.has_user_pass(), is_copied(alloc, addr)?);
     let (tls, ws) = (addr.tls_required(), addr.is_websocket());
-    Ok(out.push_str(format!(in alloc; " copied={is_same} tls={tls} ws={ws}")?.as_str())?)
+    let told = format!(in alloc; " both={both} {addr:?} copied={same} tls={tls} ws={ws}")?;
+    push(out, told.as_str())
 }
 
-/// Appends the text of an address, and again that of the address that its URL is made into.
-fn push_urls(addr: ServerAddr, out: &mut String) -> Result<(), Bad> {
-    push_word(out, addr.as_url_str().as_bytes())?;
-    let again = ServerAddr::from_url(addr.into_inner()).map_err(|_| Bad::Form)?;
-    Ok(push_word(out, again.into_inner().as_str().as_bytes())?)
+/// The address that the URL of an address is made into.
+fn again(addr: ServerAddr) -> Result<ServerAddr, Bad> {
+    ServerAddr::from_url(addr.into_inner()).map_err(|_| Bad::Form)
 }
 
+fn push_url(addr: ServerAddr, out: &mut String) -> Result<(), Bad> {
+    let url = addr.into_inner();
+    let pushed = push_word(out, url.as_str().as_bytes());
+    drop(url);
+    Ok(pushed?)
+}
+
+/// Appends what an address tells, and its text.
+fn push_text(alloc: Global, addr: &ServerAddr, out: &mut String) -> Result<(), Bad> {
+    push_told(alloc, addr, out)?;
+    Ok(push_word(out, addr.as_url_str().as_bytes())?)
+}
+
+/// Appends what an address tells, its text, and again that of the address that its URL is made into.
 fn push_secret(alloc: Global, text: &str, out: &mut String) -> Result<(), Bad> {
     let addr = parsed(alloc, text)?;
-    push_told(alloc, &addr, out)?;
-    push_urls(addr, out)
+    let pushed = push_text(alloc, &addr, out);
+    let again = again(addr)?;
+    let url = push_url(again, out);
+    pushed.and(url)
 }
 
 fn count<A: ToServerAddrs>(alloc: Global, source: &A) -> usize {
@@ -69,9 +90,9 @@ fn push_list(alloc: Global, texts: &str, out: &mut String) -> Result<(), Bad> {
     match addrs_of_texts(alloc, texts.as_slice()) {
         Ok(addrs) => {
             let (len, counted) = (addrs.len(), count(alloc, &addrs));
-            Ok(out.push_str(format!(in alloc; "{len} {counted}")?.as_str())?)
+            push(out, format!(in alloc; "{len} {counted}")?.as_str())
         }
-        Err(error) => Ok(out.push_str(refusal(error)?)?),
+        Err(error) => push(out, refusal(error)?),
     }
 }
 
@@ -80,11 +101,10 @@ fn push_counts(alloc: Global, out: &mut String) -> Result<(), Bad> {
     let text = String::from_str(alloc, "a")?;
     let (of_text, of_addr) = (count(alloc, &text), count(alloc, &parsed(alloc, "a")?));
     let of_list = count(alloc, &vec![in alloc; text]?);
-    Ok(out.push_str(format!(in alloc; "{of_text} {of_addr} {of_list}")?.as_str())?)
-}
-
-fn home() -> SocketAddr {
-    SocketAddr::new(IpAddr::V4(Ipv4Addr::LOCALHOST), 4222)
+    push(
+        out,
+        format!(in alloc; "{of_text} {of_addr} {of_list}")?.as_str(),
+    )
 }
 
 /// Appends what a resolver gives first for the host and the port of an address.
@@ -103,18 +123,37 @@ fn push_first(
         Err(ResolveError::Failed) => "failed ",
         Err(ResolveError::NoMemory) => "no memory ",
     };
-    Ok(out.push_str(word)?)
+    push(out, word)
+}
+
+/// Asks a resolver twice, and another one once.
+fn push_asked(
+    alloc: Global,
+    addr: &ServerAddr,
+    twice: &mut FakeResolver,
+    once: &mut FakeResolver,
+    out: &mut String,
+) -> Result<(), Bad> {
+    push_first(alloc, addr, twice, out)?;
+    push_first(alloc, addr, twice, out)?;
+    push_first(alloc, addr, once, out)
+}
+
+fn push_failed(alloc: Global, out: &mut String) -> Result<(), Bad> {
+    let text = ResolveError::Failed.to_string(alloc)?;
+    Ok(push_bytes(out, text.as_bytes())?)
 }
 
 /// Asks a resolver that fails at the second asking twice, and one that refuses once.
 fn push_resolved(alloc: Global, out: &mut String) -> Result<(), Bad> {
+    let homes = vec![in alloc; home()]?;
+    let failing = vec![in alloc; 2]?;
     let addr = parsed(alloc, "h")?;
-    let mut resolver = FakeResolver::failing(vec![in alloc; home()]?, vec![in alloc; 2]?);
-    push_first(alloc, &addr, &mut resolver, out)?;
-    push_first(alloc, &addr, &mut resolver, out)?;
-    push_first(alloc, &addr, &mut FakeResolver::refusing(alloc), out)?;
-    let text = ResolveError::Failed.to_string(alloc)?;
-    Ok(push_bytes(out, text.as_bytes())?)
+    let mut failing = FakeResolver::failing(homes, failing);
+    let mut refusing = FakeResolver::refusing(alloc);
+    let pushed = push_asked(alloc, &addr, &mut failing, &mut refusing, out);
+    let failed = push_failed(alloc, out);
+    pushed.and(failed)
 }
 
 /// Answers a question on addresses, and tells whether it is one.

@@ -1,4 +1,5 @@
 //! What a client tells of itself by its credentials.
+use crate::says::push;
 use nats_handshake::{
     Auth, ConnectInfo, ConnectOptions, Refusal, connect_info, connect_text, credentials,
 };
@@ -55,7 +56,7 @@ fn push_offered(alloc: Global, out: &mut String) -> Result<(), Bad> {
     let word = offer_word(&offered);
     drop(offered);
     drop(options);
-    Ok(out.push_str(word)?)
+    push(out, word)
 }
 
 /// Answers a question on credentials, and tells whether it is one.

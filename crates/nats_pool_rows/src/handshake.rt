@@ -1,5 +1,6 @@
 //! A handshake as a machine by its calls: `handshake`, an address and the calls, each answered by a word; and what
 //! the words of a server in a handshake come to.
+use crate::says::{push, push_number};
 use nats_handshake::{
     ConnectError, ConnectErrorKind, ConnectOptions, Course, Greeting, HANDSHAKE_OPERATIONS,
     Handshake, Shake, Verdict, read_course, read_greeting,
@@ -159,7 +160,7 @@ fn push_call(
         return push_texts(shaking.skipped(), out);
     }
     let (verb, word) = call.split_once(',').ok_or(Bad::Form)?;
-    Ok(out.push_str(called(alloc, shaking, verb, word)?)?)
+    push(out, called(alloc, shaking, verb, word)?)
 }
 
 fn push_calls(
@@ -185,10 +186,11 @@ fn push_ended(
     match ended {
         Some((info, rest)) => {
             let most = info.max_payload;
-            out.push_str(format!(in alloc; "ended {most}")?.as_str())?;
+            push(out, "ended ")?;
+            push_number(alloc, most, out)?;
             Ok(push_word(out, rest.as_slice())?)
         }
-        None => Ok(out.push_str("unfinished")?),
+        None => push(out, "unfinished"),
     }
 }
 
@@ -206,10 +208,9 @@ fn push_handshake(alloc: Global, rest: &str, out: &mut String) -> Result<(), Bad
         Ok(mut shaking) => {
             let pushed = push_calls(alloc, &mut shaking, calls, out);
             let ended = push_finished(alloc, shaking, out);
-            pushed?;
-            ended
+            pushed.and(ended)
         }
-        Err(word) => Ok(out.push_str(word)?),
+        Err(word) => push(out, word),
     }
 }
 
@@ -227,7 +228,7 @@ fn push_greeting(alloc: Global, text: &[u8], out: &mut String) -> Result<(), Bad
     let greeting = read_greeting(alloc, text)?;
     let word = greeting_word(&greeting);
     drop(greeting);
-    Ok(out.push_str(word)?)
+    push(out, word)
 }
 
 fn verdict_word(verdict: &Verdict) -> &'static str {
@@ -240,7 +241,9 @@ fn verdict_word(verdict: &Verdict) -> &'static str {
 
 fn push_told(alloc: Global, course: &Course, out: &mut String) -> Result<(), Bad> {
     let (word, taken) = (verdict_word(&course.verdict), course.taken);
-    out.push_str(format!(in alloc; "{word} {taken}")?.as_str())?;
+    push(out, word)?;
+    push(out, " ")?;
+    push_number(alloc, taken as u64, out)?;
     Ok(push_word(out, course.out.as_slice())?)
 }
 

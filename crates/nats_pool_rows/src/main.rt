@@ -10,6 +10,7 @@ mod handshake;
 mod outside;
 mod pool;
 mod round;
+mod says;
 mod shake;
 
 use nats_rows::{Answers, Bad, Fault, answer_rows};

@@ -1,4 +1,5 @@
 //! The outside in memory, all parts of it in turn.
+use crate::says::{push, push_number};
 use bytes::Bytes;
 use nats_outside::{
     Clock, Dialer, Draw, FakeClock, FakeDialer, FakeDraw, FakeLink, FakeRead, FakeResolver,
@@ -27,21 +28,27 @@ fn hello(alloc: Global) -> Result<FakeLink, Bad> {
 
 /// One link; the second dial fails.
 fn dialer(alloc: Global) -> Result<FakeDialer, Bad> {
+    let failing = vec![in alloc; 2]?;
     let links = vec![in alloc; hello(alloc)?]?;
-    Ok(FakeDialer::failing(alloc, links, vec![in alloc; 2]?))
+    Ok(FakeDialer::failing(alloc, links, failing))
 }
 
 fn memory(alloc: Global) -> Result<Memory, Bad> {
+    let homes = vec![in alloc; home()]?;
+    let times = vec![in alloc; 5, 8]?;
+    let drawn = vec![in alloc; 9]?;
+    let dialer = dialer(alloc)?;
     Ok(Joined {
-        dialer: dialer(alloc)?,
-        resolver: FakeResolver::told(alloc, vec![in alloc; home()]?),
-        clock: FakeClock::told(vec![in alloc; 5, 8]?),
-        draw: FakeDraw::told(vec![in alloc; 9]?),
+        dialer,
+        resolver: FakeResolver::told(alloc, homes),
+        clock: FakeClock::told(times),
+        draw: FakeDraw::told(drawn),
     })
 }
 
-fn push_number(alloc: Global, number: u64, out: &mut String) -> Result<(), Bad> {
-    Ok(out.push_str(format!(in alloc; " {number}")?.as_str())?)
+fn push_next(alloc: Global, number: u64, out: &mut String) -> Result<(), Bad> {
+    push(out, " ")?;
+    push_number(alloc, number, out)
 }
 
 /// Appends what a read of four bytes gives.
@@ -49,8 +56,8 @@ fn push_read(link: &mut FakeRead, out: &mut String) -> Result<(), Bad> {
     let mut buf = [0u8; 4];
     match link.read(&mut buf) {
         Ok(count) if count <= 4 => Ok(push_word(out, &buf[..count])?),
-        Ok(_) => Ok(out.push_str(" too-much")?),
-        Err(_) => Ok(out.push_str(" failed")?),
+        Ok(_) => push(out, " too-much"),
+        Err(_) => push(out, " failed"),
     }
 }
 
@@ -61,39 +68,47 @@ fn push_write(
     out: &mut String,
 ) -> Result<(), Bad> {
     match link.write_pieces(pieces) {
-        Ok(count) => push_number(alloc, count as u64, out),
-        Err(_) => Ok(out.push_str(" failed")?),
+        Ok(count) => push_next(alloc, count as u64, out),
+        Err(_) => push(out, " failed"),
     }
+}
+
+/// Writes pieces twice, and appends what the link took.
+fn push_twice(
+    alloc: Global,
+    link: &mut FakeWrite,
+    pieces: &[Bytes],
+    out: &mut String,
+) -> Result<(), Bad> {
+    push_write(alloc, link, pieces, out)?;
+    push_write(alloc, link, pieces, out)?;
+    Ok(push_word(out, link.taken())?)
 }
 
 /// Writes two pieces twice, and appends what the link took.
 fn push_written(alloc: Global, link: &mut FakeWrite, out: &mut String) -> Result<(), Bad> {
-    let pieces = [
-        Bytes::copy_from_slice(alloc, b"ab")?,
-        Bytes::copy_from_slice(alloc, b"cd")?,
-    ];
-    push_write(alloc, link, &pieces, out)?;
-    push_write(alloc, link, &pieces, out)?;
-    Ok(push_word(out, link.taken())?)
+    let first = Bytes::copy_from_slice(alloc, b"ab")?;
+    let second = Bytes::copy_from_slice(alloc, b"cd")?;
+    push_twice(alloc, link, &[first, second], out)
 }
 
 /// Appends when the clock starts, twice what it shows after a sleep, and what is drawn.
 fn push_times<W: Reach>(alloc: Global, world: &mut W, out: &mut String) -> Result<(), Bad> {
     let start = seen::start_ms(world);
     seen::sleep_ms(world, 1);
-    push_number(alloc, start, out)?;
+    push_next(alloc, start, out)?;
     let now = seen::now_ms(world);
-    push_number(alloc, now, out)?;
+    push_next(alloc, now, out)?;
     let again = seen::now_ms(world);
-    push_number(alloc, again, out)?;
+    push_next(alloc, again, out)?;
     let drawn = world.draw();
-    push_number(alloc, drawn, out)
+    push_next(alloc, drawn, out)
 }
 
 fn push_resolved(alloc: Global, world: &mut Memory, out: &mut String) -> Result<(), Bad> {
     match seen::resolve(world, alloc, "h", 4222) {
-        Ok(addresses) => push_number(alloc, addresses.len() as u64, out),
-        Err(_) => Ok(out.push_str(" failed")?),
+        Ok(addresses) => push_next(alloc, addresses.len() as u64, out),
+        Err(_) => push(out, " failed"),
     }
 }
 
@@ -122,16 +137,29 @@ fn push_link(alloc: Global, world: &mut Memory, out: &mut String) -> Result<(), 
             seen::hang_up(world, read, write);
             used
         }
-        Err(_) => Ok(out.push_str(" no-link")?),
+        Err(_) => push(out, " no-link"),
     }
+}
+
+fn is_dialed(world: &mut Memory) -> bool {
+    let dialed = seen::dial(world, &home(), DIAL_TIMEOUT);
+    let is_dialed = dialed.is_ok();
+    drop(dialed);
+    is_dialed
 }
 
 fn push_world(alloc: Global, world: &mut Memory, out: &mut String) -> Result<(), Bad> {
     push_times(alloc, world, out)?;
     push_resolved(alloc, world, out)?;
     push_link(alloc, world, out)?;
-    let is_dialed = seen::dial(world, &home(), DIAL_TIMEOUT).is_ok();
-    Ok(out.push_str(if is_dialed { " a-link" } else { " no-link" })?)
+    push(
+        out,
+        if is_dialed(world) {
+            " a-link"
+        } else {
+            " no-link"
+        },
+    )
 }
 
 /// Appends what the outside in memory gives, each part in turn.

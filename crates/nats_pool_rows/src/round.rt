@@ -3,6 +3,7 @@
 //! the times that the clock shows, `homeless` with hosts that have no address, and `demands` with TLS demanded.
 use crate::handshake::{begun, push_texts};
 use crate::outside::{Memory, home};
+use crate::says::{push, push_number};
 use crate::shake::link;
 use nats_dial::{ConnectError, ConnectOptions, Handshake, Linked, try_connect};
 use nats_outside::{
@@ -54,14 +55,15 @@ struct Around<'a> {
 
 /// A world in memory whose links give these words.
 fn world(alloc: Global, words: &[&str], around: &Around) -> Result<Memory, Bad> {
+    let dial = vec![in alloc; around.dial]?;
+    let asking = vec![in alloc; around.asking]?;
+    let homes = around.homes.to_vec(alloc)?;
+    let times = around.times.to_vec(alloc)?;
     let links = links(alloc, words)?;
     Ok(Joined {
-        dialer: FakeDialer::failing(alloc, links, vec![in alloc; around.dial]?),
-        resolver: FakeResolver::failing(
-            around.homes.to_vec(alloc)?,
-            vec![in alloc; around.asking]?,
-        ),
-        clock: FakeClock::told(around.times.to_vec(alloc)?),
+        dialer: FakeDialer::failing(alloc, links, dial),
+        resolver: FakeResolver::failing(homes, asking),
+        clock: FakeClock::told(times),
         draw: FakeDraw::told(Vec::new(alloc)),
     })
 }
@@ -109,10 +111,9 @@ fn push_server(alloc: Global, server: &Server, out: &mut String) -> Result<(), B
     let (failed, did_connect) = (server.failed_attempts, server.did_connect);
     out.push_str(format!(in alloc; ", {failed} {did_connect}")?.as_str())?;
     match &server.last_error {
-        Some(text) => push_word(out, text.as_str().as_bytes())?,
-        None => out.push_str(" ~")?,
+        Some(text) => Ok(push_word(out, text.as_str().as_bytes())?),
+        None => push(out, " ~"),
     }
-    Ok(())
 }
 
 /// Appends what a pool knows of its first server, and how many servers it has.
@@ -121,8 +122,8 @@ fn push_known(alloc: Global, pool: &Pool, out: &mut String) -> Result<(), Bad> {
     if let Some(server) = servers.as_slice().first() {
         push_server(alloc, server, out)?;
     }
-    let count = servers.len();
-    Ok(out.push_str(format!(in alloc; ", {count}")?.as_str())?)
+    push(out, ", ")?;
+    push_number(alloc, servers.len() as u64, out)
 }
 
 fn push_in_world<P: Rounds>(
@@ -141,7 +142,18 @@ fn push_in_world<P: Rounds>(
 fn limit_of(word: &str) -> Result<Option<usize>, Bad> {
     match word {
         "~" => Ok(None),
-        word => Ok(Some(word.parse().map_err(|_| Bad::Form)?)),
+        word => word.parse().map(Some).map_err(|_| Bad::Form),
+    }
+}
+
+/// The options of a pool with this limit of attempts, whose order stays.
+fn options(max_reconnects: Option<usize>) -> PoolOptions {
+    PoolOptions {
+        max_reconnects,
+        retain_servers_order: true,
+        ignore_discovered_servers: false,
+        delay: Delay::Default,
+        choice: None,
     }
 }
 
@@ -155,19 +167,11 @@ fn push_over(
     around: &Around,
     out: &mut String,
 ) -> Result<(), Bad> {
-    let options = PoolOptions {
-        max_reconnects,
-        retain_servers_order: true,
-        ignore_discovered_servers: false,
-        delay: Delay::Default,
-        choice: None,
-    };
-    let mut pool = Pool::new(alloc, addrs, options, 1)?;
+    let mut pool = Pool::new(alloc, addrs, options(max_reconnects), 1)?;
     let pushed = push_in_world(alloc, &mut pool, links, around, out);
     let known = push_known(alloc, &pool, out);
     drop(pool);
-    pushed?;
-    known
+    pushed.and(known)
 }
 
 /// Appends what a round comes to in which the time stands still and each host has two addresses.
@@ -184,14 +188,17 @@ pub fn push_round(alloc: Global, rest: &str, out: &mut String) -> Result<(), Bad
         asking: number_of(asking)?,
         demands_tls: false,
     };
-    push_over(
-        alloc,
-        addrs_of(alloc, addrs)?,
-        limit_of(limit)?,
-        links,
-        &around,
-        out,
-    )
+    let limit = limit_of(limit)?;
+    push_over(alloc, addrs_of(alloc, addrs)?, limit, links, &around, out)
+}
+
+/// The times with commas between them.
+fn times_of(alloc: Global, texts: &str) -> Result<Vec<u64>, Bad> {
+    let mut times = Vec::new(alloc);
+    for text in texts.split(',') {
+        times.push(number_of(text)?)?;
+    }
+    Ok(times)
 }
 
 /// Appends what a round comes to in which the clock shows these times.
@@ -200,10 +207,7 @@ pub fn push_late(alloc: Global, rest: &str, out: &mut String) -> Result<(), Bad>
     let [addrs, texts, links @ ..] = words.as_slice() else {
         return Err(Bad::Form);
     };
-    let mut times = Vec::new(alloc);
-    for text in texts.split(',') {
-        times.push(number_of(text)?)?;
-    }
+    let times = times_of(alloc, texts)?;
     let homes = [home(), home()];
     let around = Around {
         times: times.as_slice(),
@@ -272,7 +276,7 @@ fn push_taken<P: ServerList>(
     let mut shaking = begun(alloc, "a", 0).map_err(|_| Bad::NoMemory)?;
     let is_read = takes_in(alloc, &mut shaking, pool, info);
     drop(shaking);
-    Ok(out.push_str(if is_read { "read" } else { "refused" })?)
+    push(out, if is_read { "read" } else { "refused" })
 }
 
 /// Appends whether a handshake reads an INFO, whose servers a pool takes in, and what the pool knows then.
@@ -280,17 +284,9 @@ pub fn push_taken_in(alloc: Global, rest: &str, out: &mut String) -> Result<(), 
     let (addrs, word) = rest.split_once(' ').ok_or(Bad::Form)?;
     let info = spelled_bytes(alloc, word)?;
     let addrs = addrs_of(alloc, addrs)?;
-    let options = PoolOptions {
-        max_reconnects: None,
-        retain_servers_order: true,
-        ignore_discovered_servers: false,
-        delay: Delay::Default,
-        choice: None,
-    };
-    let mut pool = Pool::new(alloc, addrs, options, 1)?;
+    let mut pool = Pool::new(alloc, addrs, options(None), 1)?;
     let pushed = push_taken(alloc, &mut pool, info.as_slice(), out);
     let known = push_known(alloc, &pool, out);
     drop(pool);
-    pushed?;
-    known
+    pushed.and(known)
 }

@@ -2,6 +2,7 @@
 //! `unread` and that time, where the link's first read fails.
 use crate::handshake::{NoServers, begun, kind_word, push_finished};
 use crate::outside::{DIAL_TIMEOUT, home};
+use crate::says::push;
 use bytes::Bytes;
 use nats_dial::{ConnectOptions, Handshake, shake_hands};
 use nats_outside::{Dialer, FakeClock, FakeDialer, FakeLink, FakeRead, FakeWrite};
@@ -66,13 +67,27 @@ fn shakes(
     Ok(shaken_word(alloc, shaking, halves, &mut clock))
 }
 
+fn push_word_of(
+    alloc: Global,
+    shaking: &mut Handshake,
+    link: FakeLink,
+    last: u64,
+    out: &mut String,
+) -> Result<(), Bad> {
+    push(out, shakes(alloc, shaking, link, last)?)?;
+    push(out, " ")
+}
+
 /// Appends what a handshake over this link comes to, and what came behind it.
 fn push_over(alloc: Global, link: FakeLink, last: u64, out: &mut String) -> Result<(), Bad> {
-    let mut shaking = begun(alloc, "a", 0).map_err(|_| Bad::NoMemory)?;
-    let shaken = shakes(alloc, &mut shaking, link, last);
-    out.push_str(shaken?)?;
-    out.push(' ')?;
-    push_finished(alloc, shaking, out)
+    match begun(alloc, "a", 0) {
+        Ok(mut shaking) => {
+            let pushed = push_word_of(alloc, &mut shaking, link, last, out);
+            let ended = push_finished(alloc, shaking, out);
+            pushed.and(ended)
+        }
+        Err(_) => Err(Bad::NoMemory),
+    }
 }
 
 /// Appends what a handshake over a link of this text comes to, and what came behind it.

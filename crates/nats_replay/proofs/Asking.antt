@@ -3,6 +3,7 @@ use Rattle.std.proofs.Common.{◌≡◌, ◌≢◌, ◌⊎◌, inl, inr, refl, �
 use Rattle.std.proofs.lemmas.Option.{none-some, same_Some}
 use Rattle.std.specs.Prelude.{codes}
 use Rattle.std.specs.Io.KnownBytes.{Appends}
+use Rattle.nats_seat_text.specs.Asked.{seats_asked}
 use Rattle.nats_replay.specs.declared.top.Refusal.{Refusal}
 use Rattle.nats_replay.specs.declared.top.Refusal.TheVariants.{ReadFault, NoMemory, TooLong}
 use Rattle.nats_replay.specs.declared.top.Output.{Output}
@@ -38,6 +39,14 @@ pub not_receives : (words : List (List ℕ)) (addr subject : List ℕ) (n : ℕ)
     → live_of words ≡ receives addr subject n → ⊥
 not_receives words addr subject n other is =
     let no : others ≡ receives addr subject n = sym other ∙ is in cc
+
+-- the same of words that ask for workers
+pub seats_alone : (words : List (List ℕ)) (asked : ℕ × ℕ) → Some asked ≡ seats_asked words → Alone words
+seats_alone [] asked is = absurd (none-some asked (sym is))
+seats_alone (w ∷ []) asked is = absurd (none-some asked (sym is))
+seats_alone (w ∷ v ∷ []) asked is = absurd (none-some asked (sym is))
+seats_alone (w ∷ v ∷ u ∷ []) asked is = (three_not_run w v u, refl, refl)
+seats_alone (w ∷ v ∷ u ∷ t ∷ words) asked is = absurd (none-some asked (sym is))
 
 -- ---- what is answered
 

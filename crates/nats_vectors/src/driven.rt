@@ -9,8 +9,8 @@ use nats_row_words::words::{
 };
 use nats_script::{Script, print_transcript, read_script};
 use nats_session::{
-    Call, CallReply, Config, ConnectionHandler, RunError, ServerInfo, Statistics, Transcript, Turn,
-    run,
+    Call, CallReply, Config, ConnectionHandler, Event, RunError, ServerInfo, Statistics, TakeReply,
+    Transcript, Turn, run,
 };
 use std::alloc::Global;
 
@@ -123,6 +123,13 @@ fn submit(
     said
 }
 
+fn say_copy(alloc: Global, out: &mut Vec<u8>, reply: &TakeReply) -> Result<(), NoMemory> {
+    let copy = reply.copy(alloc)?;
+    let said = say_take(out, &copy);
+    drop(copy);
+    said
+}
+
 fn take(
     alloc: Global,
     handler: &mut ConnectionHandler,
@@ -132,7 +139,9 @@ fn take(
     requires { IsTrue (can_play handler.old.parts (turns.Take s)) }
 {
     let reply = handler.take(s);
-    say_take(out, &reply.copy(alloc)?)
+    let said = say_copy(alloc, out, &reply);
+    drop(reply);
+    said
 }
 
 fn deadline(handler: &mut ConnectionHandler, out: &mut Vec<u8>, t: u64) -> Result<(), NoMemory>
@@ -202,18 +211,23 @@ fn settle(
     Ok(())
 }
 
+/// Says an event, where there is one, and tells whether there was.
+fn say_next(alloc: Global, out: &mut Vec<u8>, event: &Option<Event>) -> Result<bool, NoMemory> {
+    match event {
+        Some(event) => say_event(alloc, out, event).map(|()| true),
+        None => Ok(false),
+    }
+}
+
 fn hand_out(
     alloc: Global,
     handler: &mut ConnectionHandler,
     out: &mut Vec<u8>,
 ) -> Result<bool, NoMemory> {
-    match handler.next_event() {
-        Some(event) => {
-            say_event(alloc, out, &event)?;
-            Ok(true)
-        }
-        None => Ok(false),
-    }
+    let event = handler.next_event();
+    let said = say_next(alloc, out, &event);
+    drop(event);
+    said
 }
 
 fn hand_out_all(
@@ -229,11 +243,18 @@ fn hand_out_all(
     Ok(())
 }
 
-fn hand_reply(handler: &mut ConnectionHandler, out: &mut Vec<u8>, t: u64) -> Result<(), NoMemory> {
-    match handler.reply_of(t) {
-        Some(reply) => say_ticket(out, t, &reply),
+fn say_settled(out: &mut Vec<u8>, t: u64, reply: &Option<CallReply>) -> Result<(), NoMemory> {
+    match reply {
+        Some(reply) => say_ticket(out, t, reply),
         None => Ok(()),
     }
+}
+
+fn hand_reply(handler: &mut ConnectionHandler, out: &mut Vec<u8>, t: u64) -> Result<(), NoMemory> {
+    let reply = handler.reply_of(t);
+    let said = say_settled(out, t, &reply);
+    drop(reply);
+    said
 }
 
 fn hand_replies(handler: &mut ConnectionHandler, out: &mut Vec<u8>) -> Result<(), NoMemory> {
@@ -361,7 +382,16 @@ fn drive(
     turns: &[Turn],
 ) -> Result<(), NoMemory> {
     let mut handler = ConnectionHandler::new(alloc, config.copy(alloc)?)?;
-    play_all(alloc, &mut handler, out, turns)
+    let played = play_all(alloc, &mut handler, out, turns);
+    drop(handler);
+    played
+}
+
+fn drive_script(alloc: Global, out: &mut Vec<u8>, script: &Script) -> Result<(), NoMemory> {
+    match script {
+        Script::Good { config, turns } => drive(alloc, out, config, turns.as_slice()),
+        Script::Bad(line) => say_number(out, "line", *line),
+    }
 }
 
 /// What a session answers to copies of the turns of a script, a line for each: the answer to the turn's own call,
@@ -371,11 +401,11 @@ fn drive(
 /// messages in and out, each with their bytes, the links that came up, how much waits, the youngest message of
 /// subscription 1, the waiting bytes. Where a line cannot be read, its number alone.
 pub fn answers(alloc: Global, script: &str) -> Result<Vec<u8>, NoMemory> {
+    let script = read_script(alloc, script.as_bytes())?;
     let mut out = Vec::new(alloc);
-    match read_script(alloc, script.as_bytes())? {
-        Script::Good { config, turns } => drive(alloc, &mut out, &config, turns.as_slice())?,
-        Script::Bad(line) => say_number(&mut out, "line", line)?,
-    }
+    let driven = drive_script(alloc, &mut out, &script);
+    drop(script);
+    driven?;
     Ok(out)
 }
 
@@ -388,18 +418,29 @@ fn print_played(alloc: Global, played: &Result<Transcript, RunError>) -> Result<
 
 fn transcript_of(alloc: Global, config: &Config, turns: &[Turn]) -> Result<Vec<u8>, NoMemory> {
     let played = run(alloc, config.copy(alloc)?, turns);
-    print_played(alloc, &played)
+    let printed = print_played(alloc, &played);
+    drop(played);
+    printed
+}
+
+fn bad_line(alloc: Global, line: u64) -> Result<Vec<u8>, NoMemory> {
+    let mut out = Vec::new(alloc);
+    say_number(&mut out, "line", line)?;
+    Ok(out)
+}
+
+fn script_transcript(alloc: Global, script: &Script) -> Result<Vec<u8>, NoMemory> {
+    match script {
+        Script::Good { config, turns } => transcript_of(alloc, config, turns.as_slice()),
+        Script::Bad(line) => bad_line(alloc, *line),
+    }
 }
 
 /// The printed transcript of a script that `run` plays, or the text of its refusal. Where a line cannot be read,
 /// its number alone.
 pub fn transcript(alloc: Global, script: &str) -> Result<Vec<u8>, NoMemory> {
-    match read_script(alloc, script.as_bytes())? {
-        Script::Good { config, turns } => transcript_of(alloc, &config, turns.as_slice()),
-        Script::Bad(line) => {
-            let mut out = Vec::new(alloc);
-            say_number(&mut out, "line", line)?;
-            Ok(out)
-        }
-    }
+    let script = read_script(alloc, script.as_bytes())?;
+    let printed = script_transcript(alloc, &script);
+    drop(script);
+    printed
 }

@@ -141,18 +141,42 @@ fn say_refusal(out: &mut Vec<u8>, refusal: RunError) -> Result<(), NoMemory> {
     }
 }
 
+fn say_transcript(
+    alloc: Global,
+    out: &mut Vec<u8>,
+    transcript: &Transcript,
+) -> Result<(), NoMemory> {
+    say_replies(out, transcript)?;
+    say_links(alloc, out, transcript)
+}
+
+fn say_run(
+    alloc: Global,
+    out: &mut Vec<u8>,
+    played: &Result<Transcript, RunError>,
+) -> Result<(), NoMemory> {
+    match played {
+        Ok(transcript) => say_transcript(alloc, out, transcript),
+        Err(refusal) => say_refusal(out, *refusal),
+    }
+}
+
 fn say_sent(
     alloc: Global,
     out: &mut Vec<u8>,
-    config: Config,
+    config: &Config,
     turns: &[Turn],
 ) -> Result<(), NoMemory> {
-    match checked_run(alloc, config, turns) {
-        Ok(transcript) => {
-            say_replies(out, &transcript)?;
-            say_links(alloc, out, &transcript)
-        }
-        Err(refusal) => say_refusal(out, refusal),
+    let played = checked_run(alloc, config.copy(alloc)?, turns);
+    let said = say_run(alloc, out, &played);
+    drop(played);
+    said
+}
+
+fn say_script(alloc: Global, out: &mut Vec<u8>, script: &Script) -> Result<(), NoMemory> {
+    match script {
+        Script::Good { config, turns } => say_sent(alloc, out, config, turns.as_slice()),
+        Script::Bad(line) => say_bad_line(out, *line),
     }
 }
 
@@ -160,10 +184,10 @@ fn say_sent(
 /// reads it back: a line for each command, and a last one on how the text ends. Where a line of the script cannot be
 /// read, or a turn may not come where it stands, its number alone.
 pub fn carried(alloc: Global, script: &str) -> Result<Vec<u8>, NoMemory> {
+    let script = read_script(alloc, script.as_bytes())?;
     let mut out = Vec::new(alloc);
-    match read_script(alloc, script.as_bytes())? {
-        Script::Good { config, turns } => say_sent(alloc, &mut out, config, turns.as_slice())?,
-        Script::Bad(line) => say_bad_line(&mut out, line)?,
-    }
+    let said = say_script(alloc, &mut out, &script);
+    drop(script);
+    said?;
     Ok(out)
 }

@@ -1,5 +1,6 @@
 //! INFO lines, header blocks and the texts of clients.
 use crate::client::{push_first, push_read};
+use crate::says::{push, push_number};
 use nats_block::{Block, BlockError, read_block};
 use nats_info::{InfoError, ServerInfo, read_info};
 use nats_rows::{Bad, push_bytes, push_optional, push_word, spelled_bytes};
@@ -10,7 +11,7 @@ fn push_info(alloc: Global, info: &ServerInfo, out: &mut String) -> Result<(), B
     let copy = info.copy(alloc)?;
     let text = format!(in alloc; "{copy:?}");
     drop(copy);
-    Ok(out.push_str(text?.as_str())?)
+    push(out, text?.as_str())
 }
 
 fn push_default(alloc: Global, out: &mut String) -> Result<(), Bad> {
@@ -25,7 +26,7 @@ fn push_found_info(
 ) -> Result<(), Bad> {
     match read {
         Ok(info) => push_info(alloc, info, out),
-        Err(InfoError::Unreadable) => Ok(out.push_str("unreadable")?),
+        Err(InfoError::Unreadable) => push(out, "unreadable"),
         Err(InfoError::NoMemory) => Err(Bad::NoMemory),
     }
 }
@@ -40,7 +41,8 @@ fn push_read_info(alloc: Global, text: &[u8], out: &mut String) -> Result<(), Ba
 /// Appends what a block says: status, description, and each name with its values.
 fn push_parts(alloc: Global, block: &Block, out: &mut String) -> Result<(), Bad> {
     let status = block.status.map_or(0, |status| status.as_u16());
-    out.push_str(format!(in alloc; "{status} ")?.as_str())?;
+    push_number(alloc, u64::from(status), out)?;
+    push(out, " ")?;
     push_optional(out, block.description.as_ref().map(|text| text.as_str()))?;
     for (name, values) in block.headers.iter() {
         push_word(out, name.as_str().as_bytes())?;
@@ -59,7 +61,7 @@ fn push_found_block(
 ) -> Result<(), Bad> {
     match read {
         Ok(block) => push_parts(alloc, block, out),
-        Err(BlockError::Malformed) => Ok(out.push_str("malformed")?),
+        Err(BlockError::Malformed) => push(out, "malformed"),
         Err(BlockError::NoMemory) => Err(Bad::NoMemory),
     }
 }

@@ -1,6 +1,7 @@
 //! The buffers by their calls: each word is a call with its text or numbers behind commas, and is answered by a word.
 ghost use Rattle.std.specs.Prelude.{◌≡◌, ◌<◌};
 
+use crate::says::{push, push_number};
 use nats_outbuf::{Bytes, InBuf, OutBuf, Steps};
 use nats_rows::{Bad, push_bytes, string_of};
 use std::alloc::Global;
@@ -14,10 +15,6 @@ fn filled(alloc: Global, count: usize) -> Result<Bytes, Bad> {
 
 fn size_of(word: &str) -> Result<usize, Bad> {
     word.parse().map_err(|_| Bad::Form)
-}
-
-fn push_number(alloc: Global, number: usize, out: &mut String) -> Result<(), Bad> {
-    Ok(out.push_str(format!(in alloc; "{number}")?.as_str())?)
 }
 
 /// Puts a chunk of a size behind the bytes that wait, as often as is said.
@@ -75,11 +72,11 @@ fn change(alloc: Global, buf: &mut OutBuf, verb: &str, text: &str) -> Result<(),
 fn push_out_call(alloc: Global, buf: &mut OutBuf, call: &str, out: &mut String) -> Result<(), Bad> {
     match call {
         "pieces" => push_pieces(alloc, buf, out),
-        "full" => Ok(out.push_str(if buf.is_full() { "full" } else { "room" })?),
+        "full" => push(out, if buf.is_full() { "full" } else { "room" }),
         _ => {
             let (verb, text) = call.split_once(',').unwrap_or((call, ""));
             change(alloc, buf, verb, text)?;
-            push_number(alloc, buf.pending(), out)
+            push_number(alloc, buf.pending() as u64, out)
         }
     }
 }
@@ -120,7 +117,7 @@ fn first_line<L: Ledger>(alloc: Global, blank: Blank, text: &[u8]) -> Result<usi
 
 fn push_line(alloc: Global, text: &str, out: &mut String) -> Result<(), Bad> {
     let len = first_line::<Brand>(alloc, Blank::new(1), text.as_bytes())?;
-    push_number(alloc, len, out)
+    push_number(alloc, len as u64, out)
 }
 
 /// Appends the first bytes, so many or all, which are split off.
@@ -142,7 +139,7 @@ fn push_in_call(alloc: Global, buf: &mut InBuf, call: &str, out: &mut String) ->
         "split" => return push_split(alloc, buf, size_of(text)?, out),
         _ => return Err(Bad::Form),
     }
-    push_number(alloc, buf.len(), out)
+    push_number(alloc, buf.len() as u64, out)
 }
 
 fn push_in_each(alloc: Global, buf: &mut InBuf, calls: &str, out: &mut String) -> Result<(), Bad> {

@@ -1,5 +1,6 @@
 //! The texts of clients: a line for each command would be `ping`, `pong`, `sub`, `unsub` or `pub`; here they stand
 //! behind one another, each with a `;` behind it, and a word on how the text ends comes last.
+use crate::says::{push, push_number};
 use nats_client_text::{
     ClientEnd, ClientFront, ClientOp, ClientRead, HeaderMap, Subject, read_client_op,
     read_client_text,
@@ -16,7 +17,7 @@ fn push_name(subject: &Option<Subject>, out: &mut String) -> Result<(), Bad> {
 /// Appends each name with its values.
 fn push_headers(headers: &Option<HeaderMap>, out: &mut String) -> Result<(), Bad> {
     let Some(headers) = headers else {
-        return Ok(out.push_str(" ~")?);
+        return push(out, " ~");
     };
     out.push_str(" {")?;
     for (name, values) in headers.iter() {
@@ -25,15 +26,17 @@ fn push_headers(headers: &Option<HeaderMap>, out: &mut String) -> Result<(), Bad
             push_word(out, value.as_str().as_bytes())?;
         }
     }
-    Ok(out.push_str(" }")?)
+    push(out, " }")
 }
 
 fn push_numbers(alloc: Global, sid: u64, max: Option<u64>, out: &mut String) -> Result<(), Bad> {
+    push(out, "unsub ")?;
+    push_number(alloc, sid, out)?;
+    push(out, " ")?;
     match max {
-        Some(max) => out.push_str(format!(in alloc; "unsub {sid} {max}")?.as_str())?,
-        None => out.push_str(format!(in alloc; "unsub {sid} ~")?.as_str())?,
+        Some(max) => push_number(alloc, max, out),
+        None => push(out, "~"),
     }
-    Ok(())
 }
 
 fn push_subscribed(
@@ -43,7 +46,8 @@ fn push_subscribed(
     queue_group: &Option<Subject>,
     out: &mut String,
 ) -> Result<(), Bad> {
-    out.push_str(format!(in alloc; "sub {sid}")?.as_str())?;
+    push(out, "sub ")?;
+    push_number(alloc, sid, out)?;
     push_word(out, subject.as_str().as_bytes())?;
     push_name(queue_group, out)
 }
@@ -63,9 +67,9 @@ fn push_carried(headers: &Option<HeaderMap>, payload: &[u8], out: &mut String) -
 
 fn push_command(alloc: Global, op: &ClientOp, out: &mut String) -> Result<(), Bad> {
     match op {
-        ClientOp::Ping => Ok(out.push_str("ping")?),
-        ClientOp::Pong => Ok(out.push_str("pong")?),
-        ClientOp::Connect(_) => Ok(out.push_str("connect")?),
+        ClientOp::Ping => push(out, "ping"),
+        ClientOp::Pong => push(out, "pong"),
+        ClientOp::Connect(_) => push(out, "connect"),
         ClientOp::Unsubscribe { sid, max } => push_numbers(alloc, *sid, *max, out),
         ClientOp::Subscribe {
             sid,
@@ -88,7 +92,7 @@ fn push_command(alloc: Global, op: &ClientOp, out: &mut String) -> Result<(), Ba
 /// payload.
 fn push_op(alloc: Global, op: &ClientOp, out: &mut String) -> Result<(), Bad> {
     push_command(alloc, op, out)?;
-    Ok(out.push(';')?)
+    push(out, ";")
 }
 
 fn end_word(end: ClientEnd) -> &'static str {
@@ -103,7 +107,7 @@ fn push_ops(alloc: Global, read: &ClientRead, out: &mut String) -> Result<(), Ba
     for op in read.ops.as_slice() {
         push_op(alloc, op, out)?;
     }
-    Ok(out.push_str(end_word(read.end))?)
+    push(out, end_word(read.end))
 }
 
 /// Appends the commands that a text is read as.
@@ -126,5 +130,5 @@ pub fn push_first(alloc: Global, text: &[u8], out: &mut String) -> Result<(), Ba
     let front = read_client_op(alloc, text)?;
     let len = len_of(&front);
     drop(front);
-    Ok(out.push_str(format!(in alloc; "{len}")?.as_str())?)
+    push_number(alloc, len as u64, out)
 }

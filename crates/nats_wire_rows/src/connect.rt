@@ -1,4 +1,5 @@
 //! CONNECT lines, and what is printed of one that has secrets.
+use crate::says::push;
 use nats_connect::{ConnectInfo, Protocol, Text, connect_text};
 use nats_rows::{Bad, push_bytes};
 use nats_wire::{ClientOp, Connection};
@@ -43,7 +44,7 @@ fn push_info(alloc: Global, info: &ConnectInfo, out: &mut String) -> Result<(), 
     let copy = info.copy(alloc);
     let is_same = matches!(&copy, Ok(copy) if *copy == *info);
     drop(copy);
-    Ok(out.push_str(if is_same { " copied" } else { " changed" })?)
+    push(out, if is_same { " copied" } else { " changed" })
 }
 
 fn push_plain(alloc: Global, out: &mut String) -> Result<(), Bad> {
@@ -127,7 +128,7 @@ fn push_printed(alloc: Global, secret: &str, out: &mut String) -> Result<(), Bad
     let text = format!(in alloc; "{info:?}");
     drop(info);
     out.push('\n')?;
-    Ok(out.push_str(text?.as_str())?)
+    push(out, text?.as_str())
 }
 
 /// Appends the lines of a plain one, of one with a name that is escaped, and what is printed of two with secrets.

@@ -1,4 +1,5 @@
 //! A connection by its calls: each word is a call with its texts behind commas, and is answered by a word.
+use crate::says::{push, push_number, push_truth};
 use nats_rows::{Bad, number_of, push_bytes, push_optional, push_word};
 use nats_wire::{
     Bytes, ClientOp, Connection, HeaderMap, Message, OutboundMessage, Peeked, ServerError,
@@ -17,21 +18,13 @@ struct Driven {
     kept: Read,
 }
 
-fn push_number(alloc: Global, number: usize, out: &mut String) -> Result<(), Bad> {
-    Ok(out.push_str(format!(in alloc; "{number}")?.as_str())?)
-}
-
-fn push_truth(is_so: bool, out: &mut String) -> Result<(), Bad> {
-    Ok(out.push_str(if is_so { "true" } else { "false" })?)
-}
-
 // ---- what is read
 
 /// Appends each name with its values as JSON.
 fn push_headers(alloc: Global, headers: &Option<HeaderMap>, out: &mut String) -> Result<(), Bad> {
     match headers {
-        Some(headers) => Ok(out.push_str(headers.to_json(alloc)?.to_string(alloc)?.as_str())?),
-        None => Ok(out.push('~')?),
+        Some(headers) => push(out, headers.to_json(alloc)?.to_string(alloc)?.as_str()),
+        None => push(out, "~"),
     }
 }
 
@@ -54,7 +47,7 @@ fn push_marks(alloc: Global, message: &Message, out: &mut String) -> Result<(), 
 
 /// Appends a message: its number, subject, reply, payload, length, status, description and headers.
 fn push_message(alloc: Global, sid: u64, message: &Message, out: &mut String) -> Result<(), Bad> {
-    out.push_str(format!(in alloc; "{sid}")?.as_str())?;
+    push_number(alloc, sid, out)?;
     push_sent(message, out)?;
     push_marks(alloc, message, out)?;
     out.push(' ')?;
@@ -62,18 +55,19 @@ fn push_message(alloc: Global, sid: u64, message: &Message, out: &mut String) ->
 }
 
 fn push_port(alloc: Global, port: u16, out: &mut String) -> Result<(), Bad> {
-    Ok(out.push_str(format!(in alloc; "info {port}")?.as_str())?)
+    push(out, "info ")?;
+    push_number(alloc, u64::from(port), out)
 }
 
 fn push_error(alloc: Global, error: &ServerError, out: &mut String) -> Result<(), Bad> {
-    Ok(out.push_str(error.to_string(alloc)?.as_str())?)
+    push(out, error.to_string(alloc)?.as_str())
 }
 
 fn push_op(alloc: Global, op: &ServerOp, out: &mut String) -> Result<(), Bad> {
     match op {
-        ServerOp::Ok => Ok(out.push_str("ok")?),
-        ServerOp::Ping => Ok(out.push_str("ping")?),
-        ServerOp::Pong => Ok(out.push_str("pong")?),
+        ServerOp::Ok => push(out, "ok"),
+        ServerOp::Ping => push(out, "ping"),
+        ServerOp::Pong => push(out, "pong"),
         ServerOp::Info(info) => push_port(alloc, info.port, out),
         ServerOp::Error(error) => push_error(alloc, error, out),
         ServerOp::Message { sid, message } => push_message(alloc, *sid, message, out),
@@ -83,8 +77,8 @@ fn push_op(alloc: Global, op: &ServerOp, out: &mut String) -> Result<(), Bad> {
 fn push_found(alloc: Global, read: &Read, out: &mut String) -> Result<(), Bad> {
     match read {
         Ok(Some(op)) => push_op(alloc, op, out),
-        Ok(None) => Ok(out.push_str("unfinished")?),
-        Err(WireError::ReadFault) => Ok(out.push_str("fault")?),
+        Ok(None) => push(out, "unfinished"),
+        Err(WireError::ReadFault) => push(out, "fault"),
         Err(WireError::NoMemory) => Err(Bad::NoMemory),
     }
 }
@@ -117,7 +111,7 @@ fn peeked_len(alloc: Global, connection: &Connection) -> Result<usize, Bad> {
 fn push_peeked(alloc: Global, connection: &mut Connection, out: &mut String) -> Result<(), Bad> {
     let len = peeked_len(alloc, connection)?;
     connection.consume(len.min(connection.unread()));
-    push_number(alloc, len, out)
+    push_number(alloc, len as u64, out)
 }
 
 /// Feeds each byte by itself, and appends whether all the time nothing was whole.
@@ -178,14 +172,14 @@ fn flush_word(flush: ShouldFlush) -> &'static str {
 /// Appends what the first of the pieces has, and how many there are.
 fn push_pieces(alloc: Global, connection: &mut Connection, out: &mut String) -> Result<(), Bad> {
     let pieces = connection.pending_pieces(alloc)?;
-    push_number(alloc, pieces.len(), out)
+    push_number(alloc, pieces.len() as u64, out)
 }
 
 fn push_first(alloc: Global, connection: &mut Connection, out: &mut String) -> Result<(), Bad> {
     let pieces = connection.pending_pieces(alloc)?;
     match pieces.as_slice().first() {
         Some(piece) => Ok(push_bytes(out, piece.as_slice())?),
-        None => Ok(out.push('~')?),
+        None => push(out, "~"),
     }
 }
 
@@ -333,7 +327,7 @@ fn write_all(alloc: Global, connection: &mut Connection, text: &str) -> Result<(
 fn push_taken(connection: &mut Connection, text: &str, out: &mut String) -> Result<(), Bad> {
     let count: usize = text.parse().map_err(|_| Bad::Form)?;
     connection.written(count.min(connection.pending()));
-    Ok(out.push_str(flush_word(connection.should_flush()))?)
+    push(out, flush_word(connection.should_flush()))
 }
 
 // ---- calls
@@ -344,10 +338,10 @@ fn push_told(alloc: Global, driven: &mut Driven, call: &str, out: &mut String) -
     match call {
         "read" => push_read(alloc, connection, out),
         "peek" => push_peeked(alloc, connection, out),
-        "unread" => push_number(alloc, connection.unread(), out),
+        "unread" => push_number(alloc, connection.unread() as u64, out),
         "unfinished" => push_truth(connection.is_unfinished(), out),
         "readback" => push_read_back(alloc, connection, out),
-        "pending" => push_number(alloc, connection.pending(), out),
+        "pending" => push_number(alloc, connection.pending() as u64, out),
         "pieces" => push_pieces(alloc, connection, out),
         "first" => push_first(alloc, connection, out),
         _ => push_more(alloc, driven, call, out),
@@ -362,7 +356,7 @@ fn push_waiting(alloc: Global, connection: &Connection, out: &mut String) -> Res
 fn push_kept(alloc: Global, driven: &Driven, out: &mut String) -> Result<(), Bad> {
     match &driven.kept {
         Ok(Some(op)) => push_op(alloc, op, out),
-        Ok(None) | Err(_) => Ok(out.push_str("none")?),
+        Ok(None) | Err(_) => push(out, "none"),
     }
 }
 
@@ -374,15 +368,15 @@ fn push_more(alloc: Global, driven: &mut Driven, call: &str, out: &mut String) -
     match call {
         "keep" => {
             keep(alloc, driven);
-            push_number(alloc, driven.connection.unread(), out)
+            push_number(alloc, driven.connection.unread() as u64, out)
         }
         "kept" => push_kept(alloc, driven, out),
         "full" => push_truth(driven.connection.is_write_buf_full(), out),
-        "flush" => Ok(out.push_str(flush_word(driven.connection.should_flush()))?),
+        "flush" => push(out, flush_word(driven.connection.should_flush())),
         "waiting" => push_waiting(alloc, &driven.connection, out),
         "flushed" => {
             driven.connection.flushed();
-            Ok(out.push_str(flush_word(driven.connection.should_flush()))?)
+            push(out, flush_word(driven.connection.should_flush()))
         }
         _ => Err(Bad::Form),
     }

@@ -1,112 +1,123 @@
 //! JSON of header names, values, maps and messages: a kind, a space and a JSON text. It is answered with a name or a
 //! value itself, the names of a map in order and its JSON, the JSON of a message, or `none` where it is none.
+use crate::says::push;
 use nats_rows::{Bad, push_bytes};
 use nats_wire::{HeaderMap, HeaderName, HeaderValue, JsonError, Message};
-use serde_json::{Category, Value};
+use serde_json::{Category, Error, Value};
 use std::alloc::Global;
 
-fn json_of(alloc: Global, text: &str) -> Result<Value, JsonError> {
-    Value::from_str(alloc, text).map_err(|error| match error.classify() {
-        Category::Memory => JsonError::NoMemory,
-        _ => JsonError::NoMatch,
-    })
+fn push_refusal(error: JsonError, out: &mut String) -> Result<(), Bad> {
+    match error {
+        JsonError::NoMatch => push(out, "none"),
+        JsonError::NoMemory => Err(Bad::NoMemory),
+    }
 }
 
-fn text_of(alloc: Global, json: &Value) -> Result<String, JsonError> {
-    json.to_string(alloc).map_err(|_| JsonError::NoMemory)
-}
-
-fn said(alloc: Global, text: &str) -> Result<String, JsonError> {
-    String::from_str(alloc, text).map_err(|_| JsonError::NoMemory)
-}
-
-fn push(out: &mut String, text: &str) -> Result<(), JsonError> {
-    out.push_str(text).map_err(|_| JsonError::NoMemory)
+fn push_text(alloc: Global, json: &Value, out: &mut String) -> Result<(), Bad> {
+    push(out, json.to_string(alloc)?.as_str())
 }
 
 /// Appends the names of a map in order, and its JSON.
-fn push_map(alloc: Global, map: &HeaderMap, out: &mut String) -> Result<(), JsonError> {
+fn push_map(alloc: Global, map: &HeaderMap, out: &mut String) -> Result<(), Bad> {
     for (name, _values) in map.iter() {
         push(out, name.as_str())?;
         push(out, " ")?;
     }
     let json = map.to_json(alloc)?;
-    let text = text_of(alloc, &json);
+    let pushed = push_text(alloc, &json, out);
     drop(json);
-    push(out, text?.as_str())
+    pushed
 }
 
-fn map_text(alloc: Global, read: &Result<HeaderMap, JsonError>) -> Result<String, JsonError> {
+fn push_read_map(
+    alloc: Global,
+    read: &Result<HeaderMap, JsonError>,
+    out: &mut String,
+) -> Result<(), Bad> {
     match read {
-        Ok(map) => {
-            let mut out = String::new(alloc);
-            push_map(alloc, map, &mut out)?;
-            Ok(out)
-        }
-        Err(error) => Err(*error),
+        Ok(map) => push_map(alloc, map, out),
+        Err(error) => push_refusal(*error, out),
     }
 }
 
-fn headers(alloc: Global, json: &Value) -> Result<String, JsonError> {
-    let map = HeaderMap::from_json(alloc, json);
-    let text = map_text(alloc, &map);
-    drop(map);
-    text
+fn push_headers(alloc: Global, json: &Value, out: &mut String) -> Result<(), Bad> {
+    let read = HeaderMap::from_json(alloc, json);
+    let pushed = push_read_map(alloc, &read, out);
+    drop(read);
+    pushed
 }
 
-fn name(alloc: Global, json: &Value) -> Result<String, JsonError> {
-    said(alloc, HeaderName::from_json(alloc, json)?.as_str())
-}
-
-fn value(alloc: Global, json: &Value) -> Result<String, JsonError> {
-    said(alloc, HeaderValue::from_json(alloc, json)?.as_str())
-}
-
-fn message_json(alloc: Global, read: &Result<Message, JsonError>) -> Result<Value, JsonError> {
-    match read {
-        Ok(message) => message.to_json(alloc).map_err(JsonError::from),
-        Err(error) => Err(*error),
+fn push_name(alloc: Global, json: &Value, out: &mut String) -> Result<(), Bad> {
+    match HeaderName::from_json(alloc, json) {
+        Ok(name) => push(out, name.as_str()),
+        Err(error) => push_refusal(error, out),
     }
 }
 
-fn message_again(alloc: Global, json: &Value) -> Result<Value, JsonError> {
-    let message = Message::from_json(alloc, json);
-    let again = message_json(alloc, &message);
-    drop(message);
-    again
+fn push_value(alloc: Global, json: &Value, out: &mut String) -> Result<(), Bad> {
+    match HeaderValue::from_json(alloc, json) {
+        Ok(value) => push(out, value.as_str()),
+        Err(error) => push_refusal(error, out),
+    }
 }
 
-fn message(alloc: Global, json: &Value) -> Result<String, JsonError> {
-    let again = message_again(alloc, json)?;
-    text_of(alloc, &again)
+fn push_again(alloc: Global, message: &Message, out: &mut String) -> Result<(), Bad> {
+    let json = message.to_json(alloc)?;
+    let pushed = push_text(alloc, &json, out);
+    drop(json);
+    pushed
 }
 
-fn read_as(alloc: Global, kind: &str, json: &Value) -> Result<String, JsonError> {
+fn push_read_message(
+    alloc: Global,
+    read: &Result<Message, JsonError>,
+    out: &mut String,
+) -> Result<(), Bad> {
+    match read {
+        Ok(message) => push_again(alloc, message, out),
+        Err(error) => push_refusal(*error, out),
+    }
+}
+
+fn push_message(alloc: Global, json: &Value, out: &mut String) -> Result<(), Bad> {
+    let read = Message::from_json(alloc, json);
+    let pushed = push_read_message(alloc, &read, out);
+    drop(read);
+    pushed
+}
+
+fn push_as(alloc: Global, kind: &str, json: &Value, out: &mut String) -> Result<(), Bad> {
     match kind {
-        "headers" => headers(alloc, json),
-        "name" => name(alloc, json),
-        "value" => value(alloc, json),
-        "message" => message(alloc, json),
-        _ => said(alloc, "no kind"),
+        "headers" => push_headers(alloc, json, out),
+        "name" => push_name(alloc, json, out),
+        "value" => push_value(alloc, json, out),
+        "message" => push_message(alloc, json, out),
+        _ => push(out, "no kind"),
     }
 }
 
-fn read(alloc: Global, kind: &str, text: &str) -> Result<String, JsonError> {
-    let json = json_of(alloc, text)?;
-    let read = read_as(alloc, kind, &json);
-    drop(json);
-    read
+fn push_read(
+    alloc: Global,
+    kind: &str,
+    read: &Result<Value, Error>,
+    out: &mut String,
+) -> Result<(), Bad> {
+    match read {
+        Ok(json) => push_as(alloc, kind, json, out),
+        Err(error) => match error.classify() {
+            Category::Memory => Err(Bad::NoMemory),
+            _ => push(out, "none"),
+        },
+    }
 }
 
 /// Appends what is read of a kind and a JSON text.
 pub fn push_json(alloc: Global, rest: &str, out: &mut String) -> Result<(), Bad> {
     let (kind, text) = rest.split_once(' ').ok_or(Bad::Form)?;
-    match read(alloc, kind, text) {
-        Ok(read) => out.push_str(read.as_str())?,
-        Err(JsonError::NoMatch) => out.push_str("none")?,
-        Err(JsonError::NoMemory) => return Err(Bad::NoMemory),
-    }
-    Ok(())
+    let read = Value::from_str(alloc, text);
+    let pushed = push_read(alloc, kind, &read, out);
+    drop(read);
+    pushed
 }
 
 /// Appends the texts of the two refusals.

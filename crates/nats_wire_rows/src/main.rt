@@ -13,6 +13,7 @@ mod headers;
 mod json;
 mod maps;
 mod names;
+mod says;
 mod steps;
 mod texts;
 

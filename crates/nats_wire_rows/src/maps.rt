@@ -1,5 +1,6 @@
 //! A header map by its calls: each word is a call with its texts behind commas, and is answered by a word.
 use crate::headers::push_refusal;
+use crate::says::{owned, push, push_number, push_truth};
 use nats_header::{HeaderError, HeaderMap, HeaderName, HeaderValue};
 use nats_rows::{Bad, push_bytes, push_optional, string_of};
 use std::alloc::Global;
@@ -34,8 +35,7 @@ fn append(alloc: Global, map: &mut HeaderMap, field: &str) -> Result<(), HeaderE
 /// Appends with a name that is given and not lent.
 fn append_owned(alloc: Global, map: &mut HeaderMap, field: &str) -> Result<(), HeaderError> {
     let (name, value) = field.split_once(',').unwrap_or((field, ""));
-    let name = String::from_str(alloc, name).map_err(|_| HeaderError::NoMemory)?;
-    map.append(alloc, name, value)
+    map.append(alloc, owned(alloc, name)?, value)
 }
 
 /// Inserts with a name that stands in the program.
@@ -50,7 +50,7 @@ fn set_names(alloc: Global, map: &mut HeaderMap, texts: &str) -> Result<(), Bad>
 
 fn push_done(done: Result<(), HeaderError>, out: &mut String) -> Result<(), Bad> {
     match done {
-        Ok(()) => Ok(out.push_str("ok")?),
+        Ok(()) => push(out, "ok"),
         Err(error) => push_refusal(error, out),
     }
 }
@@ -73,14 +73,6 @@ fn push_names(map: &HeaderMap, out: &mut String) -> Result<(), Bad> {
         }
     }
     Ok(())
-}
-
-fn push_number(alloc: Global, number: usize, out: &mut String) -> Result<(), Bad> {
-    Ok(out.push_str(format!(in alloc; "{number}")?.as_str())?)
-}
-
-fn push_truth(is_so: bool, out: &mut String) -> Result<(), Bad> {
-    Ok(out.push_str(if is_so { "true" } else { "false" })?)
 }
 
 /// Appends the names of a map's copy.
@@ -108,8 +100,8 @@ fn push_told(alloc: Global, map: &HeaderMap, call: &str, out: &mut String) -> Re
     match call {
         "names" => push_names(map, out),
         "copy" => push_copy(alloc, map, out),
-        "len" => push_number(alloc, map.len(), out),
-        "wire" => push_number(alloc, map.wire_len(), out),
+        "len" => push_number(alloc, map.len() as u64, out),
+        "wire" => push_number(alloc, map.wire_len() as u64, out),
         "empty" => push_truth(map.is_empty(), out),
         "new" => push_truth(is_new(alloc, map), out),
         "block" => push_block(alloc, map, out),
@@ -154,7 +146,7 @@ fn push_call(alloc: Global, map: &mut HeaderMap, call: &str, out: &mut String) -
         "insert_key" => push_done(insert_key(alloc, map, text), out),
         "pairs" => {
             set_names(alloc, map, text)?;
-            Ok(out.push_str("ok")?)
+            push(out, "ok")
         }
         _ => push_asked(alloc, map, verb, text, out),
     }

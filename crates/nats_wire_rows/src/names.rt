@@ -1,17 +1,21 @@
 //! Subjects, tokens and status codes.
+use crate::says::push;
 use nats_names::{StatusCode, Subject, SubjectError, Token};
 use nats_rows::{Bad, push_bytes, push_word, spelled_bytes, string_of};
 use std::alloc::Global;
 
 fn push_kinds(alloc: Global, subject: &Subject, out: &mut String) -> Result<(), Bad> {
     let (valid, publishable) = (subject.is_valid(), subject.is_publishable());
-    Ok(out.push_str(format!(in alloc; "valid={valid} publishable={publishable}")?.as_str())?)
+    push(
+        out,
+        format!(in alloc; "valid={valid} publishable={publishable}")?.as_str(),
+    )
 }
 
 fn push_outcome(validated: &Result<Subject, SubjectError>, out: &mut String) -> Result<(), Bad> {
     match validated {
         Ok(subject) => Ok(push_word(out, subject.as_str().as_bytes())?),
-        Err(SubjectError::InvalidFormat) => Ok(out.push_str(" !format")?),
+        Err(SubjectError::InvalidFormat) => push(out, " !format"),
         Err(SubjectError::NoMemory) => Err(Bad::NoMemory),
     }
 }
@@ -53,9 +57,9 @@ fn push_code(alloc: Global, code: Option<StatusCode>, out: &mut String) -> Resul
     match code {
         Some(code) => {
             let class = class_of(code);
-            Ok(out.push_str(format!(in alloc; "{code} class {class} ")?.as_str())?)
+            push(out, format!(in alloc; "{code} class {class} ")?.as_str())
         }
-        None => Ok(out.push_str("!code")?),
+        None => push(out, "!code"),
     }
 }
 

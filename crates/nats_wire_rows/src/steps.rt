@@ -1,6 +1,7 @@
 //! Bytes that come one by one cost no more steps than there are bytes.
 ghost use Rattle.std.specs.Prelude.{◌≡◌, ◌<◌, ◌≤◌, length};
 
+use crate::says::push_number;
 use nats_outbuf::Steps;
 use nats_rows::Bad;
 use nats_wire::{Connection, WireError};
@@ -48,5 +49,5 @@ pub fn push_count(alloc: Global, out: &mut String) -> Result<(), Bad> {
     bytes.extend_from_slice(b"\r\nPING\r\n")?;
     let count = count_by_bytes::<Brand>(alloc, Blank::new(1), bytes.as_slice());
     let count = count.map_err(|_| Bad::NoMemory)?;
-    Ok(out.push_str(format!(in alloc; "{count}")?.as_str())?)
+    push_number(alloc, count as u64, out)
 }

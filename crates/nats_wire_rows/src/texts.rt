@@ -1,5 +1,6 @@
 //! What values print, and what is made of texts that stand in the program.
 use crate::json::push_refusals;
+use crate::says::push;
 use nats_header::{
     HeaderError, HeaderName, HeaderValue, NATS_BATCH_COMMIT_EOB, NATS_BATCH_COMMIT_FINAL,
     NATS_MESSAGE_ID, NATS_SCHEDULE_DAILY, NATS_SCHEDULE_HOURLY, NATS_SCHEDULE_MONTHLY,
@@ -16,8 +17,8 @@ use std::fmt::Display;
 
 /// Appends a text on a line of its own.
 fn push_line(out: &mut String, text: &str) -> Result<(), Bad> {
-    out.push_str("\n  ")?;
-    Ok(out.push_str(text)?)
+    push(out, "\n  ")?;
+    push(out, text)
 }
 
 fn push_printed<T: Display>(alloc: Global, value: &T, out: &mut String) -> Result<(), Bad> {

@@ -1,0 +1,6 @@
+mod Behind
+mod Counts
+mod Lines
+mod Right
+mod Total
+mod Turns
