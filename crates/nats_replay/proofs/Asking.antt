@@ -1,14 +1,14 @@
 -- Words that ask for a script of another kind ask for nothing else; and what such a script comes to, by its status.
-use Rattle.std.proofs.Common.{◌≡◌, ◌≢◌, ◌⊎◌, inl, inr, refl, ◌∙◌, sym, ap, subst, ℕ, List, [], ◌∷◌, length, Option, None, Some, Ok, Err, arith}
+use Rattle.std.proofs.Common.{◌≡◌, ◌≢◌, inl, inr, refl, ◌∙◌, sym, ap, subst, ℕ, List, [], ◌∷◌, length, Option, None, Some, Ok, Err, arith}
 use Rattle.std.proofs.lemmas.Option.{none-some, same_Some}
-use Rattle.std.specs.Prelude.{codes}
 use Rattle.std.specs.Io.KnownBytes.{Appends}
+use Rattle.nats_seat_text.specs.Asked.{seats_asked}
 use Rattle.nats_replay.specs.declared.top.Refusal.{Refusal}
 use Rattle.nats_replay.specs.declared.top.Refusal.TheVariants.{ReadFault, NoMemory, TooLong}
 use Rattle.nats_replay.specs.declared.top.Output.{Output}
 use Rattle.nats_replay.specs.declared.asked.Asked.{Asked}
 use Rattle.nats_replay.specs.Asked.{asked_by}
-use Rattle.nats_replay.specs.Live.{LiveWords, publishes, receives, live_of, others}
+use Rattle.nats_replay.specs.Live.{publishes, receives, live_of, others}
 use Rattle.nats_replay.specs.Outside.{Rose, AppendsFront, Tally}
 use Rattle.nats_replay.specs.Played.{PlayedBy, status_of, status_of_ending}
 use Rattle.nats_replay.specs.Scripts.{Says, AskedAnswers}
@@ -38,6 +38,19 @@ pub not_receives : (words : List (List ℕ)) (addr subject : List ℕ) (n : ℕ)
     → live_of words ≡ receives addr subject n → ⊥
 not_receives words addr subject n other is =
     let no : others ≡ receives addr subject n = sym other ∙ is in cc
+
+-- the same of words that ask for workers
+pub seats_alone : (words : List (List ℕ)) (asked : ℕ × ℕ) → Some asked ≡ seats_asked words → Alone words
+seats_alone [] asked is = absurd (none-some asked (sym is))
+seats_alone (w ∷ []) asked is = absurd (none-some asked (sym is))
+seats_alone (w ∷ v ∷ []) asked is = absurd (none-some asked (sym is))
+seats_alone (w ∷ v ∷ u ∷ []) asked is = (three_not_run w v u, refl, refl)
+seats_alone (w ∷ v ∷ u ∷ t ∷ words) asked is = absurd (none-some asked (sym is))
+
+-- what holds of the numbers that the words ask for holds of them by any name
+pub seats_answered : (Is : ℕ × ℕ → Type 0) (words : List (List ℕ)) (asked : ℕ × ℕ) → Some asked ≡ seats_asked words → Is asked
+    → (workers count : ℕ) → seats_asked words ≡ Some (workers, count) → Is (workers, count)
+seats_answered Is words asked exact is workers count asks = subst Is (same_Some asked (workers, count) (exact ∙ asks)) is
 
 -- ---- what is answered
 

@@ -6,6 +6,7 @@ mod asked;
 mod live;
 mod memory;
 mod outside;
+mod seats;
 mod top;
 mod whole;
 

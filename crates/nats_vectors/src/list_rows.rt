@@ -5,6 +5,7 @@ use nats_names::NoMemory;
 use nats_row_words::words::agrees;
 use std::alloc::Global;
 use std::sync::Wait;
+use std::thread::Threads;
 
 /// Lists of turns, and the transcript of each or why there is none, behind a `=`.
 const LISTS: &str = "config 2048 65536 check _INBOX MUX1
@@ -259,7 +260,7 @@ fn printed_for(alloc: Global, told: &str) -> Result<String, NoMemory> {
     Ok(String::from_str(alloc, told)?)
 }
 
-fn is_replayed<R: Wait>(
+fn is_replayed<R: Threads + Wait + Sync>(
     rt: &R,
     alloc: Global,
     out: &mut Vec<u8>,
@@ -271,7 +272,7 @@ fn is_replayed<R: Wait>(
     agrees(out, script, answer.as_slice(), want.as_bytes())
 }
 
-fn is_played<R: Wait>(
+fn is_played<R: Threads + Wait + Sync>(
     rt: &R,
     alloc: Global,
     out: &mut Vec<u8>,
@@ -284,7 +285,11 @@ fn is_played<R: Wait>(
 }
 
 /// Whether lists of turns are played to their transcripts, by `run` and by `replay`.
-pub fn are_played<R: Wait>(rt: &R, alloc: Global, out: &mut Vec<u8>) -> Result<bool, NoMemory> {
+pub fn are_played<R: Threads + Wait + Sync>(
+    rt: &R,
+    alloc: Global,
+    out: &mut Vec<u8>,
+) -> Result<bool, NoMemory> {
     let mut holds = true;
     for row in LISTS.split('|') {
         holds = is_played(rt, alloc, out, row)? && holds;

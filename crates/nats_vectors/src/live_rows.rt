@@ -6,6 +6,7 @@ use nats_replay::{MemorySink, MemorySource, MemoryWorld, NoMemory, memory_world,
 use nats_row_words::words::say;
 use std::alloc::Global;
 use std::sync::Wait;
+use std::thread::Threads;
 
 /// What a new connection writes first, on default options.
 const OPENING: &str =
@@ -183,7 +184,7 @@ fn words_of(alloc: Global, row: &Row) -> Result<Vec<String>, NoMemory> {
 }
 
 // The status and what is printed.
-fn plays<R: Wait>(
+fn plays<R: Threads + Wait + Sync>(
     rt: &R,
     alloc: Global,
     row: &Row,
@@ -207,7 +208,7 @@ fn took(alloc: Global, world: &MemoryWorld, text: &str) -> Result<bool, NoMemory
 }
 
 // Whether the row ends and prints as it says in this world.
-fn prints<R: Wait>(
+fn prints<R: Threads + Wait + Sync>(
     rt: &R,
     alloc: Global,
     row: &Row,
@@ -218,7 +219,7 @@ fn prints<R: Wait>(
 }
 
 // Whether the row plays as it says in this world.
-fn goes<R: Wait>(
+fn goes<R: Threads + Wait + Sync>(
     rt: &R,
     alloc: Global,
     row: &Row,
@@ -228,7 +229,7 @@ fn goes<R: Wait>(
 }
 
 // Whether it does on a link that fails at this read and this write, counted from 1.
-fn goes_on<R: Wait>(
+fn goes_on<R: Threads + Wait + Sync>(
     rt: &R,
     alloc: Global,
     row: &Row,
@@ -242,7 +243,11 @@ fn goes_on<R: Wait>(
 }
 
 /// Whether each row plays as it says; the words of one that does not are said.
-pub fn go<R: Wait>(rt: &R, alloc: Global, out: &mut Vec<u8>) -> Result<bool, NoMemory> {
+pub fn go<R: Threads + Wait + Sync>(
+    rt: &R,
+    alloc: Global,
+    out: &mut Vec<u8>,
+) -> Result<bool, NoMemory> {
     let mut holds = true;
     for row in &ROWS {
         if !goes_on(rt, alloc, row, 0, 0)? {
@@ -262,7 +267,7 @@ fn say_words(out: &mut Vec<u8>, row: &Row) -> Result<(), NoMemory> {
 }
 
 /// Whether a link that fails has ended, for one that publishes and one that receives.
-pub fn end<R: Wait>(rt: &R, alloc: Global) -> Result<bool, NoMemory> {
+pub fn end<R: Threads + Wait + Sync>(rt: &R, alloc: Global) -> Result<bool, NoMemory> {
     let (status, printed) = (9, "link ended\n");
     let not_published = Row {
         status,
@@ -279,7 +284,11 @@ pub fn end<R: Wait>(rt: &R, alloc: Global) -> Result<bool, NoMemory> {
 }
 
 // Whether the row prints as it says, and its link was handed back before it took a byte.
-fn writes_nothing<R: Wait>(rt: &R, alloc: Global, row: &Row) -> Result<bool, NoMemory> {
+fn writes_nothing<R: Threads + Wait + Sync>(
+    rt: &R,
+    alloc: Global,
+    row: &Row,
+) -> Result<bool, NoMemory> {
     let mut world = in_memory(alloc, row.gives, 0, 0)?;
     let is_printed = prints(rt, alloc, row, &mut world);
     let is_untouched = match world.reach.dialer.last_taken() {
@@ -291,7 +300,7 @@ fn writes_nothing<R: Wait>(rt: &R, alloc: Global, row: &Row) -> Result<bool, NoM
 }
 
 /// Whether nothing is written to a server where TLS is wanted, by the scheme of its address or by its INFO.
-pub fn refuse_tls<R: Wait>(rt: &R, alloc: Global) -> Result<bool, NoMemory> {
+pub fn refuse_tls<R: Threads + Wait + Sync>(rt: &R, alloc: Global) -> Result<bool, NoMemory> {
     let (status, printed) = (9, "TLS error\n");
     let by_scheme = Row {
         words: &["pub", "tls://h", "a", "hi"],

@@ -17,9 +17,14 @@ use nats_row_words::{FAILED, Told};
 use std::alloc::Global;
 use std::process::ExitCode;
 use std::sync::Wait;
+use std::thread::Threads;
 
 /// The calls of a session, and what its links carry.
-fn tell_sessions<R: Wait>(rt: &R, alloc: Global, told: &mut Told) -> Result<(), NoMemory> {
+fn tell_sessions<R: Threads + Wait + Sync>(
+    rt: &R,
+    alloc: Global,
+    told: &mut Told,
+) -> Result<(), NoMemory> {
     let mut said = Vec::new(alloc);
     let holds = session_rows::are_answered(alloc, &mut said)?;
     told.note("sessions", holds, said.as_slice())?;
@@ -30,7 +35,11 @@ fn tell_sessions<R: Wait>(rt: &R, alloc: Global, told: &mut Told) -> Result<(), 
 }
 
 /// What stands above a session.
-fn tell_commands<R: Wait>(rt: &R, alloc: Global, told: &mut Told) -> Result<(), NoMemory> {
+fn tell_commands<R: Threads + Wait + Sync>(
+    rt: &R,
+    alloc: Global,
+    told: &mut Told,
+) -> Result<(), NoMemory> {
     let mut said = Vec::new(alloc);
     let holds = live_rows::go(rt, alloc, &mut said)?;
     told.note("commands on a live link", holds, said.as_slice())?;
@@ -47,7 +56,11 @@ fn tell_commands<R: Wait>(rt: &R, alloc: Global, told: &mut Told) -> Result<(), 
     told.note("words", replay_rows::are_known(rt, alloc)?, b"")
 }
 
-fn tell_all<R: Wait>(rt: &R, alloc: Global, told: &mut Told) -> Result<(), NoMemory> {
+fn tell_all<R: Threads + Wait + Sync>(
+    rt: &R,
+    alloc: Global,
+    told: &mut Told,
+) -> Result<(), NoMemory> {
     tell_sessions(rt, alloc, told)?;
     tell_commands(rt, alloc, told)
 }

@@ -11,6 +11,7 @@ use std::alloc::Global;
 use std::io;
 use std::io::Read;
 use std::sync::Wait;
+use std::thread::Threads;
 
 /// One link and one subscription, whose one message is taken.
 const SCRIPT: &str = "config 2048 65536 check _INBOX MUX1\nup 1048576\nsub FOO.BAR ~\n\
@@ -34,7 +35,7 @@ fn source(alloc: Global, text: &str, most: usize) -> Result<MemorySource, NoMemo
 }
 
 /// The status of `replay` in a world without links.
-fn plays<R: Wait, S: Source, K: Sink>(
+fn plays<R: Threads + Wait + Sync, S: Source, K: Sink>(
     rt: &R,
     alloc: Global,
     words: &[String],
@@ -46,7 +47,11 @@ fn plays<R: Wait, S: Source, K: Sink>(
 }
 
 /// The status that a script ends with, and what it prints.
-fn played<R: Wait>(rt: &R, alloc: Global, text: &str) -> Result<(u8, MemorySink), NoMemory> {
+fn played<R: Threads + Wait + Sync>(
+    rt: &R,
+    alloc: Global,
+    text: &str,
+) -> Result<(u8, MemorySink), NoMemory> {
     let words = word(alloc, "run")?;
     let mut source = source(alloc, text, 65_536)?;
     let mut sink = MemorySink::new(alloc, 65_536);
@@ -55,7 +60,11 @@ fn played<R: Wait>(rt: &R, alloc: Global, text: &str) -> Result<(u8, MemorySink)
 }
 
 /// Whether a source that gives so much at a time, and a sink that takes as much, give the transcript.
-fn is_printed_by<R: Wait>(rt: &R, alloc: Global, most: usize) -> Result<bool, NoMemory>
+fn is_printed_by<R: Threads + Wait + Sync>(
+    rt: &R,
+    alloc: Global,
+    most: usize,
+) -> Result<bool, NoMemory>
     requires { 0 < most }
 {
     let words = word(alloc, "run")?;
@@ -67,7 +76,7 @@ fn is_printed_by<R: Wait>(rt: &R, alloc: Global, most: usize) -> Result<bool, No
 
 /// Whether the plain path prints its transcript. A body that always answers want of memory meets every clause, and
 /// fails here.
-fn is_plain<R: Wait>(rt: &R, alloc: Global) -> Result<bool, NoMemory> {
+fn is_plain<R: Threads + Wait + Sync>(rt: &R, alloc: Global) -> Result<bool, NoMemory> {
     let mut holds = true;
     for most in [1, 7, 65_536] {
         holds = is_printed_by(rt, alloc, most)? && holds;
@@ -143,7 +152,7 @@ fn under(alloc: Global, settings: &str, turns: &str) -> Result<String, NoMemory>
     Ok(text)
 }
 
-fn ends_so<R: Wait>(
+fn ends_so<R: Threads + Wait + Sync>(
     rt: &R,
     alloc: Global,
     out: &mut Vec<u8>,
@@ -154,7 +163,11 @@ fn ends_so<R: Wait>(
     Ok(agrees(out, text, sink.bytes(), want.as_bytes())? && answer == status)
 }
 
-fn are_shown<R: Wait>(rt: &R, alloc: Global, out: &mut Vec<u8>) -> Result<bool, NoMemory> {
+fn are_shown<R: Threads + Wait + Sync>(
+    rt: &R,
+    alloc: Global,
+    out: &mut Vec<u8>,
+) -> Result<bool, NoMemory> {
     let mut holds = true;
     for (turns, status, want) in PLAYED {
         let text = under(alloc, "config 2048 65536 check _INBOX MUX1\n", turns)?;
@@ -188,7 +201,11 @@ call 2 numbered 1\n",
     ),
 ];
 
-fn are_kept_to<R: Wait>(rt: &R, alloc: Global, out: &mut Vec<u8>) -> Result<bool, NoMemory> {
+fn are_kept_to<R: Threads + Wait + Sync>(
+    rt: &R,
+    alloc: Global,
+    out: &mut Vec<u8>,
+) -> Result<bool, NoMemory> {
     let mut holds = true;
     for (text, status, want) in SETTINGS {
         holds = ends_so(rt, alloc, out, text, (status, want))? && holds;
@@ -197,7 +214,11 @@ fn are_kept_to<R: Wait>(rt: &R, alloc: Global, out: &mut Vec<u8>) -> Result<bool
 }
 
 /// Whether scripts print what their turns show, under the usual settings and under others.
-pub fn are_printed<R: Wait>(rt: &R, alloc: Global, out: &mut Vec<u8>) -> Result<bool, NoMemory> {
+pub fn are_printed<R: Threads + Wait + Sync>(
+    rt: &R,
+    alloc: Global,
+    out: &mut Vec<u8>,
+) -> Result<bool, NoMemory> {
     Ok(is_plain(rt, alloc)? && are_shown(rt, alloc, out)? && are_kept_to(rt, alloc, out)?)
 }
 
@@ -219,7 +240,7 @@ fn publishes(
 }
 
 /// The status that a script of its own bytes ends with, and what it prints.
-fn played_bytes<R: Wait>(
+fn played_bytes<R: Threads + Wait + Sync>(
     rt: &R,
     alloc: Global,
     text: Vec<u8>,
@@ -232,7 +253,7 @@ fn played_bytes<R: Wait>(
 }
 
 /// Whether a script of its own bytes ends with 0 and prints a text that begins and ends so.
-fn prints_between<R: Wait>(
+fn prints_between<R: Threads + Wait + Sync>(
     rt: &R,
     alloc: Global,
     text: Vec<u8>,
@@ -244,7 +265,7 @@ fn prints_between<R: Wait>(
 }
 
 /// Whether a script of its own bytes ends with 0 and prints just a first text, so many `x` and a last text.
-fn prints_filled<R: Wait>(
+fn prints_filled<R: Threads + Wait + Sync>(
     rt: &R,
     alloc: Global,
     text: Vec<u8>,
@@ -261,7 +282,7 @@ fn prints_filled<R: Wait>(
 }
 
 /// Whether a call waits while the link is full: 3 bytes are taken, and 65,546 are left.
-fn is_full<R: Wait>(rt: &R, alloc: Global) -> Result<bool, NoMemory> {
+fn is_full<R: Threads + Wait + Sync>(rt: &R, alloc: Global) -> Result<bool, NoMemory> {
     let first = "config 1 65536 check _INBOX MUX1\nup 1048576\n";
     let text = publishes(alloc, first, 65_522, &["\npub a ~ y\npub a ~ z\nwrite 3\n"])?;
     prints_filled(
@@ -276,7 +297,7 @@ call 2 accepted\ncall 3 accepted\ncall 4 full\n",
 }
 
 /// Whether a subscription that is let go while calls wait is gone, though the call is refused.
-fn is_gone_all_the_same<R: Wait>(rt: &R, alloc: Global) -> Result<bool, NoMemory> {
+fn is_gone_all_the_same<R: Threads + Wait + Sync>(rt: &R, alloc: Global) -> Result<bool, NoMemory> {
     let first = "config 1 65536 check _INBOX MUX1\nsub a ~\nup 1048576\n";
     let text = publishes(alloc, first, 65_535, &["\npub a ~ y\ndrop 1\n"])?;
     let is_refused = prints_filled(
@@ -294,7 +315,7 @@ call 1 numbered 1\ncall 3 accepted\ncall 4 accepted\ncall 5 full\n",
 }
 
 /// Whether calls wait while the link is full, and go on whenever fewer bytes wait than the limit.
-pub fn wait_for_room<R: Wait>(rt: &R, alloc: Global) -> Result<bool, NoMemory> {
+pub fn wait_for_room<R: Threads + Wait + Sync>(rt: &R, alloc: Global) -> Result<bool, NoMemory> {
     let first = "config 2048 65536 check _INBOX MUX1\nup 1048576\n";
     let between = [
         "\n",
@@ -315,7 +336,7 @@ pub fn wait_for_room<R: Wait>(rt: &R, alloc: Global) -> Result<bool, NoMemory> {
 }
 
 /// Whether a sink that fails leaves a first part.
-fn leaves_a_part<R: Wait>(rt: &R, alloc: Global) -> Result<bool, NoMemory> {
+fn leaves_a_part<R: Threads + Wait + Sync>(rt: &R, alloc: Global) -> Result<bool, NoMemory> {
     let words = word(alloc, "run")?;
     let mut source = source(alloc, SCRIPT, 65_536)?;
     let kept = MemorySink::new(alloc, 10);
@@ -325,7 +346,11 @@ fn leaves_a_part<R: Wait>(rt: &R, alloc: Global) -> Result<bool, NoMemory> {
 }
 
 /// Whether a read that fails in mid-stream prints nothing, where a source gives so much at a time.
-fn prints_nothing<R: Wait>(rt: &R, alloc: Global, most: usize) -> Result<bool, NoMemory>
+fn prints_nothing<R: Threads + Wait + Sync>(
+    rt: &R,
+    alloc: Global,
+    most: usize,
+) -> Result<bool, NoMemory>
     requires { 0 < most }
 {
     let words = word(alloc, "run")?;
@@ -337,7 +362,7 @@ fn prints_nothing<R: Wait>(rt: &R, alloc: Global, most: usize) -> Result<bool, N
 }
 
 /// The status that a script of so many bytes ends with, none of which is a line.
-fn status_at<R: Wait>(rt: &R, alloc: Global, length: u64) -> Result<u8, NoMemory> {
+fn status_at<R: Threads + Wait + Sync>(rt: &R, alloc: Global, length: u64) -> Result<u8, NoMemory> {
     let words = word(alloc, "run")?;
     let mut source = Reading::new(io::repeat(b'a').take(length));
     let mut sink = MemorySink::new(alloc, 65_536);
@@ -345,7 +370,7 @@ fn status_at<R: Wait>(rt: &R, alloc: Global, length: u64) -> Result<u8, NoMemory
 }
 
 /// Whether sources and sinks that fail, and a script that is too long, end with their statuses.
-pub fn end_in_time<R: Wait>(rt: &R, alloc: Global) -> Result<bool, NoMemory> {
+pub fn end_in_time<R: Threads + Wait + Sync>(rt: &R, alloc: Global) -> Result<bool, NoMemory> {
     Ok(
         leaves_a_part(rt, alloc)?
             && prints_nothing(rt, alloc, 10)?
@@ -356,7 +381,7 @@ pub fn end_in_time<R: Wait>(rt: &R, alloc: Global) -> Result<bool, NoMemory> {
 }
 
 /// Whether a list made by a rule is summed up.
-fn is_summed_up<R: Wait>(rt: &R, alloc: Global) -> Result<bool, NoMemory> {
+fn is_summed_up<R: Threads + Wait + Sync>(rt: &R, alloc: Global) -> Result<bool, NoMemory> {
     let mut words = word(alloc, "bulk")?;
     words.push(String::from_str(alloc, "8")?)?;
     let mut none = source(alloc, "", 1)?;
@@ -366,7 +391,11 @@ fn is_summed_up<R: Wait>(rt: &R, alloc: Global) -> Result<bool, NoMemory> {
     Ok(status == 0 && sink.bytes() == lines.as_bytes())
 }
 
-fn is_unknown<R: Wait>(rt: &R, alloc: Global, text: &str) -> Result<bool, NoMemory> {
+fn is_unknown<R: Threads + Wait + Sync>(
+    rt: &R,
+    alloc: Global,
+    text: &str,
+) -> Result<bool, NoMemory> {
     let words = word(alloc, text)?;
     let mut source = source(alloc, SCRIPT, 65_536)?;
     let mut sink = MemorySink::new(alloc, 65_536);
@@ -375,14 +404,14 @@ fn is_unknown<R: Wait>(rt: &R, alloc: Global, text: &str) -> Result<bool, NoMemo
 }
 
 /// The status of no words, printed into a list.
-fn status_of_none<R: Wait>(rt: &R, alloc: Global) -> Result<u8, NoMemory> {
+fn status_of_none<R: Threads + Wait + Sync>(rt: &R, alloc: Global) -> Result<u8, NoMemory> {
     let mut none = source(alloc, SCRIPT, 65_536)?;
     let mut sink = Writing::new(Vec::new(alloc));
     plays(rt, alloc, &[], &mut none, &mut sink)
 }
 
 /// Whether a list made by a rule is summed up, and other words are called unknown.
-pub fn are_known<R: Wait>(rt: &R, alloc: Global) -> Result<bool, NoMemory> {
+pub fn are_known<R: Threads + Wait + Sync>(rt: &R, alloc: Global) -> Result<bool, NoMemory> {
     let mut holds = is_summed_up(rt, alloc)? && status_of_none(rt, alloc)? == 2;
     for text in ["walk", "", "Run", "run "] {
         holds = is_unknown(rt, alloc, text)? && holds;

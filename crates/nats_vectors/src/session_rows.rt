@@ -6,6 +6,7 @@ use nats_names::NoMemory;
 use nats_row_words::words::agrees;
 use std::alloc::Global;
 use std::sync::Wait;
+use std::thread::Threads;
 
 /// Scripts, and what a session answers to each, behind a `=`.
 const SESSIONS: &str = "config 1 65536 check _INBOX MUX1
@@ -392,7 +393,7 @@ pub <svc> <_INBOX.MUX1.T3> - <hi>
 whole
 ";
 
-fn is_carried<R: Wait>(
+fn is_carried<R: Threads + Wait + Sync>(
     rt: &R,
     alloc: Global,
     out: &mut Vec<u8>,
@@ -406,7 +407,11 @@ fn is_carried<R: Wait>(
 }
 
 /// Whether links carry the accepted commands alone.
-pub fn are_carried<R: Wait>(rt: &R, alloc: Global, out: &mut Vec<u8>) -> Result<bool, NoMemory> {
+pub fn are_carried<R: Threads + Wait + Sync>(
+    rt: &R,
+    alloc: Global,
+    out: &mut Vec<u8>,
+) -> Result<bool, NoMemory> {
     let mut holds = true;
     for row in HOSTILE.split('|') {
         holds = is_carried(rt, alloc, out, row)? && holds;

@@ -8,6 +8,7 @@ use nats_row_words::words::say;
 use percent_encoding::percent_decode;
 use std::alloc::Global;
 use std::sync::Wait;
+use std::thread::Threads;
 
 /// The most bytes that the source gives, and the sink takes, at a time.
 const AT_ONCE: usize = 65_536;
@@ -80,7 +81,7 @@ fn run_words(alloc: Global) -> Result<Vec<String>, NoMemory> {
 }
 
 /// Plays a script, and answers the status that it ends with.
-fn play<R: Wait>(
+fn play<R: Threads + Wait + Sync>(
     rt: &R,
     alloc: Global,
     script: &str,
@@ -94,7 +95,7 @@ fn play<R: Wait>(
 }
 
 /// Plays a script through `replay` in a world that has no links, and answers its status.
-fn play_alone<R: Wait>(
+fn play_alone<R: Threads + Wait + Sync>(
     rt: &R,
     alloc: Global,
     script: &str,
@@ -117,7 +118,11 @@ fn told(alloc: Global, status: u8, bytes: &[u8]) -> Result<Vec<u8>, NoMemory> {
 }
 
 /// What `replay` prints of a script.
-pub fn printed<R: Wait>(rt: &R, alloc: Global, script: &str) -> Result<Vec<u8>, NoMemory> {
+pub fn printed<R: Threads + Wait + Sync>(
+    rt: &R,
+    alloc: Global,
+    script: &str,
+) -> Result<Vec<u8>, NoMemory> {
     let mut sink = MemorySink::new(alloc, AT_ONCE);
     let _status = play_alone(rt, alloc, script, &mut sink)?;
     Ok(Vec::from_slice(alloc, sink.bytes())?)
@@ -125,7 +130,11 @@ pub fn printed<R: Wait>(rt: &R, alloc: Global, script: &str) -> Result<Vec<u8>, 
 
 /// What `carried` tells, played by `replay` from the bytes of a script, and read out of the bytes that it writes
 /// alone: the replies to calls, then the commands of each link. Where it does not end with 0, what it writes.
-pub fn carried_through<R: Wait>(rt: &R, alloc: Global, script: &str) -> Result<Vec<u8>, NoMemory> {
+pub fn carried_through<R: Threads + Wait + Sync>(
+    rt: &R,
+    alloc: Global,
+    script: &str,
+) -> Result<Vec<u8>, NoMemory> {
     let mut sink = MemorySink::new(alloc, AT_ONCE);
     let status = play_alone(rt, alloc, script, &mut sink)?;
     told(alloc, status, sink.bytes())

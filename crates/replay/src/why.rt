@@ -19,7 +19,7 @@ const TOO_LONG: u8 = 8;
 
 /// What the words should have been.
 const USAGE: &str = "\
-the commands are `run`, `route`, `rpc TRIES PATIENCE`, `bulk N`, `pub ADDR SUBJECT PAYLOAD` and \
+the commands are `run`, `route`, `rpc TRIES PATIENCE`, `bulk N`, `seats N K`, `pub ADDR SUBJECT PAYLOAD` and \
 `sub ADDR SUBJECT N`; see `replay --help`";
 
 /// What is known of a run that ended: its status and words, the bytes of the script where they were kept, and whom
