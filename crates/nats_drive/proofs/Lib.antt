@@ -1,0 +1,3 @@
+mod Refusals
+mod Returned
+mod Rounding
