@@ -1,0 +1,199 @@
+//! What the words ask for.
+
+use crate::stop::Stop;
+use clap::ArgMatches;
+use nats_names::Text;
+use nats_pool::Auth;
+use std::alloc::{AllocError, Global};
+
+/// What is to be done.
+#[derive(Drop)]
+pub enum Deed {
+    /// A message is published so many times.
+    Publish {
+        /// Its subject.
+        subject: String,
+        /// Its payload.
+        payload: Vec<u8>,
+        /// Its headers, each a name, a colon and a value.
+        headers: Vec<String>,
+        /// Where replies go.
+        reply: Option<String>,
+        /// How many times.
+        count: u64,
+    },
+    /// Messages are printed.
+    Subscribe {
+        /// Their subject.
+        subject: String,
+        /// The queue group.
+        queue: Option<String>,
+        /// How many; without end where none is named.
+        count: Option<u64>,
+    },
+    /// A request is made, and its reply printed.
+    Request {
+        /// Its subject.
+        subject: String,
+        /// Its payload.
+        payload: Vec<u8>,
+    },
+    /// Requests are answered.
+    Reply {
+        /// Their subject.
+        subject: String,
+        /// The payload of each answer.
+        payload: Vec<u8>,
+        /// The queue group.
+        queue: Option<String>,
+        /// How many; without end where none is named.
+        count: Option<u64>,
+    },
+}
+
+/// All that the words ask for.
+#[derive(Drop)]
+pub struct Task {
+    /// The servers to connect to.
+    pub servers: Vec<String>,
+    /// The name of the connection.
+    pub name: Text,
+    /// What the client logs in by.
+    pub auth: Auth,
+    /// Milliseconds that a request waits for its reply.
+    pub timeout: Option<u64>,
+    /// What is to be done.
+    pub deed: Deed,
+}
+
+/// A word that may be left out.
+fn optional(alloc: Global, word: Option<&str>) -> Result<Option<String>, AllocError> {
+    match word {
+        Some(word) => Ok(Some(String::from_str(alloc, word)?)),
+        None => Ok(None),
+    }
+}
+
+/// Words of which there may be none.
+fn all(alloc: Global, words: Option<&[&str]>) -> Result<Vec<String>, AllocError> {
+    let mut texts = Vec::new(alloc);
+    if let Some(words) = words {
+        'words: for word in words {
+            texts.push(String::from_str(alloc, word)?)?;
+        }
+    }
+    Ok(texts)
+}
+
+/// Whether the payload is standard input.
+pub fn wants_input(matches: &ArgMatches<'_>) -> bool {
+    match matches.subcommand() {
+        Some((_, of)) => of.get_str("PAYLOAD") == Some("-"),
+        None => false,
+    }
+}
+
+/// The subject.
+fn subject_of(alloc: Global, of: &ArgMatches<'_>) -> Result<String, Stop> {
+    match of.get_str("SUBJECT") {
+        Some(word) => Ok(String::from_str(alloc, word)?),
+        None => Err(Stop::Words),
+    }
+}
+
+/// The payload: a word, or what standard input gave.
+fn payload_of(alloc: Global, of: &ArgMatches<'_>, input: Vec<u8>) -> Result<Vec<u8>, Stop> {
+    match of.get_str("PAYLOAD") {
+        Some("-") => Ok(input),
+        Some(word) => Ok(Vec::from_slice(alloc, word.as_bytes())?),
+        None => Err(Stop::Words),
+    }
+}
+
+/// A message that is to be published.
+fn publish_of(alloc: Global, of: &ArgMatches<'_>, input: Vec<u8>) -> Result<Deed, Stop> {
+    let payload = payload_of(alloc, of, input)?;
+    let subject = subject_of(alloc, of)?;
+    let headers = all(alloc, of.get_strs("header"))?;
+    let reply = optional(alloc, of.get_str("reply"))?;
+    Ok(Deed::Publish {
+        subject,
+        payload,
+        headers,
+        reply,
+        count: of.get_one::<u64>("count").unwrap_or(1),
+    })
+}
+
+/// What is to be done, of the command with this word.
+fn deed_of(alloc: Global, word: &str, of: &ArgMatches<'_>, input: Vec<u8>) -> Result<Deed, Stop> {
+    if word == "pub" {
+        return publish_of(alloc, of, input);
+    }
+    let subject = subject_of(alloc, of)?;
+    if word == "request" {
+        let payload = payload_of(alloc, of, input)?;
+        return Ok(Deed::Request { subject, payload });
+    }
+    let queue = optional(alloc, of.get_str("queue"))?;
+    let count = of.get_one::<u64>("count");
+    if word == "sub" {
+        return Ok(Deed::Subscribe {
+            subject,
+            queue,
+            count,
+        });
+    }
+    let payload = payload_of(alloc, of, input)?;
+    Ok(Deed::Reply {
+        subject,
+        payload,
+        queue,
+        count,
+    })
+}
+
+/// The servers to connect to; `home` where none is named.
+fn servers_of(
+    alloc: Global,
+    matches: &ArgMatches<'_>,
+    home: &str,
+) -> Result<Vec<String>, AllocError> {
+    let mut servers = all(alloc, matches.get_strs("server"))?;
+    if servers.is_empty() {
+        servers.push(String::from_str(alloc, home)?)?;
+    }
+    Ok(servers)
+}
+
+/// What the client logs in by.
+fn auth_of(alloc: Global, matches: &ArgMatches<'_>) -> Result<Auth, AllocError> {
+    let mut auth = Auth::new();
+    auth.username = optional(alloc, matches.get_str("user"))?;
+    auth.password = optional(alloc, matches.get_str("password"))?;
+    auth.token = optional(alloc, matches.get_str("token"))?;
+    Ok(auth)
+}
+
+/// All that the words ask for, where `home` is the server if none is named and `input` what standard input gave.
+pub fn task_of(
+    alloc: Global,
+    matches: &ArgMatches<'_>,
+    home: &str,
+    input: Vec<u8>,
+) -> Result<Task, Stop> {
+    let Some((word, of)) = matches.subcommand() else {
+        return Err(Stop::Words);
+    };
+    let deed = deed_of(alloc, word, of, input)?;
+    let servers = servers_of(alloc, matches, home)?;
+    let auth = auth_of(alloc, matches)?;
+    let name = Text::from_text(alloc, matches.get_str("name").unwrap_or("wichapok"))?;
+    Ok(Task {
+        servers,
+        name,
+        auth,
+        timeout: of.get_one::<u64>("timeout"),
+        deed,
+    })
+}

@@ -1,0 +1,122 @@
+//! The words that the program takes.
+
+use crate::stop::Stop;
+use clap::error::ErrorKind;
+use clap::{Arg, ArgAction, Command, Error, value_parser};
+use std::alloc::{AllocError, Global};
+
+/// An option with a value.
+fn option<'a>(alloc: Global, name: &'a str, value: &'a str, help: &'a str) -> Arg<'a> {
+    Arg::new(alloc, name)
+        .long(name)
+        .value_name(value)
+        .help(help)
+        .action(ArgAction::Set)
+}
+
+/// An option with a number.
+fn number<'a>(alloc: Global, name: &'a str, value: &'a str, help: &'a str) -> Arg<'a> {
+    option(alloc, name, value, help).value_parser(value_parser!(u64).range(1..))
+}
+
+/// A word that has to stand there.
+fn word<'a>(alloc: Global, name: &'a str, help: &'a str) -> Arg<'a> {
+    Arg::new(alloc, name)
+        .required(true)
+        .help(help)
+        .action(ArgAction::Set)
+}
+
+fn publish<'a>(alloc: Global) -> Result<Command<'a>, AllocError> {
+    let headers = option(
+        alloc,
+        "header",
+        "NAME:VALUE",
+        "A header; may stand more than once",
+    )
+    .action(ArgAction::Append);
+    Command::new(alloc, "pub")
+        .about("Publishes a message")
+        .arg(word(alloc, "SUBJECT", "The subject"))?
+        .arg(
+            Arg::new(alloc, "PAYLOAD")
+                .default_value("")
+                .help("The payload; `-` reads it from standard input"),
+        )?
+        .arg(headers)?
+        .arg(option(alloc, "reply", "SUBJECT", "Where replies go"))?
+        .arg(number(alloc, "count", "N", "How many times").default_value("1"))
+}
+
+fn subscribe<'a>(alloc: Global) -> Result<Command<'a>, AllocError> {
+    Command::new(alloc, "sub")
+        .about("Subscribes, and prints each message as it comes")
+        .arg(word(alloc, "SUBJECT", "The subject, which may have wildcards"))?
+        .arg(option(
+            alloc,
+            "queue",
+            "GROUP",
+            "Shares the messages with others of this group",
+        ))?
+        .arg(number(alloc, "count", "N", "Ends after so many messages"))
+}
+
+fn request<'a>(alloc: Global) -> Result<Command<'a>, AllocError> {
+    Command::new(alloc, "request")
+        .about("Asks, and prints the reply")
+        .arg(word(alloc, "SUBJECT", "The subject"))?
+        .arg(word(alloc, "PAYLOAD", "The payload"))?
+        .arg(number(alloc, "timeout", "MS", "Milliseconds to wait for the reply").default_value(
+            "10000",
+        ))
+}
+
+fn reply<'a>(alloc: Global) -> Result<Command<'a>, AllocError> {
+    Command::new(alloc, "reply")
+        .about("Answers each request with a payload")
+        .arg(word(alloc, "SUBJECT", "The subject, which may have wildcards"))?
+        .arg(word(alloc, "PAYLOAD", "The payload of each answer"))?
+        .arg(option(
+            alloc,
+            "queue",
+            "GROUP",
+            "Shares the requests with others of this group",
+        ))?
+        .arg(number(alloc, "count", "N", "Ends after so many answers"))
+}
+
+/// All words that the program takes.
+pub fn command<'a>(alloc: Global) -> Result<Command<'a>, AllocError> {
+    let server = option(
+        alloc,
+        "server",
+        "URL",
+        "A server; may stand more than once. Else NATS_URL, else nats://127.0.0.1:4222",
+    )
+    .action(ArgAction::Append);
+    Command::new(alloc, "wichapok")
+        .version("0.1.0")
+        .about("A NATS client that stays connected")
+        .subcommand_required(true)
+        .arg(server)?
+        .arg(option(alloc, "user", "NAME", "The user to log in as"))?
+        .arg(option(alloc, "password", "TEXT", "The user's password"))?
+        .arg(option(alloc, "token", "TEXT", "The token to log in by"))?
+        .arg(option(alloc, "name", "TEXT", "The name of the connection"))?
+        .subcommand(publish(alloc)?)?
+        .subcommand(subscribe(alloc)?)?
+        .subcommand(request(alloc)?)?
+        .subcommand(reply(alloc)?)
+}
+
+/// Prints why words were not taken, or the help that they asked for.
+pub fn refuse<R: Print + Eprint>(rt: &R, error: &Error) -> Stop {
+    if error.print(rt).is_err() {
+        return Stop::Output;
+    }
+    match error.kind() {
+        ErrorKind::OutOfMemory => Stop::NoMemory,
+        _ if error.use_stderr() => Stop::Words,
+        _ => Stop::Told,
+    }
+}
