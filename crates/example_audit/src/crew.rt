@@ -3,7 +3,7 @@ ghost use Rattle.std.specs.Prelude.{◌≡◌, ◌+◌, ◌*◌, ◌≤◌, ◌^
 ghost use Rattle.nats_core.specs.Journal.{IsRight};
 ghost use Rattle.nats_hub.specs.Tallying.{accepted_in};
 
-use nats_clients::{
+use nats_client::{
     Audit, Bytes, Client, CloneError, Config, FinishError, NoMemory, OutboundMessage, Subject,
     Tallies, Turn, usual_server,
 };

@@ -6,7 +6,7 @@
 mod crew;
 
 use anyhow::{Result, anyhow};
-use nats_clients::{ALL_PARTS, Config};
+use nats_client::{ALL_PARTS, Config};
 use std::marker::Brand;
 use std::sync::ledger::Blank;
 

@@ -1,2 +1,2 @@
-mod Letters
-mod Pieces
+pub mod Risen
+pub mod Asks

@@ -1,5 +1,4 @@
-pub mod Aside
-pub mod Errors
-pub mod Spawning
-pub mod Still
-pub mod System
+pub mod Views
+pub mod Finishing
+pub mod Calls
+pub mod Polling

@@ -1,40 +1,28 @@
-//! A client's outside beyond its links: who starts jobs, and the whole of it as one; all of it over the system,
-//! and in memory. Beside them stand the errors of a client's calls and the texts that name it. Times are
-//! milliseconds.
+//! Clients and subscribers of a hub: many of them share one session, each counts the accepted calls that it made, and
+//! who has settled all others finishes the hub and is told what it came to. A call that waits lets the hub's lock go
+//! meanwhile. Payloads are in bytes, times in milliseconds; subscriptions are numbered from 1.
 #![tactic(auto)]
 
-mod errors;
-mod fake_spawner;
-mod id;
-mod memory;
-mod net_dialer;
-mod net_link;
-mod net_resolver;
-mod spawner;
-mod still_clock;
-mod system_clock;
-mod system_draw;
-mod task;
-#[cfg(test)]
-mod tests;
-mod thread_spawner;
-mod whole;
-mod world;
+mod client;
+mod ending;
+mod poll;
+mod publish;
+mod reads;
+mod request;
+mod subscribe;
+mod subscriber;
 
-pub use errors::{PublishError, PublishErrorKind, SubscribeError, SubscribeErrorKind};
-pub use fake_spawner::FakeSpawner;
-pub use id::{ID_LENGTH, id_text, id_token};
-pub use memory::{MemoryWorld, memory_world};
-pub use nats_names::{Cause, Failed, NoMemory, Token};
-pub use nats_outside::{Clock, Dialer, Draw, LinkRead, LinkWrite, Reach, Resolver};
-pub use net_dialer::NetDialer;
-pub use net_link::{NetRead, NetWrite};
-pub use net_resolver::NetResolver;
-pub use spawner::{Job, Spawner};
-pub use still_clock::StillClock;
-pub use system_clock::SystemClock;
-pub use system_draw::SystemDraw;
-pub use task::{Task, TaskSpawner};
-pub use thread_spawner::ThreadSpawner;
-pub use whole::Whole;
-pub use world::World;
+pub use client::{Client, FinishError, REQUEST_TIMEOUT_MS};
+pub use nats_core::{
+    Bytes, Config, Event, Message, NoMemory, OutboundMessage, ServerInfo, Subject, TakeReply, Turn,
+    usual_server,
+};
+pub use nats_hub::{ALL_PARTS, Audit, CloneError, Hub, Tallies, Tally};
+pub use nats_names::{State, ToSubject};
+pub use nats_refusals::{
+    DrainError, FlushError, FlushErrorKind, PublishError, PublishErrorKind, ReconnectError,
+    RequestError, RequestErrorKind, SubscribeError, SubscribeErrorKind, UnsubscribeError,
+};
+pub use poll::Poll;
+pub use request::Request;
+pub use subscriber::Subscriber;

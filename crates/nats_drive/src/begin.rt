@@ -3,7 +3,7 @@ ghost use Rattle.std.specs.Prelude.{◌≡◌, ◌^◌, IfOk, OnErr, false};
 ghost use Rattle.nats_handshake.specs.Shaking.{wanting};
 ghost use Rattle.nats_dial.specs.Causes.{AllBack};
 ghost use Rattle.nats_outside.specs.Told.{Seen};
-ghost use Rattle.nats_clients.specs.Views.{client_of};
+ghost use Rattle.nats_client.specs.Views.{client_of};
 ghost use Rattle.nats_drive.specs.Refusing.{HandsBack, HasWorld, LinkOut};
 ghost use Rattle.nats_drive.specs.declared.refused.Stopped.TheVariants as stop;
 
@@ -12,7 +12,7 @@ use crate::link::play_up;
 use crate::shared::note_skipped;
 use crate::stages::{make_hub, wanting};
 use crate::{Connected, Refused, Servers, Shared, Stopped, World};
-use nats_clients::Client;
+use nats_client::Client;
 use nats_core::ServerInfo;
 use nats_dial::{ConnectOptions, Linked};
 use nats_hub::Tallies;

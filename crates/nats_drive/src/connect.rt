@@ -2,9 +2,9 @@
 ghost use Rattle.std.specs.Prelude.{◌≡◌, ◌^◌, Some, IfOk, IfErr, false};
 ghost use Rattle.nats_pool.specs.Auths.{auth_value};
 ghost use Rattle.nats_handshake.specs.Credentials.{SignerAnswers, AuthAnswers, Offers};
-ghost use Rattle.nats_client.specs.Spawning.{spawned};
+ghost use Rattle.nats_system.specs.Spawning.{spawned};
 ghost use Rattle.nats_outside.specs.Told.{Seen};
-ghost use Rattle.nats_clients.specs.Views.{client_of};
+ghost use Rattle.nats_client.specs.Views.{client_of};
 ghost use Rattle.nats_drive.specs.Refusing.{LinkOut, RefusesConnecting, RefusesLinking, RefusesStarting};
 ghost use Rattle.nats_drive.specs.declared.refused.Stopped.TheVariants as stop;
 

@@ -1,7 +1,7 @@
 //! What a client that stays connected and its driver share.
 
 use crate::Plan;
-use nats_clients::Client;
+use nats_client::Client;
 use nats_core::Event;
 use nats_hub::{Hub, Tallies};
 use nats_names::{ClientError, NoMemory, Text};

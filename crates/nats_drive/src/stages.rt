@@ -7,12 +7,12 @@ ghost use Rattle.nats_dial.specs.Causes.{AllBack};
 ghost use Rattle.nats_drive.specs.Refusing.{LinkOut, RoundFailed, WhyNotParsed};
 
 use crate::World;
-use nats_client::id_token;
 use nats_core::Config;
 use nats_dial::{ConnectError, ConnectErrorKind, ConnectOptions, Linked, try_connect};
 use nats_hub::{Holder, Tallies};
 use nats_names::{AddrError, Cause, NoMemory};
 use nats_pool::{ServerAddr, ServerInfo, ServerPool, ToServerAddrs};
+use nats_system::id_token;
 use rand::SeedableRng;
 use rand::rngs::SmallRng;
 use std::alloc::Global;

@@ -1,7 +1,7 @@
 //! Who starts jobs.
 ghost use Rattle.std.specs.Prelude.{◌≡◌, ℕ};
 ghost use Rattle.nats_addr.specs.Resolving.{risen};
-ghost use Rattle.nats_client.specs.Spawning.{spawned};
+ghost use Rattle.nats_system.specs.Spawning.{spawned};
 
 use nats_names::Failed;
 use std::thread;

@@ -2,11 +2,11 @@
 ghost use Rattle.std.specs.Prelude.{◌≡◌};
 
 use crate::{Plan, Starter};
-use nats_client::Whole;
 use nats_dial::{ConnectError, Linked};
 use nats_names::Failed;
 use nats_outside::{Clock, LinkRead, LinkWrite, Reach};
 use nats_pool::{ServerInfo, ServerPool};
+use nats_system::Whole;
 use std::alloc::Global;
 
 /// All of the outside that a client who stays connected needs: what connecting needs, who starts jobs, and clocks that

@@ -3,7 +3,7 @@ ghost use Rattle.std.specs.Prelude.{◌≡◌, ◌^◌, false};
 
 use crate::pool;
 use anyhow::{Result, anyhow};
-use nats_clients::{Bytes, Client, Subscriber, Tallies};
+use nats_client::{Bytes, Client, Subscriber, Tallies};
 use nats_drive::{Connected, Servers, Starter, World, connect_with_options};
 use nats_pool::{ConnectOptions, ServerPool};
 use std::alloc::Global;

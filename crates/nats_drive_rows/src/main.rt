@@ -8,10 +8,10 @@ mod pool;
 mod server;
 
 use anyhow::{Result, anyhow};
-use nats_client::{NetDialer, NetResolver, SystemClock, SystemDraw, Whole};
-use nats_clients::ALL_PARTS;
+use nats_client::ALL_PARTS;
 use nats_drive::ThreadStarter;
 use nats_outside::Joined;
+use nats_system::{NetDialer, NetResolver, SystemClock, SystemDraw, Whole};
 use std::marker::Brand;
 use std::net::{Ipv4Addr, SocketAddr, TcpListener};
 use std::sync::ledger::Blank;

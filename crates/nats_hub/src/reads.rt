@@ -6,10 +6,10 @@ ghost use Rattle.nats_names.specs.Names.{is_letter_or_digit};
 ghost use Rattle.nats_hub.specs.Inboxes.{IsInbox};
 
 use crate::{Hub, Tallies};
-use nats_client::{id_text, id_token};
 use nats_core::{Event, NoMemory, ServerInfo, Subject, Token};
 use nats_history::Statistics;
 use nats_names::State;
+use nats_system::{id_text, id_token};
 use nats_versions::is_version_compatible;
 use std::alloc::Global;
 use std::sync::Wait;

@@ -3,7 +3,7 @@ ghost use Rattle.std.specs.Prelude.{◌≡◌, ◌^◌, true};
 
 use crate::tells;
 use anyhow::{Result, anyhow};
-use nats_clients::{Bytes, Client, Config, Hub, ServerInfo, Tallies, Turn, usual_server};
+use nats_client::{Bytes, Client, Config, Hub, ServerInfo, Tallies, Turn, usual_server};
 use nats_links::{
     LoopEnd, NoMemory, ReadOnce, WriteOnce, read_loop, read_once, tick_loop, write_loop, write_once,
 };

@@ -6,7 +6,7 @@ mod beside;
 mod tells;
 
 use anyhow::Result;
-use nats_clients::ALL_PARTS;
+use nats_client::ALL_PARTS;
 use std::marker::Brand;
 use std::sync::ledger::Blank;
 

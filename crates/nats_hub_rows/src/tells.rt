@@ -1,7 +1,7 @@
 //! What a client tells of the server and of itself.
 
 use anyhow::{Result, anyhow};
-use nats_clients::{Client, State, Tallies};
+use nats_client::{Client, State, Tallies};
 use std::alloc::Global;
 use std::sync::Wait;
 

@@ -9,8 +9,8 @@ use Rattle.nats_session.specs.Handler.{Seen}
 use Rattle.nats_dial.specs.Causes.{Onward}
 use Rattle.nats_dial.specs.Lines.{Took}
 use Rattle.nats_dial.specs.Tries.{IsUp}
-use Rattle.nats_client.specs.declared.errors.PublishErrorKind.TheVariants as publishing
-use Rattle.nats_client.specs.declared.errors.SubscribeErrorKind.TheVariants as subscribing
+use Rattle.nats_system.specs.declared.errors.PublishErrorKind.TheVariants as publishing
+use Rattle.nats_system.specs.declared.errors.SubscribeErrorKind.TheVariants as subscribing
 use Rattle.std.proofs.lemmas.Bool.{false≢true}
 use Rattle.nats_core.specs.declared.answers.ReadOnce.{ReadOnce}
 use Rattle.nats_core.specs.declared.answers.ReadOnce.TheVariants as reads

@@ -20,9 +20,9 @@ use Rattle.nats_handshake.specs.Shaking.{is_wanting}
 use Rattle.nats_handshake.specs.Opened.{Opened}
 use Rattle.nats_dial.specs.Tries.{IsUp, failure_text}
 use Rattle.nats_dial.specs.Causes.{OneOut, RoundCause}
-use Rattle.nats_client.specs.declared.errors.PublishErrorKind.TheVariants as publishing
-use Rattle.nats_client.specs.declared.errors.SubscribeErrorKind.TheVariants as subscribing
-use Rattle.nats_client.specs.Errors.{publish_kind_text, subscribe_kind_text}
+use Rattle.nats_system.specs.declared.errors.PublishErrorKind.TheVariants as publishing
+use Rattle.nats_system.specs.declared.errors.SubscribeErrorKind.TheVariants as subscribing
+use Rattle.nats_system.specs.Errors.{publish_kind_text, subscribe_kind_text}
 use Rattle.nats_live.specs.declared.error.LiveError.{LiveError}
 use Rattle.nats_live.specs.declared.error.LiveError.TheVariants as refused
 use Rattle.nats_live.specs.Ended.{EndedLink, LastLink, LastSince, IsOpenedBy, behind_handshake, after, messages, limit_of, ends_in_fault, nothing}

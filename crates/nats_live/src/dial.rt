@@ -5,11 +5,11 @@ ghost use Rattle.nats_dial.specs.Causes.{AllBack, Onward};
 ghost use Rattle.nats_live.specs.Causes.{DialedTo, LinkedTo, WhyNotDialed, WhyNotLinked, WhyNotParsed};
 
 use crate::error::{LiveError, connect_refused};
-use nats_client::World;
 use nats_dial::{ConnectError, ConnectErrorKind, ConnectOptions, Linked, Reach, try_connect};
 use nats_names::{AddrError, Cause, NoMemory};
 use nats_outside::seen;
 use nats_pool::{Pool, ServerAddr, ServerInfo};
+use nats_system::World;
 use std::alloc::Global;
 
 // The server of this address.

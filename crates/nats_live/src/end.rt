@@ -4,9 +4,9 @@ ghost use Rattle.nats_live.specs.Back.{IsBack};
 ghost use Rattle.nats_live.specs.Steps.{HangsUp};
 
 use crate::step::play;
-use nats_client::World;
 use nats_core::{Core, LinkWrite, Turn};
 use nats_outside::seen;
+use nats_system::World;
 use std::alloc::Global;
 
 // Hangs up where the link is up. Want of memory leaves the session as it is: nothing is asked of it any more.

@@ -2,9 +2,9 @@
 ghost use Rattle.std.specs.Prelude.{◌≡◌, Some};
 ghost use Rattle.nats_live.specs.Causes.{live_error_text, connect_refused};
 
-use nats_client::{PublishError, SubscribeError};
 use nats_dial::{ConnectError, ConnectErrorKind};
 use nats_names::NoMemory;
+use nats_system::{PublishError, SubscribeError};
 use std::alloc::{AllocError, AllocFailed};
 use std::fmt;
 

@@ -14,7 +14,7 @@ mod step;
 
 pub use error::LiveError;
 pub use live::{publish, receive};
-pub use nats_client::{PublishError, PublishErrorKind, SubscribeError, SubscribeErrorKind, World};
 pub use nats_dial::{ConnectError, ConnectErrorKind};
 pub use nats_names::Cause;
+pub use nats_system::{PublishError, PublishErrorKind, SubscribeError, SubscribeErrorKind, World};
 pub use receiving::READ_SIZE;

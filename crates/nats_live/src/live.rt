@@ -12,10 +12,10 @@ use crate::end::{hand_back, hang_up};
 use crate::error::LiveError;
 use crate::publishing::publish_on;
 use crate::receiving::receive_on;
-use nats_client::World;
 use nats_core::{LinkRead, LinkWrite, ServerInfo};
 use nats_dial::Linked;
 use nats_outside::seen;
+use nats_system::World;
 use std::alloc::Global;
 use std::sync::Wait;
 

@@ -8,11 +8,11 @@ ghost use Rattle.nats_live.specs.Flow.{Accepts, Flushes, FlushEnds, HasBegun, Is
 use crate::error::LiveError;
 use crate::step::{play, write_some};
 use bytes::Bytes;
-use nats_client::{PublishError, PublishErrorKind};
 use nats_core::{
     Call, CallReply, Core, LinkWrite, NoMemory, OutboundMessage, StepReply, Subject, Turn,
 };
 use nats_names::Cause;
+use nats_system::{PublishError, PublishErrorKind};
 use std::alloc::Global;
 use std::sync::Wait;
 

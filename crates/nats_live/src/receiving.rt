@@ -8,13 +8,13 @@ ghost use Rattle.nats_live.specs.Flow.{HasBegun, IsWritten, ReceiveEnds, Receive
 
 use crate::error::LiveError;
 use crate::step::{play, read_some, write_some};
-use nats_client::{SubscribeError, SubscribeErrorKind};
 use nats_core::{
     Call, CallReply, Core, LinkRead, LinkWrite, Message, NoMemory, StepReply, Subject, TakeReply,
     Turn, WriteOnce,
 };
 use nats_names::Cause;
 use nats_script::push_message_line;
+use nats_system::{SubscribeError, SubscribeErrorKind};
 use std::alloc::Global;
 use std::sync::Wait;
 

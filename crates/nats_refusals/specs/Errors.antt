@@ -4,10 +4,10 @@ use Rattle.nats_names.specs.declared.cause.Cause.{Cause}
 use Rattle.nats_names.specs.declared.cause.Cause.TheVariants as cause
 use Rattle.nats_history.specs.declared.call.Call.{Call}
 use Rattle.nats_history.specs.Schedule.{has_group, size_of}
-use Rattle.nats_client.specs.declared.errors.PublishErrorKind.{PublishErrorKind}
-use Rattle.nats_client.specs.declared.errors.PublishErrorKind.TheVariants as publish
-use Rattle.nats_client.specs.declared.errors.SubscribeErrorKind.{SubscribeErrorKind}
-use Rattle.nats_client.specs.declared.errors.SubscribeErrorKind.TheVariants as subscribe
+use Rattle.nats_system.specs.declared.errors.PublishErrorKind.{PublishErrorKind}
+use Rattle.nats_system.specs.declared.errors.PublishErrorKind.TheVariants as publish
+use Rattle.nats_system.specs.declared.errors.SubscribeErrorKind.{SubscribeErrorKind}
+use Rattle.nats_system.specs.declared.errors.SubscribeErrorKind.TheVariants as subscribe
 use Rattle.nats_refusals.specs.declared.kinds.RequestErrorKind.{RequestErrorKind}
 use Rattle.nats_refusals.specs.declared.kinds.RequestErrorKind.TheVariants as request
 use Rattle.nats_refusals.specs.declared.kinds.FlushErrorKind.{FlushErrorKind}

@@ -4,8 +4,8 @@ ghost use Rattle.nats_refusals.specs.Kinds.{source_of, publish_kind, subscribe_k
 
 use crate::kinds::{FlushError, FlushErrorKind, RequestError, RequestErrorKind};
 use crate::refusal::Refusal;
-use nats_client::{PublishError, PublishErrorKind, SubscribeError, SubscribeErrorKind};
 use nats_names::{Cause, Error};
+use nats_system::{PublishError, PublishErrorKind, SubscribeError, SubscribeErrorKind};
 
 /// What a refusal came of, the same in every error.
 fn source(refusal: Refusal) -> Option<Cause>

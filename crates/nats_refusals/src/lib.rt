@@ -13,6 +13,6 @@ pub use kinds::{
     FlushError, FlushErrorKind, RequestError, RequestErrorKind, ServerPoolError,
     ServerPoolErrorKind,
 };
-pub use nats_client::{PublishError, PublishErrorKind, SubscribeError, SubscribeErrorKind};
 pub use nats_names::{Cause, Error};
+pub use nats_system::{PublishError, PublishErrorKind, SubscribeError, SubscribeErrorKind};
 pub use refusal::{Refusal, answer, asked, flushed};

@@ -5,10 +5,10 @@
 
 mod why;
 
-use nats_client::{NetDialer, NetResolver, SystemClock, SystemDraw, ThreadSpawner, Whole};
 use nats_explain::Kept;
 use nats_outside::Joined;
 use nats_replay::{NO_MEMORY, Reading, WRITE_FAULT, Writing, replay};
+use nats_system::{NetDialer, NetResolver, SystemClock, SystemDraw, ThreadSpawner, Whole};
 use std::process::ExitCode;
 use std::rt::Env;
 use std::{env, io};

@@ -1,7 +1,7 @@
 //! The line on standard error that says why a run did not end with what was asked for.
-use nats_client::{NetDialer, NetResolver};
 use nats_explain::{NoMemory, trouble};
 use nats_replay::{NO_MEMORY, WRITE_FAULT};
+use nats_system::{NetDialer, NetResolver};
 use std::alloc::Global;
 
 /// What was asked for is printed.

@@ -3,7 +3,7 @@
 use crate::asked::Deed;
 use crate::shown;
 use crate::stop::Stop;
-use nats_clients::{
+use nats_client::{
     Bytes, Client, Message, NoMemory, RequestError, RequestErrorKind, Subject, Subscriber, Tallies,
 };
 use nats_header::HeaderMap;

@@ -10,7 +10,7 @@ mod stop;
 mod words;
 
 use asked::Task;
-use nats_clients::ALL_PARTS;
+use nats_client::ALL_PARTS;
 use nats_drive::ThreadStarter;
 use nats_names::Event;
 use nats_pool::{ConnectOptions, EventBox};

@@ -1,7 +1,7 @@
 //! How messages are shown.
 
 use crate::stop::Stop;
-use nats_clients::Message;
+use nats_client::Message;
 use nats_header::HeaderMap;
 
 /// Prints a line of words.

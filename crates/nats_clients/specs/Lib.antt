@@ -1,4 +1,0 @@
-pub mod Views
-pub mod Finishing
-pub mod Calls
-pub mod Polling

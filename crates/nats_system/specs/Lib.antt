@@ -1,0 +1,5 @@
+pub mod Aside
+pub mod Errors
+pub mod Spawning
+pub mod Still
+pub mod System
