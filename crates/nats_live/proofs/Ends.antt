@@ -16,7 +16,7 @@ use Rattle.nats_core.specs.declared.answers.ReadOnce.{ReadOnce}
 use Rattle.nats_core.specs.declared.answers.ReadOnce.TheVariants as reads
 use Rattle.nats_core.proofs.Dues.{none_played}
 use Rattle.nats_core.specs.Journal.{Logged}
-use Rattle.nats_script.specs.Printed.{message_line}
+use Rattle.nats_message_text.specs.Printed.{message_line}
 use Rattle.nats_live.specs.declared.error.LiveError.{LiveError}
 use Rattle.nats_live.specs.declared.error.LiveError.TheVariants as refused
 use Rattle.nats_live.specs.Back.{IsBack}

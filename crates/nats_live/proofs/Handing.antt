@@ -17,7 +17,7 @@ use Rattle.nats_dial.specs.Causes.{Onward, Grew, AllBack}
 use Rattle.nats_dial.specs.Lines.{Took}
 use Rattle.nats_dial.proofs.Returning.{out_back}
 use Rattle.nats_dial.specs.Tries.{IsUp}
-use Rattle.nats_script.specs.Printed.{message_line}
+use Rattle.nats_message_text.specs.Printed.{message_line}
 use Rattle.nats_live.specs.Back.{IsBack}
 use Rattle.nats_live.specs.Causes.{OffersNothing, DialedTo, Shows, LinkBroke, LinkBrokeOrEnded, FaultInRest, FaultLater, FewerCame, TooLarge}
 use Rattle.nats_live.specs.Ended.{EndedLink, LastLink, LastSince, IsOpenedBy, after, before, behind_handshake, messages, pongs, limit_with, limit_of, ends_in_fault, nothing, handshake_text, WasPublished, WasReceived}

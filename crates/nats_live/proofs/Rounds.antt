@@ -29,7 +29,7 @@ use Rattle.nats_core.specs.declared.entry.StepReply.TheVariants as answers
 use Rattle.nats_core.specs.Journal.{Logged, all_due, reply_to}
 use Rattle.nats_core.specs.Links.{GivesNone}
 use Rattle.nats_core.proofs.Dues.{none_played, none_after_all}
-use Rattle.nats_script.specs.Printed.{message_line}
+use Rattle.nats_message_text.specs.Printed.{message_line}
 use Rattle.nats_live.specs.declared.error.LiveError.{LiveError}
 use Rattle.nats_live.specs.Ended.{messages, pongs, ends_in_fault}
 use Rattle.nats_live.specs.State.{Noise, state, begun}

@@ -9,7 +9,7 @@ use Rattle.nats_lines.specs.Operations.{Operation, message, ping_op, Front, unfi
 use Rattle.nats_history.specs.History.{read, max_payload_after}
 use Rattle.nats_handshake.specs.Opened.{Opened, opened}
 use Rattle.nats_handshake.specs.Shaking.{opening, wants_tls}
-use Rattle.nats_script.specs.Printed.{message_line}
+use Rattle.nats_message_text.specs.Printed.{message_line}
 
 -- the pieces that a link gave, and the bytes that it took
 abbrev pub EndedLink : Type 0

@@ -31,7 +31,7 @@ use Rattle.nats_history.specs.Schedule.{due}
 use Rattle.nats_session.specs.Handler.{Seen}
 use Rattle.nats_system.specs.declared.errors.PublishErrorKind.TheVariants as publishing
 use Rattle.nats_system.specs.declared.errors.SubscribeErrorKind.TheVariants as subscribing
-use Rattle.nats_script.specs.Printed.{message_line}
+use Rattle.nats_message_text.specs.Printed.{message_line}
 use Rattle.nats_live.specs.declared.error.LiveError.{LiveError}
 use Rattle.nats_live.specs.declared.error.LiveError.TheVariants as refused
 use Rattle.nats_live.specs.Ended.{messages, pongs, ends_in_fault}

@@ -1,6 +1,6 @@
 //! Messages of a subject are received on a link: the subscribe, and then reads, until enough messages were taken.
 ghost use Rattle.std.specs.Prelude.{◌≡◌, ◌≤◌, ◌<◌, ℕ, [], List, ◌++◌, length, IsTrue, OnOk};
-ghost use Rattle.nats_script.specs.Printed.{message_line};
+ghost use Rattle.nats_message_text.specs.Printed.{message_line};
 ghost use Rattle.nats_dial.specs.Lines.{Took};
 ghost use Rattle.nats_lines.specs.Operations.{Operation};
 ghost use Rattle.nats_core.specs.Calls.{parts_in};
@@ -12,8 +12,8 @@ use nats_core::{
     Call, CallReply, Core, LinkRead, LinkWrite, Message, NoMemory, StepReply, Subject, TakeReply,
     Turn, WriteOnce,
 };
+use nats_message_text::push_message_line;
 use nats_names::Cause;
-use nats_script::push_message_line;
 use nats_system::{SubscribeError, SubscribeErrorKind};
 use std::alloc::Global;
 use std::sync::Wait;

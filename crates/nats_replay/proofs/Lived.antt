@@ -3,7 +3,7 @@ use Rattle.std.proofs.Common.{◌≡◌, ◌≢◌, refl, ◌∙◌, sym, ap, su
 use Rattle.std.specs.Prelude.{codes, bytes_eq, not, option_and_then}
 use Rattle.std.specs.Io.KnownBytes.{Appends}
 use Rattle.nats_outside.specs.Told.{Seen}
-use Rattle.nats_script.specs.Spelling.{field_number}
+use Rattle.nats_spelling.specs.Spelling.{field_number}
 use Rattle.nats_live.specs.declared.error.LiveError.{LiveError}
 use Rattle.nats_live.specs.Causes.{Shows, WhyNotPublished, WhyNotReceived}
 use Rattle.nats_live.specs.Ended.{WasPublished, WasReceived}

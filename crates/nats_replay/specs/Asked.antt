@@ -1,6 +1,6 @@
 -- The words that ask for a script of a broker, or of calls that are tried again.
 use Rattle.std.specs.Prelude.{◌≡◌, ℕ, ◌&&◌, nat_le, List, [], ◌∷◌, Option, Some, None, option_and_then, if◌then◌else◌, true, codes, bytes_eq}
-use Rattle.nats_script.specs.Spelling.{field_number}
+use Rattle.nats_spelling.specs.Spelling.{field_number}
 use Rattle.nats_replay.specs.declared.asked.Asked.{Asked}
 use Rattle.nats_replay.specs.declared.asked.Asked.TheVariants.{Route, Rpc}
 

@@ -2,8 +2,8 @@
 use Rattle.std.specs.Prelude.{◌≡◌, ◌⊎◌, ℕ, Bool, true, false, ◌&&◌, nat_le, List, [], ◌∷◌, ◌++◌, codes, bytes_eq, Option, Some, None, option_and_then, if◌then◌else◌}
 use Rattle.std.specs.Io.KnownBytes.{Appends}
 use Rattle.nats_outside.specs.Told.{Seen}
-use Rattle.nats_script.specs.Printed.{lf}
-use Rattle.nats_script.specs.Spelling.{field_number}
+use Rattle.nats_spelling.specs.Lines.{lf}
+use Rattle.nats_spelling.specs.Spelling.{field_number}
 use Rattle.nats_live.specs.declared.error.LiveError.{LiveError}
 use Rattle.nats_live.specs.declared.error.LiveError.TheVariants as refused
 use Rattle.nats_live.specs.Causes.{live_error_text, Shows, WhyNotPublished, WhyNotReceived}

@@ -9,9 +9,10 @@ use Rattle.nats_history.specs.Transcripts.{transcript}
 use Rattle.nats_script.specs.declared.script.Script.TheVariants.{Good, Bad}
 use Rattle.nats_replay.specs.declared.top.Ending.{Ending}
 use Rattle.nats_replay.specs.declared.top.Ending.TheVariants.{Transcript, Unreadable, OutOfTurn}
-use Rattle.nats_script.specs.Printed.{lf, printed}
+use Rattle.nats_spelling.specs.Lines.{lf}
+use Rattle.nats_print.specs.Printed.{printed}
 use Rattle.nats_script.specs.Script.{script}
-use Rattle.nats_script.specs.Spelling.{field_number}
+use Rattle.nats_spelling.specs.Spelling.{field_number}
 use Rattle.nats_bulk.specs.Generated.{bulk_config, generated}
 use Rattle.nats_bulk.specs.Summary.{summary}
 use Rattle.nats_replay.specs.declared.whole.TheConstants.{SCRIPT_LIMIT}

@@ -1,7 +1,7 @@
 //! Scripts of a broker, and of calls that are tried again: the words that ask for them, and what is printed of them.
 ghost use Rattle.std.specs.Prelude.{◌≡◌, ◌≢◌, ◌<◌, ◌≤◌, suc, length, map, option_and_then, IfOk, IfSome, IsTrue, Some, None, if◌then◌else◌, bytes_eq, codes};
 ghost use Rattle.std.specs.String.{string_bytes};
-ghost use Rattle.nats_script.specs.Spelling.{field_number};
+ghost use Rattle.nats_spelling.specs.Spelling.{field_number};
 ghost use Rattle.nats_replay.specs.declared.asked.Asked.TheVariants as asked;
 ghost use Rattle.nats_replay.specs.Asked.{in_tries, in_patience, rpc_with, asked_by, IsFit};
 ghost use Rattle.nats_replay.specs.Scripts.{route_ending, rpc_ending, Says, AskedAnswers};

@@ -1,7 +1,7 @@
 //! The words of commands on a live link, and what is printed of them.
 ghost use Rattle.std.specs.Prelude.{◌≡◌, ◌≤◌, None, IfOk, IfSome, map, option_and_then};
 ghost use Rattle.std.specs.String.{string_bytes};
-ghost use Rattle.nats_script.specs.Spelling.{field_number};
+ghost use Rattle.nats_spelling.specs.Spelling.{field_number};
 ghost use Rattle.nats_replay.specs.Live.{LiveAnswers, PrintsAt, PubAnswers, RefusalAnswers, SubAnswers};
 ghost use Rattle.nats_replay.specs.Live.{error_line, in_sub, is_told};
 

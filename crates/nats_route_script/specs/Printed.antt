@@ -1,8 +1,8 @@
 -- What is printed of a script of a broker.
 use Rattle.std.specs.Prelude.{ℕ, List, ◌++◌, codes}
 use Rattle.std.specs.Fmt.{decimal}
-use Rattle.nats_script.specs.Printed.{lf, placed, numbered}
-use Rattle.nats_script.specs.Spelling.{spelled}
+use Rattle.nats_spelling.specs.Lines.{lf, placed, numbered}
+use Rattle.nats_spelling.specs.Spelling.{spelled}
 use Rattle.nats_broker.specs.Peers.{word_text}
 use Rattle.nats_broker.specs.declared.rows.PeerRow.{PeerRow}
 

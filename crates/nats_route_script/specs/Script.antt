@@ -2,8 +2,8 @@
 use Rattle.std.specs.Prelude.{ℕ, suc, List, [], ◌∷◌, Option, Some, None, Result, Ok, Err, option_and_then, if◌then◌else◌, codes}
 use Rattle.std.specs.Option.{option_map}
 use Rattle.std.specs.Str.{bytes_eq}
-use Rattle.nats_script.specs.Script.{lines_of, fields_of, only}
-use Rattle.nats_script.specs.Spelling.{field_bytes, field_number}
+use Rattle.nats_spelling.specs.Cut.{lines_of, fields_of, only}
+use Rattle.nats_spelling.specs.Spelling.{field_bytes, field_number}
 use Rattle.nats_broker.specs.declared.turn.BrokerTurn.{BrokerTurn}
 use Rattle.nats_broker.specs.declared.turn.BrokerTurn.TheVariants.{Join, Feed, Leave}
 use Rattle.nats_route_script.specs.declared.script.RouteScript.{RouteScript}

@@ -1,15 +1,14 @@
 //! The lines of a script: the most bytes of a message, and the turns.
 ghost use Rattle.std.specs.Prelude.{◌≡◌, ◌∷◌, [], None, IfOk, MatchOption, option_and_then};
 ghost use Rattle.std.specs.Option.{option_copied, option_map};
-ghost use Rattle.nats_script.specs.Spelling.{field_number};
-ghost use Rattle.nats_script.specs.Script.{fields_of, only};
-ghost use Rattle.nats_script.specs.Cut.{parts_behind};
+ghost use Rattle.nats_spelling.specs.Spelling.{field_number};
+ghost use Rattle.nats_spelling.specs.Cut.{fields_of, only, parts_behind};
 ghost use Rattle.nats_broker.specs.declared.turn.BrokerTurn.TheVariants.{Leave};
 ghost use Rattle.nats_route_script.specs.Script.{max_of_line, feed_with, feed_of, leave_of, turn_of_line};
 
 use nats_broker::{BrokerTurn, Bytes, NoMemory};
-use nats_script::cut::{cut, only};
-use nats_script::{bytes_field, field_number};
+use nats_spelling::cut::{cut, only};
+use nats_spelling::{bytes_field, field_number};
 use std::alloc::Global;
 
 fn number_in(fields: Option<&[u8]>) -> Option<u64>

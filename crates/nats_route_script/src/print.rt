@@ -1,11 +1,11 @@
 //! Printing what became of peers, and why nothing did.
 ghost use Rattle.std.specs.Prelude.{◌≡◌, ◌++◌, IfOk, OnOk};
-ghost use Rattle.nats_script.specs.Printed.{lf, numbered};
+ghost use Rattle.nats_spelling.specs.Lines.{lf, numbered};
 ghost use Rattle.nats_broker.specs.Peers.{word_text};
 ghost use Rattle.nats_route_script.specs.Printed.{peer_lines, unreadable_text, out_of_turn_text};
 
 use nats_broker::{NoMemory, PeerRow, PeerWord};
-use nats_script::{push_number, push_spelled};
+use nats_spelling::{push_number, push_spelled};
 use std::alloc::Global;
 
 fn word_text(word: PeerWord) -> &'static [u8]

@@ -1,12 +1,12 @@
 //! Reading a whole script.
 ghost use Rattle.std.specs.Prelude.{◌≡◌, IfOk};
-ghost use Rattle.nats_script.specs.Script.{lines_of};
+ghost use Rattle.nats_spelling.specs.Cut.{lines_of};
 ghost use Rattle.nats_route_script.specs.Script.{turns_from, script_with, script};
 
 use crate::lines::{max_of_line, turn_of_line};
 use crate::script::RouteScript;
 use nats_broker::{NoMemory, Seq};
-use nats_script::cut::first_line;
+use nats_spelling::cut::first_line;
 use std::alloc::Global;
 
 fn read_turns(alloc: Global, max_payload: u64, lines: &[u8]) -> Result<RouteScript, NoMemory>

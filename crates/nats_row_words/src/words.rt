@@ -1,8 +1,8 @@
 //! Answers as words of a line.
 
 use nats_names::NoMemory;
-use nats_script::push_number;
 use nats_session::{CallReply, Due, Event, Message, TakeReply};
+use nats_spelling::push_number;
 use std::alloc::Global;
 
 /// Says a word.

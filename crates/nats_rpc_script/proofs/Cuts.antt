@@ -5,8 +5,7 @@ use Rattle.std.specs.Prelude.{OnOk, codes}
 use Rattle.std.proofs.lemmas.Bool.{false≢true}
 use Rattle.std.proofs.lemmas.List.{append-nil}
 use Rattle.std.proofs.lemmas.List.Splits.{slice_split-cons_yes, slice_split-cons_no}
-use Rattle.nats_script.specs.Script.{parts_at, without_empty_last}
-use Rattle.nats_script.specs.Cut.{parts_behind, IsFirstLine}
+use Rattle.nats_spelling.specs.Cut.{parts_at, without_empty_last, parts_behind, IsFirstLine}
 use Rattle.nats_rpc_script.specs.Lines.{before, behind, kind_of_word, kind_by, or_nothing, payload_of}
 use Rattle.nats_rpc_script.specs.declared.lines.Kind.TheVariants as kinds
 

@@ -3,8 +3,8 @@
 use Rattle.std.specs.Prelude.{ℕ, Bool, ◌||◌, ◌==◌, List, [], ◌∷◌, ◌++◌, map, Option, Some, None, codes, if◌then◌else◌}
 use Rattle.std.specs.List.{flat_map}
 use Rattle.std.specs.Str.{bytes_eq}
-use Rattle.nats_script.specs.Printed.{lf}
-use Rattle.nats_script.specs.Script.{lines_of}
+use Rattle.nats_spelling.specs.Lines.{lf}
+use Rattle.nats_spelling.specs.Cut.{lines_of}
 use Rattle.nats_rpc_script.specs.declared.lines.Kind.{Kind}
 use Rattle.nats_rpc_script.specs.declared.lines.Kind.TheVariants as kinds
 

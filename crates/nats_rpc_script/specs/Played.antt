@@ -17,7 +17,8 @@ use Rattle.nats_core.specs.Journal.{Logged, new_core, config_of, journal_turns}
 use Rattle.nats_core.specs.Calls.{Steps}
 use Rattle.nats_script.specs.declared.script.Script.{Script}
 use Rattle.nats_script.specs.declared.script.Script.TheVariants.{Good, Bad}
-use Rattle.nats_script.specs.Printed.{lf, space, opening, reply_text, printed}
+use Rattle.nats_spelling.specs.Lines.{lf, space, opening}
+use Rattle.nats_print.specs.Printed.{reply_text, printed}
 use Rattle.nats_script.specs.Script.{script}
 use Rattle.nats_rpc.specs.declared.outcome.Outcome.{Outcome}
 use Rattle.nats_rpc.specs.declared.outcome.Outcome.TheVariants as outcomes

@@ -3,9 +3,8 @@
 ghost use Rattle.std.specs.Prelude.{◌≡◌, ◌∷◌, ◌++◌, ◌<◌, [], length, map, IfSome, OnOk, IfOk, MatchOption};
 ghost use Rattle.std.specs.List.{flat_map};
 ghost use Rattle.std.specs.Option.{IfNone, option_copied};
-ghost use Rattle.nats_script.specs.Cut.{parts_behind, IsFirstLine};
-ghost use Rattle.nats_script.specs.Printed.{lf};
-ghost use Rattle.nats_script.specs.Script.{parts_at, lines_of};
+ghost use Rattle.nats_spelling.specs.Cut.{parts_behind, IsFirstLine, parts_at, lines_of};
+ghost use Rattle.nats_spelling.specs.Lines.{lf};
 ghost use Rattle.nats_rpc_script.specs.declared.lines.Kind.TheVariants as kinds;
 ghost use Rattle.nats_rpc_script.specs.Lines.{before, behind, is_callers_own, kind_of_word, kind_of, fields_in, turned_as, turned, text_of, kinds_of};
 

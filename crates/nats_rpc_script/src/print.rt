@@ -1,6 +1,7 @@
 //! What calls and polls print.
 ghost use Rattle.std.specs.Prelude.{◌≡◌, ◌++◌, List, OnOk, IfOk, codes};
-ghost use Rattle.nats_script.specs.Printed.{lf, opening, reply_text};
+ghost use Rattle.nats_spelling.specs.Lines.{lf, opening};
+ghost use Rattle.nats_print.specs.Printed.{reply_text};
 ghost use Rattle.nats_rpc_script.specs.Played.{outcome_text, poll_line, asked_line, unreadable_text, out_of_turn_text};
 
 use nats_core::{CallReply, NoMemory};

@@ -1,5 +1,2 @@
-mod Appends
-mod Cuts
-pub mod Numbering
+mod Bare
 mod Scripts
-mod Spelled

@@ -1,8 +1,8 @@
 -- The lines of a script, one at a time.
 use Rattle.std.proofs.Common.{◌≡◌, ℕ, suc, ◌+◌, List, [], ◌∷◌, ◌++◌, Option, Some, Result, Ok, Err, refl, sym, ap, ◌∙◌, append_assoc, add-one}
 use Rattle.nats_history.specs.declared.turn.Turn.{Turn}
-use Rattle.nats_script.specs.Script.{lines_of, onto_turns, turn_of_line, turns_from}
-use Rattle.nats_script.specs.Cut.{IsFirstLine}
+use Rattle.nats_spelling.specs.Cut.{lines_of, IsFirstLine}
+use Rattle.nats_script.specs.Script.{onto_turns, turn_of_line, turns_from}
 
 abbrev Read : Type 0
 Read = Result (List Turn) ℕ

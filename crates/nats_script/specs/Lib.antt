@@ -1,4 +1,1 @@
-pub mod Cut
-pub mod Printed
 pub mod Script
-pub mod Spelling

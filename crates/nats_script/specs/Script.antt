@@ -1,10 +1,8 @@
 -- A script: a line of settings, then a line for each turn.
-use Rattle.std.specs.Prelude.{ℕ, suc, Bool, true, false, ◌==◌, List, [], ◌∷◌, Option, Some, None, Result, Ok, Err, option_and_then, if◌then◌else◌, codes}
+use Rattle.std.specs.Prelude.{ℕ, suc, Bool, true, false, List, [], ◌∷◌, Option, Some, None, Result, Ok, Err, option_and_then, if◌then◌else◌, codes}
 use Rattle.std.specs.Option.{option_map}
-use Rattle.std.specs.List.{slice_split}
 use Rattle.std.specs.Str.{bytes_eq}
-use Rattle.nats_header.specs.Headers.{Headers, appended}
-use Rattle.nats_header.specs.Names.{is_header_name, is_header_value}
+use Rattle.nats_header.specs.Headers.{Headers}
 use Rattle.nats_info.specs.Info.{default_info}
 use Rattle.nats_info.specs.Fields.{info_at}
 use Rattle.nats_history.specs.declared.config.Config.{Config}
@@ -16,33 +14,9 @@ use Rattle.nats_script.specs.declared.turn_lines.Word.{Word}
 use Rattle.nats_script.specs.declared.turn_lines.Word.TheVariants as word
 use Rattle.nats_script.specs.declared.script.Script.{Script}
 use Rattle.nats_script.specs.declared.script.Script.TheVariants.{Good, Bad}
-use Rattle.nats_script.specs.Spelling.{field_bytes, field_text, field_optional, field_token, field_number}
-
--- ---- lines and fields
-
--- what stands between the bytes of one value, empty parts too
-abbrev pub parts_at : ℕ → List ℕ → List (List ℕ)
-parts_at byte text = slice_split (λ b. b == byte) text
-
--- what follows the last line feed is a line only where it is not empty
-abbrev pub without_empty_last : List (List ℕ) → List (List ℕ)
-without_empty_last [] = []
-without_empty_last ([] ∷ []) = []
-without_empty_last ((b ∷ bytes) ∷ []) = (b ∷ bytes) ∷ []
-without_empty_last (line ∷ next ∷ more) = line ∷ without_empty_last (next ∷ more)
-
--- what stands between line feeds
-abbrev pub lines_of : List ℕ → List (List ℕ)
-lines_of bytes = without_empty_last (parts_at 10 bytes)
-
--- what stands between spaces, of which one parts two fields
-abbrev pub fields_of : List ℕ → List (List ℕ)
-fields_of line = parts_at 32 line
-
--- the field, where there is just one
-abbrev pub only : List (List ℕ) → Option (List ℕ)
-only (field ∷ []) = Some field
-only fields = None
+use Rattle.nats_message_text.specs.Pairs.{headers_from}
+use Rattle.nats_spelling.specs.Cut.{lines_of, fields_of, only}
+use Rattle.nats_spelling.specs.Spelling.{field_bytes, field_text, field_optional, field_token, field_number}
 
 -- ---- the settings
 
@@ -128,25 +102,6 @@ limit_of (s ∷ n ∷ []) = limit_with (field_number s) (field_number n)
 limit_of fields = None
 
 -- ---- publishes
-
--- a text that is so, where it is there
-abbrev pub text_that : (List ℕ → Bool) → Option (List ℕ) → Option (List ℕ)
-text_that test None = None
-text_that test (Some text) = if test text then Some text else None
-
--- headers with one more value at the end of those of its name
-abbrev pub with_value : Headers → Option (List ℕ) → Option (List ℕ) → Option Headers
-with_value headers (Some name) (Some value) = Some (appended headers name value)
-with_value headers name value = None
-
--- headers with those of further pairs of fields, a name and a value each, appended in order
-abbrev pub headers_from : Option Headers → List (List ℕ) → Option Headers
-headers_from None fields = None
-headers_from (Some headers) [] = Some headers
-headers_from (Some headers) (name ∷ []) = None
-headers_from (Some headers) (name ∷ value ∷ more) =
-    headers_from (with_value headers (text_that is_header_name (field_text name))
-    (text_that is_header_value (field_text value))) more
 
 abbrev pub publish_with : Option (List ℕ) → Option (Option (List ℕ)) → Option (List ℕ) → Option (Option Headers)
     → Option Turn

@@ -1,19 +1,15 @@
-//! Scripts and transcripts as text: reading the settings and turns that bytes spell, and printing a transcript. It
-//! is our own format: a line for each turn, and a line for each entry.
+//! Scripts as text: reading the settings and turns that bytes spell, a line for each turn. It is our own format. What
+//! fields spell and how a transcript is printed stand in crates of their own, and are given from here too.
 #![tactic(auto)]
 
-pub mod cut;
-mod fields;
-mod print;
 mod publish_lines;
 mod read;
 mod script;
-mod spelling;
 mod turn_lines;
 
-pub use fields::{bytes_field, field_number};
 pub use nats_history::{Config, NoMemory, Seq, Transcript, Turn};
-pub use print::{print_transcript, push_message_line};
+pub use nats_message_text::push_message_line;
+pub use nats_print::print_transcript;
+pub use nats_spelling::{bytes_field, cut, field_number, push_number, push_spelled};
 pub use read::read_script;
 pub use script::Script;
-pub use spelling::{push_number, push_spelled};

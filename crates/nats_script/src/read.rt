@@ -1,12 +1,13 @@
 //! Reading a whole script.
 ghost use Rattle.std.specs.Prelude.{◌≡◌, IfOk};
-ghost use Rattle.nats_script.specs.Script.{lines_of, turns_from, script_with, script};
+ghost use Rattle.nats_spelling.specs.Cut.{lines_of};
+ghost use Rattle.nats_script.specs.Script.{turns_from, script_with, script};
 
-use crate::cut::first_line;
 use crate::script::Script;
 use crate::turn_lines::{config_of_line, turn_of_line};
 use nats_history::Config;
 use nats_names::{NoMemory, Seq};
+use nats_spelling::cut::first_line;
 use std::alloc::Global;
 
 fn read_turns(alloc: Global, config: Config, lines: &[u8]) -> Result<Script, NoMemory>

@@ -1,18 +1,18 @@
 //! The lines of a script: the settings and the turns.
 ghost use Rattle.std.specs.Prelude.{◌≡◌, ◌∷◌, [], None, IfOk, MatchOption, option_and_then};
 ghost use Rattle.std.specs.Option.{option_copied};
-ghost use Rattle.nats_script.specs.Spelling.{field_bytes, field_number};
-ghost use Rattle.nats_script.specs.Script.{fields_of, only, mode_of, config_with, config_of_fields, config_of_line, short_word_of, word_of, up_turn, is_bare, sub_with, sub_of, limit_with, limit_of, turn_of, turn_of_line};
-ghost use Rattle.nats_script.specs.Cut.{parts_behind};
+ghost use Rattle.nats_spelling.specs.Spelling.{field_bytes, field_number};
+ghost use Rattle.nats_spelling.specs.Cut.{fields_of, only, parts_behind};
+ghost use Rattle.nats_script.specs.Script.{mode_of, config_with, config_of_fields, config_of_line, short_word_of, word_of, up_turn, is_bare, sub_with, sub_of, limit_with, limit_of, turn_of, turn_of_line};
 
-use crate::cut::{cut, only};
-use crate::fields::{
-    bytes_field, field_bytes, field_number, field_optional, field_text, field_token,
-};
 use crate::publish_lines::{hpub_of, hrequest_of, pub_of, request_of};
 use nats_history::{Call, Config, ServerInfo, Turn};
 use nats_info::{InfoError, read_info};
 use nats_names::{Bytes, NoMemory, Subject, Token};
+use nats_spelling::cut::{cut, only};
+use nats_spelling::{
+    bytes_field, field_bytes, field_number, field_optional, field_text, field_token,
+};
 use std::alloc::Global;
 
 // ---- settings

@@ -1,6 +1,6 @@
 -- The words of a command line that ask for workers.
 use Rattle.std.specs.Prelude.{ℕ, ◌≤◌, ◌&&◌, nat_le, List, [], ◌∷◌, Option, Some, None, option_and_then, if◌then◌else◌, codes, bytes_eq}
-use Rattle.nats_script.specs.Spelling.{field_number}
+use Rattle.nats_spelling.specs.Spelling.{field_number}
 use Rattle.nats_seat_text.specs.declared.asked.TheConstants.{MOST_WORKERS, MOST_PUBLISHES}
 
 -- the number, if it is from 1 to the most

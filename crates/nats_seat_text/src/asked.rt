@@ -1,10 +1,10 @@
 //! The words of a command line that ask for workers.
 ghost use Rattle.std.specs.Prelude.{◌≡◌, ◌≤◌, map, option_and_then, IfSome, if◌then◌else◌, None, bytes_eq, codes};
 ghost use Rattle.std.specs.String.{string_bytes};
-ghost use Rattle.nats_script.specs.Spelling.{field_number};
+ghost use Rattle.nats_spelling.specs.Spelling.{field_number};
 ghost use Rattle.nats_seat_text.specs.Asked.{IsAsked, both, seats_asked, up_to};
 
-use nats_script::field_number;
+use nats_spelling::field_number;
 
 /// How many workers may be asked for. Own choice.
 pub const MOST_WORKERS: u64 = 64;

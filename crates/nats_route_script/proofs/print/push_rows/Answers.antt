@@ -1,7 +1,7 @@
 -- The row's lines go to the end, under the next number.
 use Rattle.std.proofs.Common.{arith}
 use Rattle.nats_route_script.specs.Printed.{peer_lines}
-use Rattle.nats_script.proofs.Numbering.{numbered_more}
+use Rattle.nats_spelling.proofs.Numbering.{numbered_more}
 use Rattle.nats_route_script.proofs.print.push_rows.Goals as goal
 
 pub loop-row-preserved : goal.loop-row-preserved

@@ -1,6 +1,6 @@
 -- the rows so far are printed, and the next one's number is one more than theirs
 use Rattle.std.proofs.Common.{◌≡◌, ◌+◌, ◌++◌, take}
-use Rattle.nats_script.specs.Printed.{numbered}
+use Rattle.nats_spelling.specs.Lines.{numbered}
 use Rattle.nats_route_script.specs.Printed.{peer_lines}
 use Rattle.nats_route_script.proofs.print.push_rows.Given as goal
 

@@ -1,7 +1,7 @@
 -- the lines so far, then those that are left, are all
 use Rattle.std.proofs.Common.{◌≡◌, ◌++◌, length, map}
 use Rattle.std.specs.List.{flat_map}
-use Rattle.nats_script.specs.Script.{lines_of}
+use Rattle.nats_spelling.specs.Cut.{lines_of}
 use Rattle.nats_rpc_script.specs.Lines.{turned, kind_of}
 use Rattle.nats_rpc_script.proofs.lines.push_lines.Given as goal
 

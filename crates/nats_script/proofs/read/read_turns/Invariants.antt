@@ -1,6 +1,7 @@
 -- the turns so far, then those of the lines that are left, are all; the next line's number is small
 use Rattle.std.proofs.Common.{◌≡◌, ◌+◌, ◌≤◌, length}
-use Rattle.nats_script.specs.Script.{lines_of, turns_from}
+use Rattle.nats_spelling.specs.Cut.{lines_of}
+use Rattle.nats_script.specs.Script.{turns_from}
 use Rattle.nats_script.proofs.Scripts.{onto_read}
 use Rattle.nats_script.proofs.read.read_turns.Given as goal
 

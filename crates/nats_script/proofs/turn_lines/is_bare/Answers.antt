@@ -1,5 +1,5 @@
 -- A field is left exactly where a cut was made.
-use Rattle.nats_script.proofs.Cuts.{bare_where}
+use Rattle.nats_script.proofs.Bare.{bare_where}
 use Rattle.nats_script.proofs.turn_lines.is_bare.Goals as goal
 
 pub returns : goal.returns

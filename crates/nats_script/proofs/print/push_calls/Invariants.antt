@@ -1,8 +1,0 @@
--- the calls so far are printed
-use Rattle.std.proofs.Common.{◌≡◌, ◌++◌, take}
-use Rattle.std.specs.List.{flat_map}
-use Rattle.nats_script.specs.Printed.{call_line}
-use Rattle.nats_script.proofs.print.push_calls.Given as goal
-
-abbrev pub invariant-loop-place : goal.invariant-loop-place
-invariant-loop-place l = l.out.items ≡ l.initial.out.items ++ flat_map call_line (take l.place-index l.calls)

@@ -1,8 +1,0 @@
--- the takes so far are printed
-use Rattle.std.proofs.Common.{◌≡◌, ◌++◌, take}
-use Rattle.std.specs.List.{flat_map}
-use Rattle.nats_script.specs.Printed.{take_line}
-use Rattle.nats_script.proofs.print.push_takes.Given as goal
-
-abbrev pub invariant-loop-place : goal.invariant-loop-place
-invariant-loop-place l = l.out.items ≡ l.initial.out.items ++ flat_map take_line (take l.place-index l.takes)
