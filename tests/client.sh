@@ -31,9 +31,12 @@ status() {
 status 0 --help
 status 0 --version
 status 0 sub --help
+status 0 bench --help
 status 2
 status 2 sub
 status 2 pub a b --count 0
+status 2 bench other
+status 2 bench pub --msgs 0
 status 9 --server nats://127.0.0.1:1 pub a b
 grep -q '^no link: IO error' "$folder/err" || fail "a refused port is not told"
 status 9 --server http://a pub a b
@@ -121,6 +124,27 @@ for _ in $(seq 200); do
     sleep 0.05
 done
 [ "$(cat "$folder"/crew.? | grep -c '^job$')" -eq 300 ] || fail "the queue group got another number of messages"
+
+# rates: of each kind, where two clients share the messages, and of one that takes what another process publishes
+rated() {
+    grep -Eq "^$2 stats: [0-9,]+ msgs/sec ~ [0-9,]+\.[0-9]{2} MB/sec$" "$1.out" || fail "the rate of $2: $(cat "$1.out")"
+    tr '\r' '\n' < "$1.err" | grep -q "^$3 of $3$" || fail "the progress of $2"
+}
+for way in pub:Pub pubsub:Pub/Sub request:Request; do
+    status 0 bench "${way%%:*}" --msgs 1001 --size 16 --clients 2
+    mv "$folder/out" "$folder/rate.out"
+    mv "$folder/err" "$folder/rate.err"
+    rated "$folder/rate" "${way##*:}" 501
+done
+timeout 60 "$program" bench sub --msgs 1000 > "$folder/taken.out" 2> "$folder/taken.err" &
+beside=$!
+for _ in $(seq 200); do
+    grep -c 'SUB wichapok.bench ' "$folder/log" | grep -qx 3 && break
+    sleep 0.05
+done
+status 0 bench pub --msgs 1000
+ended taken 0
+rated "$folder/taken" Sub 1000
 halt
 
 # numbered messages on two links, between which the server is killed: what comes is in order, and none comes twice
@@ -146,4 +170,4 @@ serve -1 --auth magic
 status 0 --token magic pub a b
 status 9 pub a b
 
-echo "client: its words; messages, requests, a queue group, a killed server and logins, against $(nats-server --version)"
+echo "client: its words; messages, requests, a queue group, rates, a killed server and logins, against $(nats-server --version)"

@@ -3,8 +3,8 @@
 
 docs/DEFINITIONS.md and docs/CALLS.md are read off the sources: with --write they are written, else they must be as they
 would be written. Besides, every link and path that a page names must be there, every name in backquotes in
-docs/PROVED.md must stand in the sources, README.md keeps its size and its code stands in an example. It prints a line for each
-fault, and ends with 1 where there is one.
+docs/PROVED.md must stand in the sources, README.md keeps its size, and its code and that of docs/GUIDE.md stand in an example. It
+prints a line for each fault, and ends with 1 where there is one.
 """
 import re
 import sys
@@ -12,7 +12,7 @@ import sys
 sys.dont_write_bytecode = True
 from sources import TOP, crates, definitions, edits, functions, groups, imported
 
-README_WORDS, SENTENCE_WORDS = 800, 40
+README_WORDS, README_CODE, SENTENCE_WORDS = 800, 20, 40
 WORD = re.compile(r"[\w'-]+")
 MADE = "<!-- Made by tests/pages.py --write from the sources: change those, and not this page. -->"
 
@@ -112,9 +112,9 @@ def prose(text):
 
 
 def strange_code(page):
-    """A page's Rust code is cut out of an example, function by function."""
+    """A page's Rust code is cut out of an example, part by part, with an empty line between two."""
     text = page.read_text(encoding="utf-8")
-    examples = [source.read_text(encoding="utf-8") for source in TOP.glob("crates/example_*/src/main.rt")]
+    examples = [source.read_text(encoding="utf-8") for source in TOP.glob("crates/example_*/src/*.rt")]
     for block in re.findall(r"^```rust\n(.*?)^```$", text, re.M | re.S):
         for part in block.rstrip("\n").split("\n\n"):
             if not any(part in example for example in examples):
@@ -125,6 +125,10 @@ def wrong_size(page):
     words = len(page.read_text(encoding="utf-8").split())
     if words > README_WORDS:
         yield f"{page.name}: {words} words, and {README_WORDS} at most are meant"
+    for block in re.findall(r"^```rust\n(.*?)^```$", page.read_text(encoding="utf-8"), re.M | re.S):
+        lines = [line for line in block.splitlines() if line.strip()]
+        if len(lines) > README_CODE:
+            yield f"{page.name}: {len(lines)} lines of code, and {README_CODE} at most are meant"
     for sentence in re.split(r"(?<=[.:?!])\s+|\n\s*\n|\n- ", prose(page.read_text(encoding="utf-8"))):
         if len(sentence.split()) > SENTENCE_WORDS:
             yield f"{page.name}: a sentence of {len(sentence.split())} words: {' '.join(sentence.split()[:8])} .."
@@ -142,7 +146,8 @@ def main():
         faults += wrong_paths(page)
     if (TOP / "docs/PROVED.md").is_file():
         faults += wrong_names(TOP / "docs/PROVED.md")
-    faults += strange_code(TOP / "README.md")
+    for page in (TOP / "README.md", TOP / "docs/GUIDE.md"):
+        faults += strange_code(page)
     faults += wrong_size(TOP / "README.md")
     for fault in faults:
         print(fault)

@@ -1,110 +1,75 @@
-//! A responder: a service in the queue group `clocks` that answers each request on `time.now`. Standard input is what
-//! the server sends, so the program runs over memory alone; over a socket the same calls are made with its bytes.
+//! A responder: a member of the queue group `clocks` that answers each request on `time.now`, with the time zone in a
+//! header. It ends after three requests. It runs over memory alone: standard input is what the server sends, and what
+//! the client sends is printed behind `>`. A client that connects to a server makes the same calls.
 #![tactic(auto)]
 
-use anyhow::{Result, anyhow};
-use nats_core::{
-    Bytes, Call, Config, Core, Message, OutboundMessage, StepReply, Subject, TakeReply, Turn,
-    usual_server,
-};
+ghost use Rattle.std.specs.Prelude.{◌≡◌, ◌^◌, false};
+
+use anyhow::Result;
+use nats_client::{ALL_PARTS, Bytes, Client, Message, Subject, Subscriber, Tallies};
+use nats_header::HeaderMap;
 use std::alloc::Global;
 use std::io::Read;
-use std::process::ExitCode;
-use std::str;
+use std::marker::Brand;
+use std::sync::Wait;
+use std::sync::ledger::Blank;
 
-/// The number of the one subscription.
-const REQUESTS: u64 = 1;
-
-/// Plays a turn whose answer says no more than that it was played.
-fn play(alloc: Global, core: &mut Core, turn: Turn) -> Result<()> {
-    match core.step(alloc, turn) {
-        Ok(_) => Ok(()),
-        Err(error) => Err(anyhow!("{error:?}")),
-    }
-}
-
-/// A link comes up, and the subscription is asked for.
-fn begin(alloc: Global, core: &mut Core) -> Result<()> {
-    play(alloc, core, Turn::Up(usual_server(alloc)))?;
-    let call = Call::Subscribe {
-        subject: Subject::from_static("time.now"),
-        queue_group: Some(Subject::from_static("clocks")),
-    };
-    play(alloc, core, Turn::Do(call))
-}
-
-/// Prints what is to be sent to the server, and tells the session that it was.
-fn send<R: Print>(rt: &R, alloc: Global, core: &mut Core) -> Result<()> {
-    let pieces = core.pending_pieces(alloc).ok().ok_or(anyhow!("no memory"))?;
-    let mut count = 0u64;
-    for piece in pieces.iter() {
-        print!(rt;
-            "> {}",
-            str::from_utf8(piece.as_slice()).unwrap_or("(bytes)\n")
-        )?;
-        count = count.saturating_add(piece.len() as u64);
-    }
-    play(alloc, core, Turn::Write(count))
-}
+/// How many requests come before it ends.
+const COUNT: u64 = 3;
 
 /// Answers a request where it names a subject for the reply.
-fn answer(alloc: Global, core: &mut Core, message: &Message) -> Result<()> {
-    let Some(reply) = &message.reply else {
+fn answer<G: Tallies, R: Wait>(
+    rt: &R,
+    alloc: Global,
+    client: &mut Client<G>,
+    request: &Message,
+) -> Result<()> {
+    let Some(reply) = &request.reply else {
         return Ok(());
     };
-    let subject = reply.copy(alloc).ok().ok_or(anyhow!("no memory"))?;
-    let payload = Bytes::copy_from_slice(alloc, b"10:07")?;
-    let message = OutboundMessage {
-        subject,
-        reply: None,
-        payload,
-        headers: None,
-    };
-    play(alloc, core, Turn::Do(Call::Publish(message)))
+    let to = reply.copy(alloc)?;
+    let mut headers = HeaderMap::new(alloc);
+    headers.insert(alloc, "Zone", "UTC")?;
+    client.publish_with_headers(rt, alloc, to, headers, Bytes::from_static(b"10:07"))?;
+    Ok(())
 }
 
-/// Takes the oldest request that waits and answers it; `false` where none waits.
-fn take(alloc: Global, core: &mut Core) -> Result<bool> {
-    match core.step(alloc, Turn::Take(REQUESTS)) {
-        Ok(StepReply::Take(TakeReply::Message(message))) => {
-            answer(alloc, core, &message)?;
-            Ok(true)
+/// Answers each request, until none will come.
+fn serve<G: Tallies, R: Wait>(
+    rt: &R,
+    alloc: Global,
+    client: &mut Client<G>,
+    requests: &mut Subscriber<G>,
+) -> Result<()> {
+    for _ in rt.forever() {
+        match requests.next(rt, alloc)? {
+            Some(request) => answer(rt, alloc, client, &request)?,
+            None => break,
         }
-        Ok(_) => Ok(false),
-        Err(error) => Err(anyhow!("{error:?}")),
     }
+    Ok(())
 }
 
-fn serve(rt: &HostRuntime, core: &mut Core) -> Result<()> {
+/// Subscribes, hears what the server sends, and serves.
+fn run<G: Tallies, R: Wait + Print>(rt: &R, alloc: Global, blank: Blank, sent: &[u8]) -> Result<()>
+    requires name { blank.name ≡ G.name }
+    requires parts { blank.parts ≡ G.parts }
+    requires all { blank.parts ≡ 2 ^ 63 }
+    requires kept { G.is_kept ≡ false }
+{
+    let mut client: Client<G> = example_link::client(rt, alloc, blank)?;
+    let group = Subject::from_static("clocks");
+    let mut requests = client.queue_subscribe(rt, alloc, "time.now", group)?;
+    requests.unsubscribe_after(rt, alloc, COUNT)?;
+    example_link::takes(rt, alloc, &client)?;
+    example_link::gives(rt, alloc, &client, sent)?;
+    serve(rt, alloc, &mut client, &mut requests)?;
+    example_link::takes(rt, alloc, &client)
+}
+
+fn main(rt: HostRuntime) -> Result<()> {
     let alloc = rt.alloc();
-    begin(alloc, core)?;
-    send(rt, alloc, core)?;
-    let mut bytes = Vec::new(alloc);
-    rt.stdin().read_to_end(&mut bytes)?;
-    play(alloc, core, Turn::Piece(Bytes::from_vec(bytes)?))?;
-    for _ in 0..u64::MAX {
-        if !take(alloc, core)? {
-            break;
-        }
-    }
-    send(rt, alloc, core)
-}
-
-fn run(rt: &HostRuntime) -> Result<()> {
-    let alloc = rt.alloc();
-    let config = Config::new(alloc).ok().ok_or(anyhow!("no memory"))?;
-    let mut core = Core::new(alloc, config, false)
-        .ok()
-        .ok_or(anyhow!("no memory"))?;
-    serve(rt, &mut core)
-}
-
-fn main(rt: HostRuntime) -> ExitCode {
-    match run(&rt) {
-        Ok(()) => ExitCode::SUCCESS,
-        Err(failure) => {
-            let _ = eprintln!(rt; "{failure:?}");
-            ExitCode::FAILURE
-        }
-    }
+    let mut sent = Vec::new(alloc);
+    rt.stdin().read_to_end(&mut sent)?;
+    run::<Brand, HostRuntime>(&rt, alloc, Blank::new(ALL_PARTS), sent.as_slice())
 }

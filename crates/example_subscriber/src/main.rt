@@ -1,100 +1,110 @@
-//! A subscriber: it asks for `orders.*` and prints each message that comes. Standard input is what the server sends, so
-//! the program runs over memory alone; over a socket the same calls are made with the bytes that the socket gives.
+//! A subscriber: it prints the messages of `orders.*` as they come, and ends after two. The address of a server, as
+//! `nats://127.0.0.1:4222`, sends it there. Without one it runs over memory alone: standard input is what the server
+//! sends, and what the client sends is printed behind `>`.
 #![tactic(auto)]
 
+ghost use Rattle.std.specs.Prelude.{◌≡◌, ◌^◌, false};
+
 use anyhow::{Result, anyhow};
-use nats_core::{
-    Bytes, Call, Config, Core, Message, StepReply, Subject, TakeReply, Turn, usual_server,
-};
+use nats_client::{ALL_PARTS, Client, Subscriber, Tallies};
+use nats_drive::{Connected, Starter, ThreadStarter, World, connect_with_options};
+use nats_outside::Joined;
+use nats_pool::ConnectOptions;
+use nats_system::{NetDialer, NetResolver, SystemClock, SystemDraw, Whole};
 use std::alloc::Global;
 use std::io::Read;
-use std::process::ExitCode;
-use std::str;
+use std::marker::Brand;
+use std::sync::Wait;
+use std::sync::ledger::Blank;
+use std::{env, str};
 
-/// The number of the one subscription.
-const ORDERS: u64 = 1;
+/// How many messages it prints.
+const COUNT: u64 = 2;
 
-/// Plays a turn whose answer says no more than that it was played.
-fn play(alloc: Global, core: &mut Core, turn: Turn) -> Result<()> {
-    match core.step(alloc, turn) {
-        Ok(_) => Ok(()),
-        Err(error) => Err(anyhow!("{error:?}")),
+/// Prints the next messages.
+fn listen<G: Tallies, R: Wait + Print>(
+    rt: &R,
+    alloc: Global,
+    orders: &mut Subscriber<G>,
+) -> Result<()> {
+    for _ in 0..COUNT {
+        let Some(message) = orders.next(rt, alloc)? else {
+            return Err(anyhow!("the session was closed"));
+        };
+        let payload = str::from_utf8(message.payload.as_slice()).unwrap_or("(bytes)");
+        println!(rt; "{}: {payload}", message.subject.as_str())?;
     }
-}
-
-/// A link comes up, and the subscription is asked for.
-fn begin(alloc: Global, core: &mut Core) -> Result<()> {
-    play(alloc, core, Turn::Up(usual_server(alloc)))?;
-    let subject = Subject::from_static("orders.*");
-    let call = Call::Subscribe {
-        subject,
-        queue_group: None,
-    };
-    play(alloc, core, Turn::Do(call))
-}
-
-/// Prints what is to be sent to the server, and tells the session that it was.
-fn send<R: Print>(rt: &R, alloc: Global, core: &mut Core) -> Result<()> {
-    let pieces = core.pending_pieces(alloc).ok().ok_or(anyhow!("no memory"))?;
-    let mut count = 0u64;
-    for piece in pieces.iter() {
-        print!(rt;
-            "> {}",
-            str::from_utf8(piece.as_slice()).unwrap_or("(bytes)\n")
-        )?;
-        count = count.saturating_add(piece.len() as u64);
-    }
-    play(alloc, core, Turn::Write(count))
-}
-
-fn print_message<R: Print>(rt: &R, message: &Message) -> Result<()> {
-    let payload = str::from_utf8(message.payload.as_slice()).unwrap_or("(bytes)");
-    println!(rt; "{}: {payload}", message.subject.as_str())?;
     Ok(())
 }
 
-/// Takes the oldest message that waits and prints it; `false` where none waits.
-fn take<R: Print>(rt: &R, alloc: Global, core: &mut Core) -> Result<bool> {
-    match core.step(alloc, Turn::Take(ORDERS)) {
-        Ok(StepReply::Take(TakeReply::Message(message))) => {
-            print_message(rt, &message)?;
-            Ok(true)
+/// Runs at a server.
+fn connect<
+    G: Tallies + Send + Sync + 'static,
+    R: Wait + Print + Copy + Drop + Send + 'static,
+    P: Starter,
+    W: World + Drop + Send + 'static,
+>(rt: &R, alloc: Global, blank: Blank, starter: &mut P, world: W, addr: String) -> Result<()>
+where
+    W::Read: Send + 'static,
+    W::Write: Send + 'static,
+    W::Ticks: Send + 'static,
+    requires name { blank.name ≡ G.name }
+    requires parts { blank.parts ≡ G.parts }
+    requires all { blank.parts ≡ 2 ^ 63 }
+    requires kept { G.is_kept ≡ false }
+{
+    let options = ConnectOptions::new();
+    match connect_with_options::<G, R, P, W, String>(
+        rt, alloc, blank, starter, world, addr, options,
+    ) {
+        Ok(Connected { mut client, .. }) => {
+            let mut orders = client.subscribe(rt, alloc, "orders.*")?;
+            listen(rt, alloc, &mut orders)
         }
-        Ok(_) => Ok(false),
-        Err(error) => Err(anyhow!("{error:?}")),
+        Err(refused) => Err(anyhow!("{}", refused.error)),
     }
 }
 
-fn serve(rt: &HostRuntime, core: &mut Core) -> Result<()> {
+/// Runs over memory alone.
+fn rehearse<G: Tallies, R: Wait + Print>(
+    rt: &R,
+    alloc: Global,
+    blank: Blank,
+    sent: &[u8],
+) -> Result<()>
+    requires name { blank.name ≡ G.name }
+    requires parts { blank.parts ≡ G.parts }
+    requires all { blank.parts ≡ 2 ^ 63 }
+    requires kept { G.is_kept ≡ false }
+{
+    let mut client: Client<G> = example_link::client(rt, alloc, blank)?;
+    let mut orders = client.subscribe(rt, alloc, "orders.*")?;
+    example_link::takes(rt, alloc, &client)?;
+    example_link::gives(rt, alloc, &client, sent)?;
+    listen(rt, alloc, &mut orders)?;
+    example_link::takes(rt, alloc, &client)
+}
+
+fn main(rt: HostRuntime) -> Result<()> {
     let alloc = rt.alloc();
-    begin(alloc, core)?;
-    send(rt, alloc, core)?;
-    let mut bytes = Vec::new(alloc);
-    rt.stdin().read_to_end(&mut bytes)?;
-    play(alloc, core, Turn::Piece(Bytes::from_vec(bytes)?))?;
-    for _ in 0..u64::MAX {
-        if !take(rt, alloc, core)? {
-            break;
-        }
+    let mut words: Vec<String> = env::args(&rt)?.collect(alloc)?;
+    let blank = Blank::new(ALL_PARTS);
+    if words.len() < 2 {
+        let mut sent = Vec::new(alloc);
+        rt.stdin().read_to_end(&mut sent)?;
+        return rehearse::<Brand, HostRuntime>(&rt, alloc, blank, sent.as_slice());
     }
-    send(rt, alloc, core)
-}
-
-fn run(rt: &HostRuntime) -> Result<()> {
-    let alloc = rt.alloc();
-    let config = Config::new(alloc).ok().ok_or(anyhow!("no memory"))?;
-    let mut core = Core::new(alloc, config, false)
-        .ok()
-        .ok_or(anyhow!("no memory"))?;
-    serve(rt, &mut core)
-}
-
-fn main(rt: HostRuntime) -> ExitCode {
-    match run(&rt) {
-        Ok(()) => ExitCode::SUCCESS,
-        Err(failure) => {
-            let _ = eprintln!(rt; "{failure:?}");
-            ExitCode::FAILURE
-        }
-    }
+    let addr = words.pop().ok_or(anyhow!("no address"))?;
+    let world = Whole {
+        reach: Joined {
+            dialer: NetDialer::new(rt),
+            resolver: NetResolver::new(rt),
+            clock: SystemClock::new(rt),
+            draw: SystemDraw::new(rt),
+        },
+        spawner: ThreadStarter::new(rt),
+        clock: SystemClock::new(rt),
+    };
+    let mut starter = ThreadStarter::new(rt);
+    connect::<Brand, HostRuntime, _, _>(&rt, alloc, blank, &mut starter, world, addr)
 }

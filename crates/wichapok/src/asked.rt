@@ -6,6 +6,59 @@ use nats_names::Text;
 use nats_pool::Auth;
 use std::alloc::{AllocError, Global};
 
+/// What a benchmark measures.
+#[derive(Clone, Copy, Debug, PartialEq, Eq)]
+pub enum Way {
+    /// Publishing.
+    Publish,
+    /// Taking what others publish.
+    Subscribe,
+    /// Publishing, and taking all of that.
+    Both,
+    /// Asking, one request after the other, and answering.
+    Request,
+}
+
+impl Way {
+    /// What its rates are headed by.
+    pub fn title(self) -> &'static str {
+        match self {
+            Way::Publish => "Pub",
+            Way::Subscribe => "Sub",
+            Way::Both => "Pub/Sub",
+            Way::Request => "Request",
+        }
+    }
+
+    /// What this word of the command line names.
+    fn of(word: &str) -> Option<Way> {
+        if word == "pub" {
+            Some(Way::Publish)
+        } else if word == "sub" {
+            Some(Way::Subscribe)
+        } else if word == "pubsub" {
+            Some(Way::Both)
+        } else if word == "request" {
+            Some(Way::Request)
+        } else {
+            None
+        }
+    }
+}
+
+/// A benchmark.
+#[derive(Clone, Copy, Debug)]
+pub struct Bench {
+    /// What it measures.
+    pub way: Way,
+    /// How many messages there are in all; each subscription takes so many.
+    pub msgs: u64,
+    /// How many bytes each has.
+    pub size: u64,
+    /// How many clients there are, each on a thread of its own.
+    pub clients: u64,
+}
+
 /// What is to be done.
 #[derive(Drop)]
 pub enum Deed {
@@ -49,6 +102,21 @@ pub enum Deed {
         /// How many; without end where none is named.
         count: Option<u64>,
     },
+    /// A rate is measured.
+    Bench(Bench),
+}
+
+impl Deed {
+    /// How many messages of a subscription may wait, where that is not what is usual: a benchmark loses none.
+    pub fn room(&self) -> Option<u64> {
+        match self {
+            Deed::Bench(bench) => Some(bench.msgs),
+            Deed::Publish { .. }
+            | Deed::Subscribe { .. }
+            | Deed::Request { .. }
+            | Deed::Reply { .. } => None,
+        }
+    }
 }
 
 /// All that the words ask for.
@@ -125,8 +193,24 @@ fn publish_of(alloc: Global, of: &ArgMatches<'_>, input: Vec<u8>) -> Result<Deed
     })
 }
 
+/// A benchmark.
+fn bench_of(of: &ArgMatches<'_>) -> Result<Deed, Stop> {
+    match Way::of(of.get_str("WAY").unwrap_or("")) {
+        Some(way) => Ok(Deed::Bench(Bench {
+            way,
+            msgs: of.get_one::<u64>("msgs").unwrap_or(1),
+            size: of.get_one::<u64>("size").unwrap_or(0),
+            clients: of.get_one::<u64>("clients").unwrap_or(1),
+        })),
+        None => Err(Stop::Words),
+    }
+}
+
 /// What is to be done, of the command with this word.
 fn deed_of(alloc: Global, word: &str, of: &ArgMatches<'_>, input: Vec<u8>) -> Result<Deed, Stop> {
+    if word == "bench" {
+        return bench_of(of);
+    }
     if word == "pub" {
         return publish_of(alloc, of, input);
     }

@@ -1,8 +1,8 @@
 //! What is done over a connection.
 
 use crate::asked::Deed;
-use crate::shown;
 use crate::stop::Stop;
+use crate::{bench, shown};
 use nats_client::{
     Bytes, Client, Message, NoMemory, RequestError, RequestErrorKind, Subject, Subscriber, Tallies,
 };
@@ -11,9 +11,10 @@ use nats_outside::Clock;
 use std::alloc::Global;
 use std::fmt;
 use std::sync::Wait;
+use std::thread::Threads;
 
 /// Tells why a call was refused.
-fn refused<R: Eprint, E: fmt::Display>(rt: &R, error: &E) -> Stop {
+pub(crate) fn refused<R: Eprint, E: fmt::Display>(rt: &R, error: &E) -> Stop {
     let _ = eprintln!(rt; "{error}");
     Stop::Refused
 }
@@ -257,13 +258,11 @@ fn request<G: Tallies, R: Wait + Print + Eprint, C: Clock>(
 }
 
 /// Does what is asked over a client.
-pub fn do_deed<G: Tallies, R: Wait + Print + Eprint, C: Clock>(
-    rt: &R,
-    alloc: Global,
-    client: &mut Client<G>,
-    clock: &mut C,
-    deed: &Deed,
-) -> Result<(), Stop> {
+pub fn do_deed<
+    G: Tallies + Send + Sync,
+    R: Threads + Wait + Print + Eprint + Sync,
+    C: Clock + Copy + Drop + Send + Sync,
+>(rt: &R, alloc: Global, client: &mut Client<G>, clock: &mut C, deed: &Deed) -> Result<(), Stop> {
     match deed {
         Deed::Publish {
             subject,
@@ -324,5 +323,6 @@ pub fn do_deed<G: Tallies, R: Wait + Print + Eprint, C: Clock>(
                 answer,
             )
         }
+        Deed::Bench(what) => bench::run(rt, alloc, client, clock, *what),
     }
 }

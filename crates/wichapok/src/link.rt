@@ -13,6 +13,7 @@ use std::alloc::Global;
 use std::fmt;
 use std::sync::Wait;
 use std::sync::ledger::Blank;
+use std::thread::Threads;
 
 /// What connects, over the system.
 pub type System<R> = Whole<
@@ -44,9 +45,10 @@ fn unlinked<R: Eprint, E: fmt::Display>(rt: &R, error: &E) -> Stop {
 /// Connects, and does what is asked.
 pub fn run<
     G: Tallies + Send + Sync + 'static,
-    R: Wait + Print + Eprint + Copy + Drop + Send + 'static,
+    R: Threads + Wait + Print + Eprint + Copy + Drop + Send + Sync + 'static,
     P: Starter,
     W: World + Drop + Send + 'static,
+    C: Clock + Copy + Drop + Send + Sync,
 >(
     rt: &R,
     alloc: Global,
@@ -55,6 +57,7 @@ pub fn run<
     world: W,
     servers: Vec<String>,
     options: ConnectOptions,
+    clock: &mut C,
     deed: &Deed,
 ) -> Result<(), Stop>
 where
@@ -66,7 +69,6 @@ where
     requires all { blank.parts ≡ 2 ^ 63 }
     requires kept { options.journal ≡ G.is_kept }
 {
-    let mut clock = world.ticks();
     let connected = connect_with_options::<G, R, P, W, Vec<String>>(
         rt, alloc, blank, starter, world, servers, options,
     );
@@ -77,7 +79,7 @@ where
                 servers,
             } = connected;
             drop(servers);
-            do_deed(rt, alloc, &mut client, &mut clock, deed)
+            do_deed(rt, alloc, &mut client, clock, deed)
         }
         Err(refused) => Err(unlinked(rt, &refused.error)),
     }

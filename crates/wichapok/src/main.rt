@@ -1,10 +1,12 @@
-//! `wichapok` is a NATS client on the command line: it publishes, subscribes, asks and answers. It connects over the
+//! `wichapok` is a NATS client on the command line: it publishes, subscribes, asks, answers and measures. It connects over the
 //! system's sockets and stays connected: where a link ends it comes back, and says so on standard error.
 #![tactic(auto)]
 
 mod asked;
+mod bench;
 mod deeds;
 mod link;
+mod rates;
 mod shown;
 mod stop;
 mod words;
@@ -14,6 +16,7 @@ use nats_client::ALL_PARTS;
 use nats_drive::ThreadStarter;
 use nats_names::Event;
 use nats_pool::{ConnectOptions, EventBox};
+use nats_system::SystemClock;
 use std::io::Read;
 use std::marker::Brand;
 use std::process::ExitCode;
@@ -88,7 +91,10 @@ fn main(rt: HostRuntime) -> ExitCode {
         .event_callback(told);
     options.name = Some(name);
     options.auth = auth;
-    code_of(link::run::<Brand, HostRuntime, _, _>(
+    if let Some(room) = deed.room() {
+        options.subscription_capacity = room;
+    }
+    code_of(link::run::<Brand, HostRuntime, _, _, _>(
         &rt,
         alloc,
         Blank::new(ALL_PARTS),
@@ -96,6 +102,7 @@ fn main(rt: HostRuntime) -> ExitCode {
         link::world(rt),
         servers,
         options,
+        &mut SystemClock::new(rt),
         &deed,
     ))
 }

@@ -1,7 +1,7 @@
 //! Why the program stopped before it was done.
 
 use nats_names::NoMemory;
-use std::alloc::AllocError;
+use std::alloc::{AllocError, AllocFailed};
 use std::process::ExitCode;
 
 /// Why the program stopped before it was done: its exit status says so. Words on standard error tell more.
@@ -52,6 +52,12 @@ impl From<NoMemory> for Stop {
 
 impl From<AllocError> for Stop {
     fn from(_refused: AllocError) -> Stop {
+        Stop::NoMemory
+    }
+}
+
+impl<T: Drop> From<AllocFailed<T>> for Stop {
+    fn from(_refused: AllocFailed<T>) -> Stop {
         Stop::NoMemory
     }
 }

@@ -5,6 +5,12 @@ use clap::error::ErrorKind;
 use clap::{Arg, ArgAction, Command, Error, value_parser};
 use std::alloc::{AllocError, Global};
 
+/// What a benchmark measures.
+const WAYS: &[&str] = &["pub", "sub", "pubsub", "request"];
+
+/// The most bytes of a benchmark's message.
+const MOST: i64 = 1_048_576;
+
 /// An option with a value.
 fn option<'a>(alloc: Global, name: &'a str, value: &'a str, help: &'a str) -> Arg<'a> {
     Arg::new(alloc, name)
@@ -85,6 +91,32 @@ fn reply<'a>(alloc: Global) -> Result<Command<'a>, AllocError> {
         .arg(number(alloc, "count", "N", "Ends after so many answers"))
 }
 
+fn bench<'a>(alloc: Global) -> Result<Command<'a>, AllocError> {
+    let size = option(alloc, "size", "S", "Bytes of each message").value_parser(value_parser!(
+        u64
+    ).range(0..=MOST));
+    Command::new(alloc, "bench")
+        .about("Measures how many messages go through in a second")
+        .arg(word(
+            alloc,
+            "WAY",
+            "What is measured: publishing, taking, both, or requests",
+        )
+        .value_parser(WAYS))?
+        .arg(number(alloc, "msgs", "N", "Messages in all").default_value("100000"))?
+        .arg(size.default_value("128"))?
+        .arg(number(
+            alloc,
+            "clients",
+            "C",
+            "Clients, each on a thread of its own",
+        )
+        .default_value("1"))?
+        .arg(number(alloc, "timeout", "MS", "Milliseconds to wait for a reply").default_value(
+            "10000",
+        ))
+}
+
 /// All words that the program takes.
 pub fn command<'a>(alloc: Global) -> Result<Command<'a>, AllocError> {
     let server = option(
@@ -106,7 +138,8 @@ pub fn command<'a>(alloc: Global) -> Result<Command<'a>, AllocError> {
         .subcommand(publish(alloc)?)?
         .subcommand(subscribe(alloc)?)?
         .subcommand(request(alloc)?)?
-        .subcommand(reply(alloc)?)
+        .subcommand(reply(alloc)?)?
+        .subcommand(bench(alloc)?)
 }
 
 /// Prints why words were not taken, or the help that they asked for.

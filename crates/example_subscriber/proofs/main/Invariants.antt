@@ -1,0 +1,15 @@
+-- the ledger of each client's hub is the blank one, and no journal is kept
+use Rattle.std.proofs.Common.{false}
+use Rattle.example_subscriber.proofs.main.Given as goal
+
+abbrev pub ghosts-rehearse-G-Tallies : goal.ghosts-rehearse-G-Tallies
+ghosts-rehearse-G-Tallies g a = record { is_kept = false }
+
+abbrev pub ghosts-rehearse-G-Ledger : goal.ghosts-rehearse-G-Ledger
+ghosts-rehearse-G-Ledger g a = record { name = a.blank.name; parts = a.blank.parts }
+
+abbrev pub ghosts-connect-G-Tallies : goal.ghosts-connect-G-Tallies
+ghosts-connect-G-Tallies g a = record { is_kept = false }
+
+abbrev pub ghosts-connect-G-Ledger : goal.ghosts-connect-G-Ledger
+ghosts-connect-G-Ledger g a = record { name = a.blank.name; parts = a.blank.parts }
