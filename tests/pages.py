@@ -58,24 +58,32 @@ def definitions_page():
 
 
 def calls_page():
-    rows = []
+    rows, bare = [], []
     for title, names in groups():
         for crate in names:
-            part, turned = [], edits(crate)
+            part, turned, without = [], edits(crate), []
+            is_library = (TOP / "crates" / crate / "src" / "lib.rt").exists()
             for function in functions(crate):
                 edits_here = turned.get(function.title(), [])
                 clauses = [name or kind for kind, name, _ in function.clauses if kind == "ensures"]
+                if function.public and not clauses and is_library:
+                    without.append(function.title())
                 if (function.public and clauses) or edits_here:
                     names_of = ", ".join(dict.fromkeys("one clause" if c == "ensures" else f"`{c}`" for c in clauses)) or "none"
                     kind = "" if function.public else " (inner)"
                     part.append(f"| `{function.title()}`{kind} | {names_of} | {listed(edits_here)} |")
             if part:
                 rows += ["", f"## `{crate}`", "", "| call | clauses | wrong bodies that must be refused |", "|---|---|---|", *part]
+            if without:
+                bare.append(f"| `{crate}` | {listed(without)} |")
     return "\n".join([
         "# Calls, their clauses and the wrong bodies", "", MADE, "",
         "Each public call with the names of the clauses of its contract, and the wrong edits that stand in it: the gate tries each, and the",
         "prover must refuse it. An inner function is listed where an edit changes it; the public calls above it go through it.",
-        *rows, ""])
+        *rows, "", "## Calls without a clause", "",
+        "They are safe, and they return but where they wait. A call on what stands behind a hub's lock has no clause, since others may change that",
+        "before it returns; the others serve programs, or only lend what they are made of.", "",
+        "| crate | calls |", "|---|---|", *bare, ""])
 
 
 def pages():

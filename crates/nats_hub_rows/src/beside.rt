@@ -21,13 +21,12 @@ const MOST: usize = 16;
 /// What the link gives: two messages and a ping.
 const GIVEN: &[u8] = b"MSG a 1 2\r\nhi\r\nPING\r\nMSG a 1 3\r\nyes\r\n";
 
-fn lacks(_: NoMemory) -> anyhow::Error {
+pub(crate) fn lacks(_: NoMemory) -> anyhow::Error {
     anyhow!("no memory")
 }
 
 /// Both halves of a link in memory.
-fn link(alloc: Global) -> Result<(FakeRead, FakeWrite)> {
-    let link = FakeLink::new(alloc, Bytes::from_static(GIVEN), MOST).map_err(lacks)?;
+pub(crate) fn halves(alloc: Global, link: FakeLink) -> Result<(FakeRead, FakeWrite)> {
     let mut dialer = FakeDialer::told(alloc, vec![in alloc; link]?);
     let to = SocketAddr::new(IpAddr::V4(Ipv4Addr::new(127, 0, 0, 1)), 4222);
     match dialer.dial(&to, 1_000) {
@@ -44,8 +43,14 @@ fn end_word(end: LoopEnd) -> &'static str {
     }
 }
 
+/// A link in memory that gives `GIVEN`.
+fn given(alloc: Global) -> Result<(FakeRead, FakeWrite)> {
+    let link = FakeLink::new(alloc, Bytes::from_static(GIVEN), MOST).map_err(lacks)?;
+    halves(alloc, link)
+}
+
 /// Reads once and prints what came of it.
-fn reads<G: Tallies, R: Wait + Print>(
+pub(crate) fn reads<G: Tallies, R: Wait + Print>(
     rt: &R,
     alloc: Global,
     hub: &Hub<G>,
@@ -62,7 +67,7 @@ fn reads<G: Tallies, R: Wait + Print>(
 }
 
 /// Writes once and prints what came of it. Whether bytes were written.
-fn writes<G: Tallies, R: Wait + Print>(
+pub(crate) fn writes<G: Tallies, R: Wait + Print>(
     rt: &R,
     alloc: Global,
     hub: &Hub<G>,
@@ -168,7 +173,7 @@ pub(crate) fn play<G: Tallies, R: Wait + Print>(rt: &R, alloc: Global, blank: Bl
     tells::told(rt, alloc, &client, "before a link")?;
     let _ = client.hub().play(rt, alloc, Turn::Up(server(alloc)?));
     client.publish(rt, alloc, "a", Bytes::from_static(b"hello"))?;
-    let (mut from, mut out) = link(alloc)?;
+    let (mut from, mut out) = given(alloc)?;
     let number = client.hub().link(rt);
     moves(rt, alloc, client.hub(), number, (&mut from, &mut out))?;
     tells::told(rt, alloc, &client, "once it is lost")?;

@@ -23,8 +23,11 @@ const POOLS: [(&str, &str); 15] = [
         "failed failed default/default a/0 b/2 c/4 over ",
     ),
     (
-        "a,b,c default fails,a fails,a begin any any next next set, set,ws://a,nats://b set,a,d servers discover,d servers discover,e servers",
-        "failed failed default/default one one a/4 over server%20pool%20cannot%20be%20empty cannot%20mix%20websocket%20and%20non-websocket%20URLs%20in%20server%20pool set a=2;d=0; told a=2;d=0; told a=2;d=0;e=0; ",
+        "a,b,c default fails,a fails,a begin any any next next set, set,ws://a,nats://b set,a,d servers discover,d \
+servers discover,e servers",
+        "failed failed default/default one one a/4 over server%20pool%20cannot%20be%20empty \
+cannot%20mix%20websocket%20and%20non-websocket%20URLs%20in%20server%20pool set a=2;d=0; told a=2;d=0; \
+told a=2;d=0;e=0; ",
     ),
     (
         "a,b,c two begin any any next",

@@ -121,7 +121,8 @@ event 2 lame%20duck%20mode%20detected\n",
     (
         "up 1048576\nsub a ~\npiece HMSG%20a%201%2023%2025%0D%0ANATS/1.0%20404%20N%0D%0Ak:v%0D%0A%0D%0Ahi%0D%0A",
         0,
-        "link 1 up\nout %\nleft SUB%20a%201%0D%0A\nsub 1\nput 3 a ~ hi 404 N 26 1 k v\nevent 1 connected\ncall 2 numbered 1\n",
+        "link 1 up\nout %\nleft SUB%20a%201%0D%0A\nsub 1\nput 3 a ~ hi 404 N 26 1 k v\n\
+event 1 connected\ncall 2 numbered 1\n",
     ),
     ("pub a%0D%0APUB%20b%200 ~ %", 0, "call 1 invalid-subject\n"),
     ("sub .a ~", 0, "call 1 invalid-subject\n"),
@@ -134,8 +135,8 @@ event 2 lame%20duck%20mode%20detected\n",
     (
         "open {\"max_payload\":34}\nhpub FOO.BAR INBOX.67 Hello%20World Header X",
         0,
-        "link 1 up\nout %\nleft HPUB%20FOO.BAR%20INBOX.67%2023%2034%0D%0ANATS/1.0%0D%0AHeader:%20X%0D%0A%0D%0AHello%20World%0D%0A\n\
-event 1 connected\ncall 2 accepted\n",
+        "link 1 up\nout %\nleft HPUB%20FOO.BAR%20INBOX.67%2023%2034%0D%0ANATS/1.0%0D%0AHeader:%20X%0D%0A%0D%0A\
+Hello%20World%0D%0A\nevent 1 connected\ncall 2 accepted\n",
     ),
     (
         "up 1048576\nsub a ~\nunsub 1\nunsub 1\ntake 1",

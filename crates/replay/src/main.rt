@@ -79,6 +79,7 @@ fn main(rt: HostRuntime) -> ExitCode {
     let words = match words(&rt) {
         Ok(words) => words,
         Err(error) if error.kind() == io::ErrorKind::OutOfMemory => {
+            let _ = eprintln!(rt; "replay: out of memory");
             return ExitCode::from(NO_MEMORY);
         }
         Err(_) => Vec::new(rt.alloc()),
