@@ -1,16 +1,19 @@
 #!/usr/bin/env python3
 """servers.py PROGRAM: plays servers on the loopback that do not do what a server of NATS does, and has the client of the command line publish
 or subscribe there. A client whose link does not come up has to end by itself, with the status and the words of its cause, within its time
-limit, which is five seconds; one whose link breaks later has to come back. Says in its last line how many servers there were."""
+limit, which is five seconds; one whose link breaks later has to come back, and one whose server reads no more has to end within ten seconds.
+Says in its last line how many servers there were."""
 import socket
 import subprocess
 import sys
 import threading
 import time
 
-INFO = b'INFO {"server_id":"S","version":"2.10.0","max_payload":1048576,"headers":true}\r\n'
+INFO = b'INFO {"server_id":"S","version":"2.10.0","max_payload":8388608,"headers":true}\r\n'
 NO_LINK = 9
+REFUSED = 10
 LIMIT = 5.0
+WRITE_LIMIT = 10.0
 MORE = 8.0
 
 
@@ -76,7 +79,7 @@ def wants_tls(link, _):
 
 
 # What a client is told that publishes there: how long it takes at least, and its words.
-REFUSED = {
+NO_SERVERS = {
     says_nothing: (LIMIT, "timed out"),
     stops_in_the_midst_of_its_first_line: (LIMIT, "timed out"),
     never_answers_the_first_ping: (LIMIT, "timed out"),
@@ -118,6 +121,26 @@ BROKEN = {
 }
 
 
+def reads_no_more(link, _):
+    """Does the handshake, and then leaves the link alone."""
+    greet(link)
+    time.sleep(WRITE_LIMIT + MORE)
+
+
+def full():
+    """An address whose queue of links is full, so that a dial is not answered: it, and what keeps it so."""
+    listener = socket.socket()
+    listener.bind(("127.0.0.1", 0))
+    listener.listen(0)
+    kept = [listener]
+    for _ in range(4):
+        link = socket.socket()
+        link.setblocking(False)
+        link.connect_ex(listener.getsockname())
+        kept.append(link)
+    return f"nats://127.0.0.1:{listener.getsockname()[1]}", kept
+
+
 def serve(listener, play):
     """Plays a server on each link that comes, one after another."""
     number = 0
@@ -141,10 +164,10 @@ def server(play):
     return f"nats://127.0.0.1:{listener.getsockname()[1]}"
 
 
-def client(*words):
-    """Runs the client, and answers how it ended and how long it took."""
+def client(*words, given=""):
+    """Runs the client with this standard input, and answers how it ended and how long it took."""
     begin = time.monotonic()
-    ran = subprocess.run([sys.argv[1], *words], capture_output=True, text=True, timeout=60)
+    ran = subprocess.run([sys.argv[1], *words], input=given, capture_output=True, text=True, timeout=60)
     return ran, time.monotonic() - begin
 
 
@@ -154,17 +177,25 @@ def want(name, holds, ran):
 
 
 def main():
-    for play, (least, words) in REFUSED.items():
+    for play, (least, words) in NO_SERVERS.items():
         ran, took = client("--server", server(play), "pub", "a", "b")
         is_told = ran.returncode == NO_LINK and ran.stderr == f"no link: {words}\n" and ran.stdout == ""
         want(play.__name__, is_told and least <= took < least + MORE, ran)
     ran, took = client("--server", server(says_nothing), "--server", server(good), "pub", "a", "b")
     want("the next of two servers", ran.returncode == 0 and took < LIMIT + MORE, ran)
+    addr, _kept = full()
+    ran, took = client("--server", addr, "pub", "a", "b")
+    want("a dial that is not answered", ran.returncode == NO_LINK and LIMIT <= took < LIMIT + MORE, ran)
+    ran, took = client("--server", server(reads_no_more), "pub", "a", "-", given="x" * 7000000)
+    want("a server that reads no more", ran.returncode == REFUSED and WRITE_LIMIT <= took < WRITE_LIMIT + MORE, ran)
     for name, how in BROKEN.items():
         ran, took = client("--server", server(breaks(how)), "sub", "a", "--count", "1")
         is_back = ran.returncode == 0 and "hi" in ran.stdout and ran.stderr.startswith("connected\ndisconnected\n")
         want(name, is_back and took < MORE, ran)
-    print(f"servers: {len(REFUSED)} that are none, one passed over for the next, {len(BROKEN)} whose first link breaks: as they should be")
+    print(
+        f"servers: {len(NO_SERVERS)} that are none, one passed over for the next, one that does not answer, one that reads no more,"
+        f" {len(BROKEN)} whose first link breaks: as they should be"
+    )
 
 
 main()

@@ -27,7 +27,7 @@ pub use id::{ID_LENGTH, id_text, id_token};
 pub use memory::{MemoryWorld, memory_world};
 pub use nats_names::{Cause, Failed, NoMemory, Token};
 pub use nats_outside::{Clock, Dialer, Draw, LinkRead, LinkWrite, Reach, Resolver};
-pub use net_dialer::NetDialer;
+pub use net_dialer::{MOST_WRITE_MS, NetDialer};
 pub use net_link::{NetRead, NetWrite};
 pub use net_resolver::NetResolver;
 pub use spawner::{Job, Spawner};

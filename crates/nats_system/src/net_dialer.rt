@@ -10,9 +10,13 @@ use nats_outside::{DialWord, Dialer};
 use std::io;
 use std::net::{Net, OpenStream, SocketAddr};
 
+/// How many milliseconds a write may block until the link counts as failed. Own choice: a server that reads no more would
+/// hold its link for ever, as a write that blocks is not ended by ticks.
+pub const MOST_WRITE_MS: u64 = 10_000;
+
 /// A dialer over the network of the system: each link is a stream, whose two halves are two handles of it. Each
 /// `Err` of the system is a failure. It tells its counts and words, and no bytes. As the crate's links it has
-/// no TLS; unlike them it does not ask for small packets at once.
+/// no TLS; unlike them it does not ask for small packets at once, and a write that blocks for `MOST_WRITE_MS` fails.
 #[derive(Drop)]
 pub struct NetDialer<R> {
     rt: R,
@@ -71,6 +75,7 @@ impl<R: Net> NetDialer<R> {
     // Two handles of a new stream to this address, where it came within so many milliseconds.
     fn open(&self, to: &SocketAddr, within: u64) -> io::Result<(R::Stream, R::Stream)> {
         let stream = self.rt.connect_timeout(*to, at_least_one(within))?;
+        stream.set_write_timeout(Some(at_least_one(MOST_WRITE_MS)))?;
         let other = stream.try_clone()?;
         Ok((stream, other))
     }
