@@ -1,5 +1,5 @@
-//! A session driven by hand, turn by turn: it asks for `orders.*` and prints each message that comes. Standard input is what
-//! the server sends, so the program runs over memory alone; over a socket the same turns are played with its bytes.
+//! A session driven by hand, turn by turn: it asks for `orders.*` and prints each message that comes. Standard input is
+//! what the server sends, so the program runs over memory alone; over a socket one plays these turns with its bytes.
 #![tactic(auto)]
 
 use anyhow::{Result, anyhow};

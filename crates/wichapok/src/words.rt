@@ -109,7 +109,7 @@ fn bench<'a>(alloc: Global) -> Result<Command<'a>, AllocError> {
             alloc,
             "clients",
             "C",
-            "Clients, each on a thread of its own",
+            "Clients over one connection, each on a thread of its own",
         )
         .default_value("1"))?
         .arg(number(alloc, "timeout", "MS", "Milliseconds to wait for a reply").default_value(
