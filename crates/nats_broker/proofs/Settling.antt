@@ -17,7 +17,7 @@ use Rattle.nats_broker.specs.declared.peer.PeerWord.{PeerWord}
 use Rattle.nats_broker.specs.declared.peer.PeerWord.TheVariants as word
 use Rattle.nats_broker.specs.declared.peer.Peer.{Peer}
 use Rattle.nats_broker.specs.Peers.{ended, with_wish, past, up_by, up_peer}
-use Rattle.nats_broker.specs.Playing.{BrokerSeen, command_done, publish_of, publish_by, subscribed_by, told, taken_from, peer_ended, due_front, due_of, due, fed_peer, has_due, is_due, unread_len, settled_by, settled}
+use Rattle.nats_broker.specs.Playing.{BrokerSeen, command_done, publish_of, publish_by, subscribed_by, told, taken_from, peer_ended, due_front, due_of, due, fed_peer, has_due, is_due, Advances, unread_len, settled_by, settled}
 use Rattle.nats_broker.specs.Laws.{DueIsDone, NoneLeft}
 use Rattle.nats_broker.proofs.Items.{item_at, number_same}
 
@@ -33,6 +33,14 @@ by_peer p (Some peer) b = by_front p (peer_front peer.unread) b
 
 pub due_is_done : DueIsDone
 due_is_done b = by_peer b.fed (fed_peer b) b
+
+advances_none : (found : Option BrokerSeen) (b : BrokerSeen) → is_some found ≡ false → Advances found false b b
+advances_none None b is = (refl, refl)
+advances_none (Some next) b is = absurd (false≢true (sym is))
+
+-- where none is due nothing is done
+pub idle : (b : BrokerSeen) → is_due b ≡ false → Advances (due b) false b b
+idle b is = advances_none (due b) b (sym (due_is_done b) ∙ is)
 
 -- ---- what a command does to its own peer: nothing, an end, or what it says of itself
 

@@ -231,6 +231,9 @@ impl Broker {
         ensures ok { IfOk result (λ done. Advances (due self.old) done self.old self.new) }
         ensures err { OnErr result (self.new ≡ self.old) }
     {
+        if !self.is_due() {
+            return Ok(false);
+        }
         let p = self.fed;
         let Some(peer) = self.fed_peer() else {
             return Ok(false);

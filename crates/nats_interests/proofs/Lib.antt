@@ -1,0 +1,4 @@
+mod Kept
+mod Literal
+mod Merging
+mod Remembered

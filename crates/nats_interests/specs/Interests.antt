@@ -1,5 +1,5 @@
 -- The interests that are open, in order of making: how they come about, count and close.
-use Rattle.std.specs.Prelude.{ℕ, suc, ◌^◌, ◌-◌, min, Bool, true, false, not, ◌&&◌, ◌==◌, nat_le, List, [], ◌∷◌, ◌++◌, map, filter, Option, Some, None, if◌then◌else◌}
+use Rattle.std.specs.Prelude.{◌≡◌, ℕ, suc, ◌^◌, ◌-◌, min, Bool, true, false, not, ◌&&◌, ◌==◌, nat_le, List, [], ◌∷◌, ◌++◌, map, filter, Option, Some, None, slice_get, if◌then◌else◌}
 use Rattle.std.specs.List.{list_any}
 use Rattle.nats_interests.specs.declared.interest.Interest.{Interest}
 
@@ -54,3 +54,25 @@ counted peer sid interests = altered peer sid count_one interests
 -- a peer ended
 abbrev pub without_peer : ℕ → List Interest → List Interest
 without_peer peer interests = filter (λ i. not (i.peer == peer)) interests
+
+-- ---- what holds of those that are open
+
+-- the peer and the number name one
+abbrev pub AreDistinct : List Interest → Type 0
+AreDistinct [] = Unit {0}
+AreDistinct (i ∷ interests) = (list_any (is_of i.peer i.sid) interests ≡ false) × AreDistinct interests
+
+abbrev pub AreOpen : List Interest → Type 0
+AreOpen [] = Unit {0}
+AreOpen (i ∷ interests) = (is_open i ≡ true) × AreOpen interests
+
+abbrev pub AreKept : List Interest → Type 0
+AreKept interests = AreDistinct interests × AreOpen interests
+
+-- the interest of a peer under a number stands at a place
+abbrev pub StandsAt : ℕ → ℕ → List Interest → ℕ → Type 0
+StandsAt peer sid interests k = (i : Interest) × (slice_get interests k ≡ Some i) × (is_of peer sid i ≡ true)
+
+abbrev pub Finds : ℕ → ℕ → List Interest → Option ℕ → Type 0
+Finds peer sid interests None = list_any (is_of peer sid) interests ≡ false
+Finds peer sid interests (Some k) = StandsAt peer sid interests k

@@ -1,6 +1,7 @@
 //! The interests of peers in subjects: how they are made, count their messages, and close.
 #![tactic(auto)]
 
+mod index;
 mod interest;
 mod interests;
 

@@ -1,2 +1,3 @@
 mod Onces
+mod Others
 mod Picks

@@ -1,5 +1,5 @@
 -- Each group gets a message once, by its name.
-use Rattle.std.proofs.Common.{◌≡◌, ℕ, Bool, true, false, cond, List, [], ◌∷◌, ◌++◌, length, take, map, filter, fold, Option, Some, None, refl, ap, sym, subst, append_assoc, ◌∙◌, Ordering, Less, Equal, Greater, nat_cmp}
+use Rattle.std.proofs.Common.{◌≡◌, ℕ, Bool, true, false, cond, List, [], ◌∷◌, ◌++◌, filter, fold, Option, Some, None, refl, ap, sym, subst, append_assoc, ◌∙◌, Ordering, Less, Equal, Greater, nat_cmp}
 use Rattle.std.proofs.lemmas.Bool.{false≢true}
 use Rattle.std.proofs.lemmas.List.{append-nil}
 use Rattle.std.proofs.lemmas.List.Elements.{filter-append}
@@ -7,11 +7,10 @@ use Rattle.std.proofs.lemmas.List.Sums.{fold-append}
 use Rattle.std.specs.Ordering.{match_ordering, is_eq, ordering_reverse}
 use Rattle.std.specs.Cmp.Lexicographic.{slice_cmp, nat_list_cmp_total, texts_ties}
 use Rattle.std.specs.Option.{unwrap_or}
-use Rattle.std.specs.List.{cons_option, best_of}
-use Rattle.std.specs.Str.{bytes_eq}
+use Rattle.std.specs.List.{cons_option}
 use Rattle.nats_interests.specs.declared.interest.Interest.{Interest}
 use Rattle.nats_picking.specs.Hearing.{is_in, is_group, is_plain, has_no_group, has_less, least}
-use Rattle.nats_picking.specs.Picking.{group_name, better, onto_pick, pick, picks}
+use Rattle.nats_picking.specs.Picking.{group_name, better, onto_pick, pick}
 use Rattle.nats_picking.specs.Once.{EachOnce, Above, Ascend, InOrder}
 
 C : List ℕ → List ℕ → Ordering

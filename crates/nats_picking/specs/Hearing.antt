@@ -5,9 +5,13 @@ use Rattle.std.specs.Str.{bytes_eq}
 use Rattle.nats_interests.specs.declared.interest.Interest.{Interest}
 use Rattle.nats_matching.specs.Matching.{matches}
 
+-- an interest of another peer
+abbrev pub is_other : ℕ → Interest → Bool
+is_other peer i = not (i.peer == peer)
+
 -- the publisher's own interests match what it publishes only where it wants an echo
 abbrev pub hears : ℕ → Bool → List ℕ → Interest → Bool
-hears peer echo subject i = (echo || not (i.peer == peer)) && matches i.pattern subject
+hears peer echo subject i = (echo || is_other peer i) && matches i.pattern subject
 
 abbrev pub heard : ℕ → Bool → List ℕ → List Interest → List Interest
 heard peer echo subject interests = filter (hears peer echo subject) interests

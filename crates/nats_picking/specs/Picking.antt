@@ -1,17 +1,14 @@
 -- How the code finds who gets a message: members of groups one by one.
-use Rattle.std.specs.Prelude.{◌≡◌, ℕ, suc, Bool, not, ◌<◌, List, [], ◌∷◌, ◌++◌, length, take, drop, map, filter, fold, Option, Some, None, if◌then◌else◌}
+use Rattle.std.specs.Prelude.{◌≡◌, ℕ, suc, ◌<◌, List, [], ◌∷◌, ◌++◌, length, take, drop, map, filter, fold, if◌then◌else◌}
 use Rattle.std.specs.Ordering.{nat_cmp, match_ordering}
 use Rattle.std.specs.Option.{unwrap_or}
 use Rattle.std.specs.Cmp.Lexicographic.{slice_cmp}
-use Rattle.std.specs.Borrow.{Bor}
+pub use Rattle.nats_interests.specs.Index.{nows}
 use Rattle.nats_interests.specs.declared.interest.Interest.{Interest}
 use Rattle.nats_picking.specs.declared.picking.Target.{Target}
 use Rattle.nats_picking.specs.declared.picking.Spot.{Spot}
 use Rattle.nats_picking.specs.declared.picking.Spot.TheVariants.{Before, Same}
-use Rattle.nats_picking.specs.Hearing.{is_plain, has_less, hears}
-
-abbrev pub nows : List (Bor Interest) → List Interest
-nows lent = map (λ i. i.now) lent
+use Rattle.nats_picking.specs.Hearing.{is_plain, has_less}
 
 abbrev pub target_of : Interest → Target
 target_of i = record { peer = i.peer; sid = i.sid }

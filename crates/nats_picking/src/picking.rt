@@ -4,10 +4,10 @@ ghost use Rattle.std.specs.Ordering.{nat_cmp};
 ghost use Rattle.std.specs.Cmp.Lexicographic.{slice_cmp};
 ghost use Rattle.std.specs.Prelude.{option_map};
 ghost use Rattle.std.specs.List.{find};
-ghost use Rattle.nats_picking.specs.Hearing.{hears, heard, is_plain, has_less, answers};
+ghost use Rattle.nats_picking.specs.Hearing.{is_other, heard, is_plain, has_less, answers};
 ghost use Rattle.nats_picking.specs.Picking.{nows, target_of, group_name, better, onto_pick, pick, picks, BelongsAt, plain_targets, targets_by};
 
-use nats_interests::Interest;
+use nats_interests::{Interest, Interests};
 use nats_matching::matches;
 use nats_names::NoMemory;
 use std::alloc::Global;
@@ -27,12 +27,6 @@ pub struct Target {
 pub enum Spot {
     Before(usize),
     Same(usize),
-}
-
-fn hears(i: &Interest, peer: u64, echo: bool, subject: &str) -> bool
-    ensures { result ≡ hears peer echo subject.now i.now }
-{
-    (echo || !(i.peer == peer)) && matches(i.pattern.as_str(), subject)
 }
 
 fn is_plain(i: &Interest) -> bool
@@ -88,28 +82,43 @@ fn target_of(i: &Interest) -> Target
     }
 }
 
+// Those that aren't of `peer`.
+fn others<'a>(
+    alloc: Global,
+    matching: &[&'a Interest],
+    peer: u64,
+) -> Result<Vec<&'a Interest>, NoMemory>
+    ensures { IfOk result (λ found. nows found.items ≡ filter (is_other peer) (nows matching.now)) }
+{
+    let mut found = Vec::new(alloc);
+    for i in matching {
+        if !(i.peer == peer) {
+            found.push(*i)?;
+        }
+    }
+    Ok(found)
+}
+
 /// The interests that match `subject`, which `peer` publishes to, in their order: those of `peer` itself only where it
-/// wants an echo.
+/// wants an echo. It costs by those that match, as `Interests::matching` says.
 ///
 /// # Errors
 ///
 /// `NoMemory` for want of memory.
 pub fn heard<'a>(
     alloc: Global,
-    interests: &'a [Interest],
+    interests: &'a Interests,
     peer: u64,
     echo: bool,
     subject: &str,
 ) -> Result<Vec<&'a Interest>, NoMemory>
     ensures { IfOk result (λ found. nows found.items ≡ heard peer echo subject.now interests.now) }
 {
-    let mut found = Vec::new(alloc);
-    for i in interests {
-        if hears(i, peer, echo, subject) {
-            found.push(i)?;
-        }
+    let matching = interests.matching(alloc, subject)?;
+    if echo {
+        return Ok(matching);
     }
-    Ok(found)
+    others(alloc, matching.as_slice(), peer)
 }
 
 fn push_pick<'a>(all: &mut Vec<&'a Interest>, i: &'a Interest) -> Result<(), NoMemory>
@@ -169,6 +178,7 @@ pub fn targets(alloc: Global, heard: &[&Interest]) -> Result<Vec<Target>, NoMemo
 {
     let best = picks(alloc, heard)?;
     let mut all = Vec::new(alloc);
+    all.reserve(heard.len())?;
     push_plain(&mut all, heard)?;
     push_each(&mut all, best.as_slice())?;
     Ok(all)

@@ -31,6 +31,7 @@ fn letters(alloc: Global, targets: &[Target], m: &Publication) -> Result<Vec<Let
     ensures { IfOk result (λ all. all.items ≡ letters_of m.now targets.now) }
 {
     let mut all = Vec::new(alloc);
+    all.reserve(targets.len())?;
     for target in targets {
         all.push(letter(alloc, *target, m)?)?;
     }
@@ -54,7 +55,7 @@ fn targets_in(
 ) -> Result<Vec<Target>, NoMemory>
     ensures { IfOk result (λ all. all.items ≡ targets_by (heard peer echo subject.now interests.now)) }
 {
-    let found = heard(alloc, interests.as_slice(), peer, echo, subject)?;
+    let found = heard(alloc, interests, peer, echo, subject)?;
     targets(alloc, found.as_slice())
 }
 
@@ -225,6 +226,7 @@ impl Router {
         ensures ok { OnOk result (self.new ≡ published peer echo wanted m.now self.old) }
         ensures err { OnErr result (self.new ≡ self.old) }
     {
+        self.interests.learn(alloc);
         let targets = targets_in(alloc, &self.interests, peer, echo, m.subject.as_str())?;
         match targets.as_slice() {
             [] => self.tell_unheard(alloc, wanted, peer, &m.respond),

@@ -7,6 +7,9 @@ use itoa::Buffer as Digits;
 use nats_names::{NoMemory, Seq, Subject};
 use std::alloc::Global;
 
+/// The most bytes of the other words of a line: a verb, three numbers, their spaces and two line ends.
+const WORDS: usize = 80;
+
 fn append_all(out: &mut Vec<u8>, parts: &[&[u8]]) -> Result<(), NoMemory>
     ensures { OnOk result (out.new.items ≡ out.old.items ++ joined parts.now) }
 {
@@ -85,6 +88,20 @@ fn append_headed(out: &mut Vec<u8>, sid: u64, m: &Publication, block: &[u8]) -> 
     )
 }
 
+// How many bytes a text may take, at most unless it is very long; the numbers and words of its line have few.
+fn room_of(m: &Publication) -> usize {
+    let respond = match &m.respond {
+        Some(respond) => respond.as_str().len(),
+        None => 0,
+    };
+    let block = match &m.block {
+        Some(block) => block.as_slice().len(),
+        None => 0,
+    };
+    let words = m.subject.as_str().len().saturating_add(respond).saturating_add(WORDS);
+    words.saturating_add(block).saturating_add(m.payload.as_slice().len())
+}
+
 /// The text of a message for the interest with the number `sid`.
 ///
 /// # Errors
@@ -94,6 +111,7 @@ pub fn message_text(alloc: Global, sid: u64, m: &Publication) -> Result<Seq<u8>,
     ensures { IfOk result (λ t. t ≡ message_text sid m.now.subject m.now.respond m.now.block m.now.payload) }
 {
     let mut text = Vec::new(alloc);
+    text.reserve(room_of(m))?;
     match &m.block {
         Some(block) => append_headed(&mut text, sid, m, block.as_slice())?,
         None => append_plain(&mut text, sid, m)?,

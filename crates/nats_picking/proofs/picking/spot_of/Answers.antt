@@ -1,6 +1,6 @@
 -- What the comparison says of the place.
-use Rattle.std.proofs.Common.{ap, sym, ◌∙◌, arith}
-use Rattle.nats_picking.specs.Picking.{nows, group_name}
+use Rattle.std.proofs.Common.{arith}
+use Rattle.nats_picking.specs.Picking.{nows}
 use Rattle.nats_picking.proofs.Picks.{stands_at, past_one, put_before, put_same, within}
 use Rattle.nats_picking.proofs.picking.spot_of.Goals as goal
 
