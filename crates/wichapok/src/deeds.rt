@@ -96,6 +96,19 @@ fn publish_once<G: Tallies, R: Wait + Eprint>(
     told
 }
 
+/// Tells where another link came up since so many did: what waited for the one before was lost.
+fn still_on<G: Tallies, R: Wait + Eprint>(
+    rt: &R,
+    client: &Client<G>,
+    links: u64,
+) -> Result<(), Stop> {
+    if client.statistics(rt).connects == links {
+        Ok(())
+    } else {
+        Err(refused(rt, &"the link was lost before all was sent"))
+    }
+}
+
 /// Publishes a message `count` times, and waits until it is with the server.
 fn publish<G: Tallies, R: Wait + Print + Eprint>(
     rt: &R,
@@ -107,12 +120,14 @@ fn publish<G: Tallies, R: Wait + Print + Eprint>(
     reply: Option<&str>,
     count: u64,
 ) -> Result<(), Stop> {
+    let links = client.statistics(rt).connects;
     'messages: for _ in 0..count {
         let with = headers_of(rt, alloc, headers)?;
         publish_once(rt, alloc, client, subject, payload, reply, with)?;
         shown::published(rt, payload.len(), subject)?;
     }
-    flush(rt, alloc, client)
+    flush(rt, alloc, client)?;
+    still_on(rt, client, links)
 }
 
 /// A subscription, in a queue group where one is named.
