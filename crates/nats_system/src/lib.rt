@@ -15,8 +15,6 @@ mod still_clock;
 mod system_clock;
 mod system_draw;
 mod task;
-#[cfg(test)]
-mod tests;
 mod thread_spawner;
 mod whole;
 mod world;
