@@ -2,9 +2,9 @@
 use Rattle.std.proofs.Common.{map, ap, ◌∙◌}
 use Rattle.serde_json.specs.View.{view}
 use Rattle.serde_json.proofs.Views.{view-Array}
-use Rattle.nats_message_json.specs.Fields.{payload_in}
-use Rattle.nats_message_json.proofs.BytesBack.{bytes_back}
-use Rattle.nats_message_json.proofs.json.json_of_bytes.Goals as goal
+use Rattle.nats_message.specs.Json.{payload_in}
+use Rattle.nats_message.proofs.JsonBack.{bytes_back}
+use Rattle.nats_message.proofs.json.json_of_bytes.Goals as goal
 
 pub returns-clause-reads_back : goal.returns-clause-reads_back
 returns-clause-reads_back c =

@@ -2,8 +2,8 @@
 use Rattle.std.proofs.Common.{◌≡◌, map, take, Some}
 use Rattle.serde_json.specs.Data.{number, unsigned}
 use Rattle.serde_json.specs.View.{view}
-use Rattle.nats_message_json.specs.Fields.{byte_in}
-use Rattle.nats_message_json.proofs.json.items_of_bytes.Given as goal
+use Rattle.nats_message.specs.Json.{byte_in}
+use Rattle.nats_message.proofs.json.items_of_bytes.Given as goal
 
 abbrev pub invariant-loop-byte : goal.invariant-loop-byte
 invariant-loop-byte l =
