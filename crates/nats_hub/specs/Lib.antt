@@ -4,3 +4,4 @@ pub mod Finishing
 pub mod Late
 pub mod Cloning
 pub mod Inboxes
+pub mod Asking

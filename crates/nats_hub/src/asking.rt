@@ -4,10 +4,13 @@ ghost use Rattle.nats_history.specs.declared.call.Call.TheVariants as calls;
 ghost use Rattle.nats_refusals.specs.Refusals.{is_numbered, asked_of, counts_flush, CountsAsk};
 ghost use Rattle.nats_refusals.specs.Refusals.{MayFailFlush, MayFailAsk};
 ghost use Rattle.nats_refusals.specs.declared.refusal.Refusal.TheVariants as refused;
+ghost use Rattle.nats_history.specs.Tickets.{is_no_responders};
+ghost use Rattle.nats_hub.specs.Asking.{Lacks, replied_by};
 ghost use Rattle.nats_hub.specs.Late.{IsLate, is_late, early_of, IsFailed};
 
-use crate::{Holder, Tallies};
-use nats_core::{Call, CallReply, Message, StepError, Turn};
+use crate::{Holder, Hub, Tallies};
+use nats_core::{Call, CallReply, Message, NoMemory, StepError, Turn};
+use nats_names::StatusCode;
 use nats_outside::Clock;
 use nats_refusals::{Refusal, asked, flushed};
 use std::alloc::Global;
@@ -48,6 +51,71 @@ fn early(reply: CallReply) -> Result<Message, Refusal>
     match asked(reply) {
         Err(Refusal::TimedOut) => Err(Refusal::Dropped),
         answer => answer,
+    }
+}
+
+/// Whether a message says that nobody answers requests to the subject.
+fn says_none_answers(message: &Message) -> bool
+    ensures { result ≡ is_no_responders message.now.status }
+{
+    match message.status {
+        Some(status) => status.as_u16() == StatusCode::NO_RESPONDERS.as_u16(),
+        None => false,
+    }
+}
+
+/// What a message of an inbox comes to, or that none will come.
+fn replied(taken: Option<Message>) -> Result<Message, Refusal>
+    ensures value { result ≡ replied_by taken }
+    ensures lacks { IfErr result (λ r. Lacks r) }
+    ensures in_time { IfErr result (λ r. r ≡ refused.TimedOut → ⊥) }
+{
+    match taken {
+        Some(message) => {
+            if says_none_answers(&message) {
+                Err(Refusal::NoResponders)
+            } else {
+                Ok(message)
+            }
+        }
+        None => Err(Refusal::Dropped),
+    }
+}
+
+impl<G: Tallies> Hub<G> {
+    /// Waits for a message of the subscription of this number, for at most `timeout` milliseconds by `clock` from now on.
+    /// Own call: it stands for the crate's `next` under a timeout.
+    ///
+    /// # Errors
+    ///
+    /// `NoResponders` where the message says that nobody answers; `TimedOut` only where the clock gives that the time is
+    /// over; `Dropped` where none will come; `NoMemory` for want of memory.
+    pub fn await_message<R: Wait, C: Clock>(
+        &self,
+        rt: &R,
+        alloc: Global,
+        number: u64,
+        timeout: Option<u64>,
+        clock: &mut C,
+    ) -> Result<Message, Refusal>
+        ensures lacks { IfErr result (λ r. Lacks r) }
+        ensures late { IfErr result (λ r. r ≡ refused.TimedOut
+            → IsLate timeout (C.clock_told clock.old) (C.clock_told clock.new)) }
+    {
+        let start = clock.start_ms();
+        for _ in rt.forever() {
+            let seen = match self.message_or_seen(rt, alloc, number) {
+                Ok(Err(seen)) => seen,
+                Ok(Ok(taken)) => return replied(taken),
+                Err(NoMemory) => return Err(Refusal::NoMemory),
+            };
+            let now = clock.now_ms();
+            if is_late(timeout, start, now) {
+                return Err(Refusal::TimedOut);
+            }
+            self.sleep(rt, seen, nap(timeout, start, now));
+        }
+        unreachable!()
     }
 }
 

@@ -3,11 +3,12 @@ ghost use Rattle.std.specs.Prelude.{◌≡◌, ◌≢◌, ◌+◌, ◌<◌, IfOk
 ghost use Rattle.std.specs.List.{concat};
 ghost use Rattle.nats_history.specs.declared.call.TakeReply.TheVariants as takes;
 ghost use Rattle.nats_refusals.specs.Refusals.{MayAnswer, counts};
+ghost use Rattle.nats_hub.specs.Asking.{Objects};
 ghost use Rattle.nats_hub.specs.Tallying.{is_do};
 
 use crate::Tallies;
 use crate::locked::{Locked, Tried};
-use nats_core::{Bytes, Call, CallReply, NoMemory, StepError, StepReply, TakeReply, Turn};
+use nats_core::{Bytes, Call, CallReply, Message, NoMemory, StepError, StepReply, TakeReply, Turn};
 use nats_refusals::Refusal;
 use rand::SeedableRng;
 use rand::rngs::SmallRng;
@@ -22,8 +23,18 @@ use std::time::Duration;
 #[derive(Drop)]
 pub struct Hub<G: Tallies> {
     pub(crate) locked: Mutex<Locked<G>>,
-    moved: Condvar,
+    /// For calls that wait for room.
+    room: Condvar,
+    /// For who writes to the link.
+    bytes: Condvar,
+    /// For calls that wait for a message or a reply.
+    came: Condvar,
     pub(crate) generator: Mutex<SmallRng>,
+}
+
+/// Whether a call changes nothing for other calls that wait, but for what there is to write.
+fn is_quiet(call: &Call) -> bool {
+    matches!(call, Call::Publish(_) | Call::Subscribe { .. })
 }
 
 impl<G: Tallies> Hub<G> {
@@ -31,8 +42,33 @@ impl<G: Tallies> Hub<G> {
     pub(crate) fn new(locked: Locked<G>, start: u64) -> Hub<G> {
         Hub {
             locked: Mutex::new(locked),
-            moved: Condvar::new(),
+            room: Condvar::new(),
+            bytes: Condvar::new(),
+            came: Condvar::new(),
             generator: Mutex::new(SmallRng::seed_from_u64(start)),
+        }
+    }
+
+    /// Wakes all who wait.
+    fn wake_all(&self) {
+        self.room.notify_all();
+        self.bytes.notify_all();
+        self.came.notify_all();
+    }
+
+    /// Wakes who waits for what a call changed: who writes alone, where that is all.
+    fn wake_behind(&self, is_quiet: bool) {
+        if is_quiet {
+            self.bytes.notify_all();
+        } else {
+            self.wake_all();
+        }
+    }
+
+    /// Wakes all who wait where steps are still due that wanted memory: the next turn, which holds the lock, plays them.
+    fn wake_where_behind(&self, is_behind: bool) {
+        if is_behind {
+            self.wake_all();
         }
     }
 
@@ -46,7 +82,7 @@ impl<G: Tallies> Hub<G> {
         requires { is_do turn ≡ false }
     {
         let reply = self.locked.lock(rt).play(alloc, turn);
-        self.moved.notify_all();
+        self.wake_all();
         reply
     }
 
@@ -67,32 +103,12 @@ impl<G: Tallies> Hub<G> {
         requires { is_do turn ≡ false }
     {
         let reply = self.locked.lock(rt).play_on(alloc, link, turn);
-        self.moved.notify_all();
+        self.wake_all();
         reply
     }
 
-    /// Takes a message as soon as one waits. The lock is let go while it waits.
-    fn take_waiting<R: Wait>(
-        &self,
-        rt: &R,
-        alloc: Global,
-        number: u64,
-    ) -> Result<TakeReply, NoMemory>
-        ensures { IfOk result (λ reply. reply ≢ takes.Empty) }
-    {
-        let mut guard = self.locked.lock(rt);
-        for _ in rt.forever() {
-            match guard.take(alloc, number)? {
-                TakeReply::Message(message) => return Ok(TakeReply::Message(message)),
-                TakeReply::Ended => return Ok(TakeReply::Ended),
-                TakeReply::Empty => guard = self.moved.wait(rt, guard),
-            }
-        }
-        unreachable!()
-    }
-
-    /// Takes the oldest message of the subscription of this number as soon as one waits, and wakes the calls that wait.
-    /// `Ended` where none will come.
+    /// Takes the oldest message of the subscription of this number as soon as one waits. `Ended` where none will come.
+    /// The lock is let go while it waits.
     ///
     /// # Errors
     ///
@@ -100,12 +116,62 @@ impl<G: Tallies> Hub<G> {
     pub fn take<R: Wait>(&self, rt: &R, alloc: Global, number: u64) -> Result<TakeReply, NoMemory>
         ensures { IfOk result (λ reply. reply ≢ takes.Empty) }
     {
-        let reply = self.take_waiting(rt, alloc, number);
-        self.moved.notify_all();
-        reply
+        let mut guard = self.locked.lock(rt);
+        for _ in rt.forever() {
+            self.wake_where_behind(guard.is_behind());
+            match guard.take(alloc, number)? {
+                TakeReply::Message(message) => return Ok(TakeReply::Message(message)),
+                TakeReply::Ended => return Ok(TakeReply::Ended),
+                TakeReply::Empty => guard = self.came.wait(rt, guard),
+            }
+        }
+        unreachable!()
     }
 
-    /// Makes a call once, and wakes the calls that wait.
+    /// The oldest message of the subscription of this number, none where none will come; or how often those who wait were
+    /// woken before, as `sleep` takes it, where some may still come.
+    pub(crate) fn message_or_seen<R: Wait>(
+        &self,
+        rt: &R,
+        alloc: Global,
+        number: u64,
+    ) -> Result<Result<Option<Message>, u64>, NoMemory> {
+        let mut guard = self.locked.lock(rt);
+        self.wake_where_behind(guard.is_behind());
+        match guard.take(alloc, number)? {
+            TakeReply::Message(message) => Ok(Ok(Some(message))),
+            TakeReply::Ended => Ok(Ok(None)),
+            TakeReply::Empty => Ok(Err(self.came.notifications())),
+        }
+    }
+
+    /// Why a call would be refused at once for its subjects or its size, if it would; the session stays as it is. Own
+    /// call: a request that asks for replies at a subject of its caller's is tested before that is subscribed to.
+    pub fn objection<R: Wait>(&self, rt: &R, call: &Call) -> Option<Refusal>
+        ensures { IfSome result (λ refusal. Objects call.now refusal) }
+    {
+        self.locked.lock(rt).objection(call)
+    }
+
+    /// Makes a call once, under the lock.
+    fn make<R: Wait>(
+        &self,
+        rt: &R,
+        alloc: Global,
+        mine: &mut Share<G>,
+        call: Call,
+    ) -> Result<Option<u64>, Refusal>
+        requires { 0 < mine.old.parts }
+        ensures parts { mine.new.parts ≡ mine.old.parts }
+        ensures made { mine.new.amount ≡ mine.old.amount + counts result }
+        ensures may { MayAnswer false call result }
+    {
+        let mut guard = self.locked.lock(rt);
+        self.wake_where_behind(guard.is_behind());
+        guard.call(alloc, mine, call)
+    }
+
+    /// Makes a call once, and wakes who waits for what it changed.
     pub(crate) fn try_call<R: Wait>(
         &self,
         rt: &R,
@@ -118,8 +184,9 @@ impl<G: Tallies> Hub<G> {
         ensures made { mine.new.amount ≡ mine.old.amount + counts result }
         ensures may { MayAnswer false call result }
     {
-        let answer = self.locked.lock(rt).call(alloc, mine, call);
-        self.moved.notify_all();
+        let is_quiet = is_quiet(&call);
+        let answer = self.make(rt, alloc, mine, call);
+        self.wake_behind(is_quiet);
         answer
     }
 
@@ -139,16 +206,17 @@ impl<G: Tallies> Hub<G> {
         let mut waits = call;
         let mut guard = self.locked.lock(rt);
         for _ in rt.forever() {
+            self.wake_where_behind(guard.is_behind());
             match guard.call_with_room(alloc, mine, waits) {
                 Tried::Answered(answer) => return answer,
                 Tried::NoRoom(call) => waits = call,
             }
-            guard = self.moved.wait(rt, guard);
+            guard = self.room.wait(rt, guard);
         }
         unreachable!()
     }
 
-    /// Makes a call as soon as there is room for it, and wakes the calls that wait.
+    /// Makes a call as soon as there is room for it, and wakes who waits for what it changed.
     pub(crate) fn call<R: Wait>(
         &self,
         rt: &R,
@@ -161,8 +229,9 @@ impl<G: Tallies> Hub<G> {
         ensures made { mine.new.amount ≡ mine.old.amount + counts result }
         ensures may { MayAnswer true call result }
     {
+        let is_quiet = is_quiet(&call);
         let answer = self.call_with_room(rt, alloc, mine, call);
-        self.moved.notify_all();
+        self.wake_behind(is_quiet);
         answer
     }
 
@@ -173,7 +242,7 @@ impl<G: Tallies> Hub<G> {
             if let Some(reply) = guard.reply_of(ticket) {
                 return reply;
             }
-            guard = self.moved.wait(rt, guard);
+            guard = self.came.wait(rt, guard);
         }
         unreachable!()
     }
@@ -183,13 +252,13 @@ impl<G: Tallies> Hub<G> {
         let mut guard = self.locked.lock(rt);
         match guard.reply_of(ticket) {
             Some(reply) => Ok(reply),
-            None => Err(self.moved.notifications()),
+            None => Err(self.came.notifications()),
         }
     }
 
     /// Comes back after that many milliseconds, or at once where those who wait were woken since `seen`.
     pub(crate) fn sleep<R: Wait>(&self, rt: &R, seen: u64, ms: u64) {
-        self.moved.sleep(rt, seen, Duration::from_millis(ms))
+        self.came.sleep(rt, seen, Duration::from_millis(ms))
     }
 
     /// The pieces that wait for the link of this number, in order; `None` where that is not the one that is up. They
@@ -216,7 +285,7 @@ impl<G: Tallies> Hub<G> {
             if !guard.is_idle_on(link) {
                 return;
             }
-            guard = self.moved.wait(rt, guard);
+            guard = self.bytes.wait(rt, guard);
         }
         unreachable!()
     }

@@ -6,6 +6,7 @@ ghost use Rattle.nats_core.specs.Calls.{parts_in};
 ghost use Rattle.nats_history.specs.Schedule.{call_reply};
 ghost use Rattle.nats_refusals.specs.Refusals.{MayAnswer, may_call, counts};
 ghost use Rattle.nats_hub.specs.Tallying.{accepts, is_accepting, accepted_in, count_of, is_do};
+ghost use Rattle.nats_hub.specs.Asking.{Objects};
 ghost use Rattle.nats_hub.specs.Waiting.{MayTry, counts_tried};
 
 use crate::events::Events;
@@ -14,6 +15,7 @@ use nats_core::{
     Bytes, Call, CallReply, ConnectionHandler, Core, Entry, Event, NoMemory, ServerInfo, StepError,
     StepReply, TakeReply, Turn,
 };
+use nats_history::refusals::{has_subjects, size_of};
 use nats_refusals::{Refusal, answer};
 use std::alloc::Global;
 use std::marker::Model;
@@ -200,6 +202,11 @@ impl<G: Tallies> Locked<G> {
         self.core.handler().is_up() && self.core.handler().link() == link
     }
 
+    /// Whether steps are due that were not played yet, for want of memory.
+    pub(crate) fn is_behind(&self) -> bool {
+        self.core.is_behind()
+    }
+
     /// The link of this number is up, and nothing waits for it.
     pub(crate) fn is_idle_on(&self, link: u64) -> bool {
         self.is_on(link) && self.core.handler().pending() == 0
@@ -227,6 +234,23 @@ impl<G: Tallies> Locked<G> {
             Err(StepError::OutOfTurn | StepError::LinkGone { .. }) => Ok(TakeReply::Ended),
             Err(StepError::NoMemory) => Err(NoMemory),
         }
+    }
+
+    /// Why a call would be refused for its subjects or its size, as the session stands, if it would.
+    #[tactic(auto, using(nats_refusals::proofs::Replying::fails_names))]
+    pub(crate) fn objection(&self, call: &Call) -> Option<Refusal>
+        ensures { IfSome result (λ refusal. Objects call.now refusal) }
+    {
+        let session = self.core.handler();
+        if !has_subjects(session.config(), call) {
+            return Some(Refusal::InvalidSubject);
+        }
+        let limit = session.max_payload();
+        let size = size_of(call);
+        if size > limit {
+            return Some(Refusal::TooLarge { limit, size });
+        }
+        None
     }
 
     /// Makes a call for a holder, whose tally counts it where it is accepted.

@@ -44,7 +44,8 @@ fails c s r true is bad = absurd (false≢true (sym bad ∙ both (may_publish_to
     (may_where c s (first_true (is_publishable s) (passes is_publishable r) is))
     (pass_where c r (second_true (is_publishable s) (passes is_publishable r) is))))
 
-fails_names : (c : Config) (call : Call) → has_subjects c call ≡ false → FailsNames call
+-- a call whose subjects may not stand there fails by its names
+pub fails_names : (c : Config) (call : Call) → has_subjects c call ≡ false → FailsNames call
 fails_names c (Publish m) bad = fails c m.subject m.reply (is_publishable m.subject && passes is_publishable m.reply) refl bad
 fails_names c (Subscribe subject group) bad = bad
 fails_names c (Request subject payload headers token) bad = tt
