@@ -227,6 +227,7 @@ impl Broker {
     /// # Errors
     ///
     /// `NoMemory` for want of memory: nothing changed, nobody was told anything, and the command is still due.
+    #[tactic(auto, using(crate::proofs::Settling::idle))]
     pub fn advance(&mut self, alloc: Global) -> Result<bool, NoMemory>
         ensures ok { IfOk result (λ done. Advances (due self.old) done self.old self.new) }
         ensures err { OnErr result (self.new ≡ self.old) }

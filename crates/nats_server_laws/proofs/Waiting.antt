@@ -1,5 +1,5 @@
 -- What waits is what was said, turn by turn.
-use Rattle.std.proofs.Common.{◌≡◌, ℕ, zero, suc, ◌+◌, ◌^◌, ◌<◌, ◌≤◌, Bool, true, false, not, ◌==◌, List, [], ◌∷◌, ◌++◌, length, map, filter, Option, Some, None, refl, ap, sym, ◌∙◌, subst, arith, append_assoc, append-nil, Ordering, Less, Equal, Greater}
+use Rattle.std.proofs.Common.{◌≡◌, ℕ, zero, suc, ◌^◌, ◌<◌, ◌≤◌, Bool, true, false, not, ◌==◌, List, [], ◌∷◌, ◌++◌, map, filter, Option, Some, None, refl, ap, sym, ◌∙◌, subst, arith, append_assoc, append-nil, Ordering, Less, Equal, Greater}
 use Rattle.std.specs.Prelude.{nat_lt, fold, option_map, slice_get, codes, if◌then◌else◌}
 use Rattle.std.specs.Ordering.{nat_cmp, match_ordering}
 use Rattle.std.specs.Option.{unwrap_or}
@@ -7,19 +7,16 @@ use Rattle.std.specs.Cmp.Lexicographic.{slice_cmp}
 use Rattle.std.specs.List.{list_any, find}
 use Rattle.std.proofs.lemmas.Bool.{ltb-false}
 use Rattle.nats_names.specs.Names.{is_token, is_valid}
-use Rattle.nats_header.specs.Headers.{Headers}
-use Rattle.nats_commands.specs.Commands.{sent_block}
-use Rattle.nats_client_text.specs.Law.{IsCounted, AreHeadersOrNone}
+use Rattle.nats_client_text.specs.Law.{IsCounted}
 use Rattle.nats_interests.specs.declared.interest.Interest.{Interest}
-use Rattle.nats_interests.specs.Interests.{is_of, is_open, altered, subscribed, new_interest, most_of, limit_to, unsubscribed, count_one, counted as count_of, without_peer}
+use Rattle.nats_interests.specs.Interests.{is_of, is_open, altered, subscribed, new_interest, most_of, limit_to, count_one, counted as count_of}
 use Rattle.nats_picking.specs.declared.picking.Target.{Target}
 use Rattle.nats_picking.specs.Hearing.{hears, heard, is_plain, has_less, answers}
 use Rattle.nats_picking.specs.Picking.{target_of, group_name, better, onto_pick, pick, picks, targets_by}
-use Rattle.nats_outboxes.specs.declared.outboxes.Letter.{Letter}
 use Rattle.nats_outboxes.specs.Outboxes.{item_of, at_index, at_number, grown, said, all_said}
 use Rattle.nats_routing.specs.declared.publication.Publication.{Publication}
-use Rattle.nats_routing.specs.Router.{RouterSeen, letter_of, letters_of, counted_all, sent_to, no_answer, told_unheard, unheard, published_to, published, said_to, closed_by}
-use Rattle.nats_routing.specs.Texts.{crlf, message_text, no_responders}
+use Rattle.nats_routing.specs.Router.{RouterSeen, letters_of, counted_all, sent_to, no_answer, told_unheard, unheard, published_to, published, said_to, closed_by}
+use Rattle.nats_routing.specs.Texts.{message_text}
 use Rattle.nats_broker_text.specs.declared.command.Command.{Command}
 use Rattle.nats_broker_text.specs.declared.command.Command.TheVariants.{Subscribe, Unsubscribe, Publish, Ping, Pong, Connect}
 use Rattle.nats_broker_text.specs.declared.command.PeerFront.{PeerFront}
@@ -33,8 +30,7 @@ use Rattle.nats_broker.specs.declared.peer.PeerWord.{PeerWord}
 use Rattle.nats_broker.specs.declared.peer.PeerWord.TheVariants as word
 use Rattle.nats_broker.specs.Info.{info_text}
 use Rattle.nats_broker.specs.Peers.{end_text}
-use Rattle.nats_broker.specs.Playing.{BrokerSeen, peer_ended, told as told_line, subscribed_by, publish_by, publish_of, command_done, taken_from, due_front, due_of, due, fed_peer, unread_len, settled_by, settled, new_broker, own, after_turn, played}
-use Rattle.nats_broker.specs.Routes.{text_of}
+use Rattle.nats_broker.specs.Playing.{BrokerSeen, peer_ended, told as told_line, publish_by, command_done, taken_from, due_front, due_of, due, fed_peer, unread_len, settled_by, new_broker, own, after_turn, played}
 use Rattle.nats_server_text.specs.Law.{IsWord, IsWordOrNone, IsTellable, AreTellable}
 use Rattle.nats_server_text.specs.Said.{Said, hello, told, unanswered, refused, pong, invalid_subject, unknown_operation, payload_violation, said_text, said_texts, counted}
 use Rattle.nats_server_laws.specs.Waiting.{IsSaid, IsMessage, IsFit, ReadsFit, WaitsAsSaid}
