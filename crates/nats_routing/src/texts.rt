@@ -98,8 +98,15 @@ fn room_of(m: &Publication) -> usize {
         Some(block) => block.as_slice().len(),
         None => 0,
     };
-    let words = m.subject.as_str().len().saturating_add(respond).saturating_add(WORDS);
-    words.saturating_add(block).saturating_add(m.payload.as_slice().len())
+    let words = m
+        .subject
+        .as_str()
+        .len()
+        .saturating_add(respond)
+        .saturating_add(WORDS);
+    words
+        .saturating_add(block)
+        .saturating_add(m.payload.as_slice().len())
 }
 
 /// The text of a message for the interest with the number `sid`.

@@ -374,12 +374,12 @@ with_distinct (field ∷ headers) name values are = by (bytes_eq name field.0) r
 
 appended_headers : (headers : Headers) (pair : Pair) → AreHeaders headers → IsPair pair → AreHeaders (with_field headers pair)
 appended_headers headers pair are is = (
-    with_distinct headers pair.0 (values_of headers pair.0 ++ pair.1 ∷ []) are.0,
-    are_fields-with_values headers pair.0 (values_of headers pair.0 ++ pair.1 ∷ [])
-        (is_field-made pair.0 (values_of headers pair.0 ++ pair.1 ∷ []) is.0 (some_values (values_of headers pair.0) pair.1)
-        (all_more (values_of headers pair.0) pair.1 (values_of-valid headers pair.0 are.1) is.1)) are.1,
-    with_texts headers pair.0 (values_of headers pair.0 ++ pair.1 ∷ []) are.2 (texts_more (values_of headers pair.0) pair.1 (texts_of headers pair.0 are.2) is.2),
-  )
+  with_distinct headers pair.0 (values_of headers pair.0 ++ pair.1 ∷ []) are.0,
+  are_fields-with_values headers pair.0 (values_of headers pair.0 ++ pair.1 ∷ [])
+      (is_field-made pair.0 (values_of headers pair.0 ++ pair.1 ∷ []) is.0 (some_values (values_of headers pair.0) pair.1)
+      (all_more (values_of headers pair.0) pair.1 (values_of-valid headers pair.0 are.1) is.1)) are.1,
+  with_texts headers pair.0 (values_of headers pair.0 ++ pair.1 ∷ []) are.2 (texts_more (values_of headers pair.0) pair.1 (texts_of headers pair.0 are.2) is.2),
+)
   where
     some_values : (values : List (List ℕ)) (value : List ℕ) → not (length (values ++ value ∷ []) == 0) ≡ true
     some_values [] value = refl

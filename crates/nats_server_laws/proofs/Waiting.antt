@@ -48,10 +48,10 @@ texts_more (first ∷ all) one =
 
 said_more : (text : List ℕ) (one : Said) → IsSaid text → IsTellable one → IsSaid (text ++ said_text one)
 said_more text one said is = (
-    said.0 ++ one ∷ [],
-    tellable_more said.0 one said.1 is,
-    ap (λ bytes. bytes ++ said_text one) said.2 ∙ sym (texts_more said.0 one),
-  )
+  said.0 ++ one ∷ [],
+  tellable_more said.0 one said.1 is,
+  ap (λ bytes. bytes ++ said_text one) said.2 ∙ sym (texts_more said.0 one),
+)
 
 abbrev AreSaid : List (List ℕ) → Type 0
 AreSaid [] = Unit {0}
@@ -244,10 +244,10 @@ counts (Some block) payload n less small = omega (arith, less, small)
 
 message_by : (m : Publication) (size : ℕ) → IsMessage m size → size < 2 ^ 64 → IsToldBy m
 message_by m size is small sid sid_small = (
-    told sid m.subject m.respond is.0 m.payload,
-    (sid_small, is.2, is.3, is.4, subst (λ block. IsCounted block m.payload) is.1 (counts m.block m.payload size is.5 small)),
-    ap (λ block. message_text sid m.subject m.respond block m.payload) is.1,
-  )
+  told sid m.subject m.respond is.0 m.payload,
+  (sid_small, is.2, is.3, is.4, subst (λ block. IsCounted block m.payload) is.1 (counts m.block m.payload size is.5 small)),
+  ap (λ block. message_text sid m.subject m.respond block m.payload) is.1,
+)
 
 -- a peer is told one thing
 one_told : (p : ℕ) (one : Said) (r : RouterSeen) → IsTellable one → Tells r → Tells (said_to p (said_text one) r)
@@ -274,7 +274,7 @@ ended_tells p w b tells = record {
 
 subscribe_tells : (test : Bool) (p sid : ℕ) (pattern : List ℕ) (group : Option (List ℕ)) (b : BrokerSeen) → sid < 2 ^ 64 → TellsAll b
     → TellsAll (if test then record b { router = record b.router { interests = subscribed p sid pattern group b.router.interests } }
-        else told_line p (codes "-ERR 'Invalid Subject'") b)
+    else told_line p (codes "-ERR 'Invalid Subject'") b)
 subscribe_tells true p sid pattern group b small tells = record {
   limit = tells.limit;
   greets = tells.greets;
