@@ -1,12 +1,15 @@
 -- A refusal behind the first round is one of the whole call.
-use Rattle.std.proofs.Common.{◌≡◌, refl, sym, inl, inr, ◌⊎◌, ℕ, Bool, List, Option, Some, None, Result, Ok, Err, IfErr, subst}
+use Rattle.std.proofs.Common.{◌≡◌, refl, sym, inl, inr, ◌⊎◌, ℕ, Bool, List, Option, Some, None, Result, Ok, Err}
+use Rattle.std.proofs.Common.{IfErr, subst}
 use Rattle.nats_pool.specs.Auths.{AuthValue}
 use Rattle.nats_outside.specs.Told.{Seen}
 use Rattle.nats_handshake.specs.Shaking.{wanting}
 use Rattle.nats_dial.specs.Causes.{AllBack}
-use Rattle.nats_drive.specs.declared.refused.Refused.{Refused}
-use Rattle.nats_drive.specs.declared.refused.Stopped.{Stopped}
-use Rattle.nats_drive.specs.declared.refused.Stopped.TheVariants as stop
+use Rattle.nats_start.specs.Steps.{HasWorld, WhyNotParsed}
+use Rattle.nats_start.specs.declared.refused.Refused.{Refused}
+use Rattle.nats_start.specs.declared.refused.Stopped.{Stopped}
+use Rattle.nats_start.specs.declared.refused.Stopped.TheVariants as stop
+use Rattle.nats_start.proofs.Returned.{none_back}
 use Rattle.url.specs.Parts.{Parts}
 use Rattle.nats_names.specs.declared.addr_error.AddrError.{AddrError}
 use Rattle.nats_handshake.specs.Errors.{Failure}
@@ -15,12 +18,9 @@ use Rattle.nats_drive.specs.Refusing.{
   RefusesLinking,
   RefusesStarting,
   StartsWith,
-  HasWorld,
   ConnectsWith,
   RefusesConnecting,
-  WhyNotParsed,
 }
-use Rattle.nats_drive.proofs.Returned.{none_back}
 
 module _ {W : Type 0} (seen : W → Seen) where
   out_with : (a : Seen) (before : ℕ) (e : Stopped) (w : Option W) → e ≡ stop.Connect wanting
@@ -79,7 +79,9 @@ module _ (Offers : List ℕ → Result AuthValue (List ℕ) → Type 0) (by_opti
         → IfErr r (λ e. RefusesLinking Offers by_option name no_echo timeout seen b before after e)
         → IfErr r (λ e. RefusesLinking Offers by_option name no_echo timeout seen a before after e)
     same_linking r a b before after same why =
-        subst (λ (s : Seen). IfErr r (λ e. RefusesLinking Offers by_option name no_echo timeout seen s before after e)) same why
+        subst
+        (λ (s : Seen). IfErr r (λ e. RefusesLinking Offers by_option name no_echo timeout seen s before after e))
+        same why
 
     wanting_with : (a : Seen) (before : ℕ) (w : W) (e : Failure) → e ≡ wanting → seen w ≡ a
         → LinksWith Offers by_option name no_echo timeout seen a before before (stop.Connect e) (Some w)

@@ -5,19 +5,19 @@ ghost use Rattle.nats_handshake.specs.Credentials.{SignerAnswers, AuthAnswers, O
 ghost use Rattle.nats_system.specs.Spawning.{spawned};
 ghost use Rattle.nats_outside.specs.Told.{Seen};
 ghost use Rattle.nats_client.specs.Views.{client_of};
-ghost use Rattle.nats_drive.specs.Refusing.{LinkOut, RefusesConnecting, RefusesLinking, RefusesStarting};
-ghost use Rattle.nats_drive.specs.declared.refused.Stopped.TheVariants as stop;
+ghost use Rattle.nats_start.specs.Steps.{LinkOut};
+ghost use Rattle.nats_start.specs.declared.refused.Stopped.TheVariants as stop;
+ghost use Rattle.nats_drive.specs.Refusing.{RefusesConnecting, RefusesLinking, RefusesStarting};
 
-use crate::begin::{begin, out_of};
 use crate::driver::drive;
 use crate::plan::Planned;
-use crate::stages::{addrs_of, first_round, wanting};
 use crate::{Connected, Driven, Plan, Refused, Shared, Starter, Stopped, World};
 use nats_dial::{ConnectError, ConnectOptions, Linked};
 use nats_hub::Tallies;
 use nats_names::{Failed, NoMemory};
 use nats_outside::{Clock, LinkRead, LinkWrite, seen};
 use nats_pool::{Delay, Pool, PoolOptions, ServerAddr, ServerPool, ToServerAddrs};
+use nats_start::{addrs_of, begin, first_round, out_of_memory, wanting};
 use std::alloc::Global;
 use std::sync::ledger::Blank;
 use std::sync::{Arc, Wait};
@@ -86,7 +86,7 @@ where
         → IfErr result (λ r. RefusesStarting W.seen a (P.start_faults starter.old) (P.start_faults starter.new) r) }
 {
     let Ok(shared) = Arc::try_clone(&connected.servers.shared) else {
-        return Err(out_of(world, link));
+        return Err(out_of_memory(world, link));
     };
     let plan = Planned { options };
     let started = start_driver::<G, Q, R, P, W::Read, W::Write, W::Ticks, W, Planned>(
@@ -139,17 +139,17 @@ where
 }
 
 /// Connects over a pool of servers, and goes on until the session is closed: a client of a new hub, and its hold of the
-/// pool, whose links a job drives that `starter` starts. In this order: one round of connecting over
-/// `world`, unless the first attempts are to be made in the background too; a hub, which plays that the link came up, and
-/// what came with it; the driver, which owns the world. Whether the journal is kept the options say, as `G` does. Times
-/// are milliseconds. The options of a pool are not read: the pool has its own. Own call, for pools of
-/// one's own: the crate has but one kind of pool.
+/// pool, whose links a job drives that `starter` starts. In this order: one round of connecting over `world`, unless the
+/// first attempts are to be made in the background too; a hub, which plays that the link came up, and what came with it;
+/// the driver, which owns the world. Whether the journal is kept the options say, as `G` does. Times are milliseconds.
+/// The options of a pool are not read: the pool has its own. Own call, for pools of one's own: the crate has but one
+/// kind of pool.
 ///
 /// # Errors
 ///
-/// `Connect` with the error of the round where that gave no link, or with `NoMemory` for want of memory: the world comes
-/// back, to which each link that came was handed back first. `Spawn` exactly where the driver was not started, which the
-/// starter counts: the world went with it.
+/// `Connect` with the error of the round where that gave no link, or with `NoMemory` for want of memory: the world
+/// comes back, to which each link that came was handed back first. `Spawn` exactly where the driver was not started,
+/// which the starter counts: the world went with it.
 #[tactic(auto, using(crate::proofs::Refusals::starting_links))]
 pub fn connect_over<
     G: Tallies + Send + Sync + 'static,
@@ -236,17 +236,18 @@ where
     }
 }
 
-/// Connects to one of the servers of these addresses, and goes on until the session is closed: a client of a new hub, and
-/// its hold of the servers, whose links a job drives that `starter` starts. In this order: the addresses; one round of
-/// connecting over `world`, unless the first attempts are to be made in the background too; a hub, which plays that the
-/// link came up, and what came with it; the driver, which owns the world. `blank` is a ledger of 2^63 parts, of which the
-/// client has all. Whether the journal is kept the options say, as `G` does. Times are milliseconds. The crate's call.
+/// Connects to one of the servers of these addresses, and goes on until the session is closed: a client of a new hub,
+/// and its hold of the servers, whose links a job drives that `starter` starts. In this order: the addresses; one round
+/// of connecting over `world`, unless the first attempts are to be made in the background too; a hub, which plays that
+/// the link came up, and what came with it; the driver, which owns the world. `blank` is a ledger of 2^63 parts, of
+/// which the client has all. Whether the journal is kept the options say, as `G` does. Times are milliseconds. The
+/// crate's call.
 ///
 /// # Errors
 ///
-/// `Connect` with `ServerParse` where an address does not parse, with the error of the round where that gave no link, or
-/// with `NoMemory` for want of memory: the world comes back, to which each link that came was handed back first. `Spawn`
-/// exactly where the driver was not started, which the starter counts: the world went with it.
+/// `Connect` with `ServerParse` where an address does not parse, with the error of the round where that gave no link,
+/// or with `NoMemory` for want of memory: the world comes back, to which each link that came was handed back first.
+/// `Spawn` exactly where the driver was not started, which the starter counts: the world went with it.
 #[tactic(auto, using(crate::proofs::Refusals::linking_connects))]
 pub fn connect_with_options<
     G: Tallies + Send + Sync + 'static,

@@ -1,7 +1,7 @@
 //! The job that drives the links of a client until its session is closed.
 
-use crate::link::{lose, play_up, serve};
-use crate::shared::{note, note_skipped, other, tell};
+use crate::link::{lose, serve};
+use crate::plan::tell;
 use crate::{Driven, Plan, Shared};
 use nats_core::{NoMemory, ServerInfo, Turn};
 use nats_dial::{ConnectError, ConnectErrorKind, Linked};
@@ -9,6 +9,7 @@ use nats_hub::{Hub, Tallies};
 use nats_names::ClientError;
 use nats_outside::{Clock, LinkRead, LinkWrite};
 use nats_pool::{Choice, ServerPool};
+use nats_start::{note, note_choice, note_skipped, other, play_up};
 use std::alloc::Global;
 use std::sync::Wait;
 
@@ -33,13 +34,6 @@ fn last_info<G: Tallies, R: Wait>(
     match hub.server_info(rt, alloc)? {
         Some(info) => Ok(info),
         None => Ok(ServerInfo::default(alloc)),
-    }
-}
-
-/// Tells that a round's servers were not chosen from the pool, where that is so.
-pub(crate) fn note_choice<G: Tallies, R: Wait>(rt: &R, hub: &Hub<G>, choice: Choice) {
-    if choice == Choice::NotInPool {
-        note(rt, hub, ClientError::ServerNotInPool);
     }
 }
 
@@ -73,8 +67,8 @@ fn begin<
     }
 }
 
-/// Tells of a round that gave no link: the words of its error, and where as many attempts failed as may, that too, after
-/// which the session is given up. Whether memory was wanting.
+/// Tells of a round that gave no link: the words of its error, and where as many attempts failed as may, that too,
+/// after which the session is given up. Whether memory was wanting.
 fn fail<G: Tallies, R: Wait>(rt: &R, alloc: Global, hub: &Hub<G>, error: &ConnectError) -> bool {
     if let Ok(words) = kind_of(alloc, error) {
         note(rt, hub, words);
@@ -139,7 +133,8 @@ fn round<
 /// Drives the links of a client until its session is closed. It goes on with the link that it is handed, where there is
 /// one; while none is up it makes rounds of connecting. A failed round is told as an event, in the words of its error;
 /// as many failed attempts as may be end the session. Each event goes to the plan's callback, where there is one, on
-/// the driver's thread and outside the lock: a callback that blocks holds the driver. Own call: the crate spawns a task.
+/// the driver's thread and outside the lock: a callback that blocks holds the driver. Own call: the crate spawns a
+/// task.
 pub fn drive<
     G: Tallies + Send + Sync + 'static,
     Q: ServerPool + Drop + Send + 'static,

@@ -1,6 +1,7 @@
 //! The jobs beside a link: one writes, one ticks.
 
-use crate::{Bay, Starter};
+use crate::Starter;
+use crate::bay::Bay;
 use nats_hub::{Hub, Tallies};
 use nats_links::{tick_loop, write_loop};
 use nats_outside::{Clock, LinkWrite};

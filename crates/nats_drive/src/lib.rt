@@ -1,27 +1,20 @@
-//! A client that stays connected: who starts jobs, the job that drives a client's links until its session is closed, and
-//! the calls that connect. Times are in milliseconds, lengths in bytes; links are numbered from 1.
+//! A client that stays connected: the job that drives a client's links until its session is closed, and the calls that
+//! connect. What they begin with stands in `nats_start`, and is given from here too. Times are in milliseconds, lengths
+//! in bytes; links are numbered from 1.
 #![tactic(auto)]
 
 mod bay;
-mod begin;
 mod connect;
+mod driven;
 mod driver;
 mod jobs;
 mod link;
 mod plan;
-mod refused;
-mod servers;
-mod shared;
-mod stages;
-mod starter;
-mod world;
 
-pub use bay::Bay;
 pub use connect::{connect_over, connect_with_options};
+pub use driven::Driven;
 pub use driver::drive;
+pub use nats_start::{
+    Connected, Refused, ServerPoolError, Servers, Shared, Starter, Stopped, ThreadStarter, World,
+};
 pub use plan::Plan;
-pub use refused::{Refused, Stopped};
-pub use servers::{ServerPoolError, Servers};
-pub use shared::{Connected, Shared};
-pub use starter::{Starter, ThreadStarter};
-pub use world::{Driven, World};

@@ -1,38 +1,19 @@
 //! A link that is up: its jobs, its reads, and its end.
 ghost use Rattle.std.specs.Prelude.{◌<◌, length};
 
+use crate::bay::Bay;
 use crate::jobs::{start_ticking, start_writing};
-use crate::shared::{note_skipped, tell};
-use crate::{Bay, Driven, Plan, Shared, Starter};
-use nats_core::{Bytes, NoMemory, ReadOnce, ServerInfo, Turn};
+use crate::plan::tell;
+use crate::{Driven, Plan, Shared, Starter};
+use nats_core::{NoMemory, ReadOnce, Turn};
 use nats_hub::{Hub, Tallies};
 use nats_links::read_once;
 use nats_names::Text;
 use nats_outside::{Clock, LinkRead, LinkWrite};
 use nats_pool::ServerPool;
+use nats_start::note_skipped;
 use std::alloc::Global;
 use std::sync::{Arc, Wait};
-
-/// Plays that a link came up, and what came with it as its first piece. The number of the link.
-pub(crate) fn play_up<G: Tallies, R: Wait>(
-    rt: &R,
-    alloc: Global,
-    hub: &Hub<G>,
-    info: ServerInfo,
-    rest: Vec<u8>,
-) -> Result<u64, NoMemory> {
-    if hub.play(rt, alloc, Turn::Up(info)).is_err() {
-        return Err(NoMemory);
-    }
-    let link = hub.link(rt);
-    if !rest.is_empty() {
-        let bytes = Bytes::from_vec(rest)?;
-        if hub.play_on(rt, alloc, link, Turn::Piece(bytes)).is_err() {
-            return Err(NoMemory);
-        }
-    }
-    Ok(link)
-}
 
 /// Plays the loss of a link.
 pub(crate) fn lose<G: Tallies, R: Wait>(rt: &R, alloc: Global, hub: &Hub<G>, link: u64) {

@@ -2,13 +2,15 @@
 
 use nats_core::Event;
 use nats_dial::{ConnectError, ConnectOptions, Linked, try_connect};
+use nats_hub::{Hub, Tallies};
 use nats_outside::Reach;
 use nats_pool::{ServerInfo, ServerPool};
 use std::alloc::Global;
 use std::num::{NonZeroU16, NonZeroU64};
+use std::sync::Wait;
 
-/// What a driver asks of the options of a connection. Own trait: what is sent to a thread is known to be sendable where its
-/// type is a parameter.
+/// What a driver asks of the options of a connection. Own trait: what is sent to a thread is known to be sendable where
+/// its type is a parameter.
 pub trait Plan {
     /// Milliseconds between two pings.
     fn ping_interval(&self) -> NonZeroU64;
@@ -65,5 +67,18 @@ impl Plan for Planned {
         world: &mut W,
     ) -> Result<Linked<W::Read, W::Write>, ConnectError> {
         try_connect(alloc, pool, &self.options, last, world)
+    }
+}
+
+/// Hands the events that came to the callback, where there is one, outside the lock: an event goes to the callback or
+/// to who polls, never to both.
+pub(crate) fn tell<G: Tallies, R: Wait, K: Plan>(rt: &R, hub: &Hub<G>, plan: &K) {
+    if plan.has_event_callback() {
+        for _ in rt.forever() {
+            match hub.next_event(rt) {
+                Some(event) => plan.tell(event),
+                None => return,
+            }
+        }
     }
 }

@@ -1,6 +1,6 @@
 -- the number that was drawn leaves what the world tells
 use Rattle.std.proofs.Common.{◌≡◌, subst, sym, rules}
-use Rattle.nats_drive.specs.Refusing.{LinkOut}
+use Rattle.nats_start.specs.Steps.{LinkOut}
 use Rattle.nats_drive.proofs.connect.begin_on.Goals as goal
 
 pub returns-in-Ok : goal.returns-in-Ok

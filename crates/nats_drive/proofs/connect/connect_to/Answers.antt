@@ -20,10 +20,12 @@ use Rattle.nats_drive.proofs.connect.connect_to.Goals as goal
 
 pub connect_over-requires-send-Q : goal.connect_over-requires-send-Q
 connect_over-requires-send-Q g c κs within =
-    let s4 = dyn-4.slots g.row.G g.row.R g.row.P g.row.W g.row.P-Rt g.row.W-Ticks g.row.W-Read g.row.W-Write g.row.W-Rt in
+    let s4 = dyn-4.slots g.row.G g.row.R g.row.P g.row.W
+    g.row.P-Rt g.row.W-Ticks g.row.W-Read g.row.W-Write g.row.W-Rt in
     let t4 = Vt s4 g.dyn-4.0 in
     let g4 = ghosts_of s4 g.dyn-4.0 g.dyn-4.1 in
-    let s5 = dyn-5.slots g.row.G g.row.R g.row.P g.row.W g.row.P-Rt g.row.W-Ticks g.row.W-Read g.row.W-Write g.row.W-Rt in
+    let s5 = dyn-5.slots g.row.G g.row.R g.row.P g.row.W
+    g.row.P-Rt g.row.W-Ticks g.row.W-Read g.row.W-Write g.row.W-Rt in
     let t5 = Vt s5 g.dyn-5.0 in
     let g5 = ghosts_of s5 g.dyn-5.0 g.dyn-5.1 in
     let options = declared_send

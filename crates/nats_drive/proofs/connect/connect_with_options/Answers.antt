@@ -8,5 +8,6 @@ pub returns-in-Err : goal.returns-in-Err
 returns-in-Err g c = let o = c.args.options in record {
   client = tt;
   refused = parsing_connects (Offers SignerAnswers AuthAnswers o.signer o.auth_callback (auth_value o.auth))
-      o.tls_required o.name o.no_echo o.connection_timeout g.W.Reach.seen _ _ _ _ _ c.refuse.ensures c.in-Err.ensures.err;
+      o.tls_required o.name o.no_echo o.connection_timeout g.W.Reach.seen _ _ _ _ _ c.refuse.ensures
+      c.in-Err.ensures.err;
 }

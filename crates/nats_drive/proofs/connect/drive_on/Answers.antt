@@ -19,19 +19,24 @@ use Rattle.nats_drive.proofs.connect.drive_on.Goals as goal
 
 pub start_driver-started-requires-send-K : goal.start_driver-started-requires-send-K
 start_driver-started-requires-send-K g c κs within =
-    let s1 = dyn-1.slots g.row.G g.row.Q g.row.R g.row.P g.row.W g.row.P-Rt g.row.W-Ticks g.row.W-Read g.row.W-Write g.row.W-Rt in
+    let s1 = dyn-1.slots g.row.G g.row.Q g.row.R g.row.P g.row.W
+    g.row.P-Rt g.row.W-Ticks g.row.W-Read g.row.W-Write g.row.W-Rt in
     let t1 = Vt s1 g.dyn-1.0 in
     let g1 = ghosts_of s1 g.dyn-1.0 g.dyn-1.1 in
-    let s2 = dyn-2.slots g.row.G g.row.Q g.row.R g.row.P g.row.W g.row.P-Rt g.row.W-Ticks g.row.W-Read g.row.W-Write g.row.W-Rt in
+    let s2 = dyn-2.slots g.row.G g.row.Q g.row.R g.row.P g.row.W
+    g.row.P-Rt g.row.W-Ticks g.row.W-Read g.row.W-Write g.row.W-Rt in
     let t2 = Vt s2 g.dyn-2.0 in
     let g2 = ghosts_of s2 g.dyn-2.0 g.dyn-2.1 in
-    let s3 = dyn-3.slots g.row.G g.row.Q g.row.R g.row.P g.row.W g.row.P-Rt g.row.W-Ticks g.row.W-Read g.row.W-Write g.row.W-Rt in
+    let s3 = dyn-3.slots g.row.G g.row.Q g.row.R g.row.P g.row.W
+    g.row.P-Rt g.row.W-Ticks g.row.W-Read g.row.W-Write g.row.W-Rt in
     let t3 = Vt s3 g.dyn-3.0 in
     let g3 = ghosts_of s3 g.dyn-3.0 g.dyn-3.1 in
-    let s4 = dyn-4.slots g.row.G g.row.Q g.row.R g.row.P g.row.W g.row.P-Rt g.row.W-Ticks g.row.W-Read g.row.W-Write g.row.W-Rt in
+    let s4 = dyn-4.slots g.row.G g.row.Q g.row.R g.row.P g.row.W
+    g.row.P-Rt g.row.W-Ticks g.row.W-Read g.row.W-Write g.row.W-Rt in
     let t4 = Vt s4 g.dyn-4.0 in
     let g4 = ghosts_of s4 g.dyn-4.0 g.dyn-4.1 in
-    let s5 = dyn-5.slots g.row.G g.row.Q g.row.R g.row.P g.row.W g.row.P-Rt g.row.W-Ticks g.row.W-Read g.row.W-Write g.row.W-Rt in
+    let s5 = dyn-5.slots g.row.G g.row.Q g.row.R g.row.P g.row.W
+    g.row.P-Rt g.row.W-Ticks g.row.W-Read g.row.W-Write g.row.W-Rt in
     let t5 = Vt s5 g.dyn-5.0 in
     let g5 = ghosts_of s5 g.dyn-5.0 g.dyn-5.1 in
     let options = declared_send
@@ -110,4 +115,5 @@ start_driver-started-requires-send-K g c κs within =
 
 pub returns-in_default-clause-refused : goal.returns-in_default-clause-refused
 returns-in_default-clause-refused g c = λ a out.
-    out_starts g.W.Reach.seen a _ c.out_of.result c.out_of.ensures.error (c.out_of.ensures.back a out)
+    let refused = c.out_of_memory in
+    out_starts g.W.Reach.seen a _ refused.result refused.ensures.error (refused.ensures.back a out)

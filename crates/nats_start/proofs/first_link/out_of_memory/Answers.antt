@@ -2,10 +2,10 @@
 use Rattle.std.proofs.Common.{◌≡◌, subst, sym, rules}
 use Rattle.nats_outside.specs.Told.{Seen}
 use Rattle.nats_dial.specs.Causes.{AllBack}
-use Rattle.nats_drive.specs.Refusing.{LinkOut}
-use Rattle.nats_drive.proofs.Returned.{one_back}
-use Rattle.nats_drive.proofs.begin.out_of.Goals.{in-Some, in_default}
-use Rattle.nats_drive.proofs.begin.out_of.Goals as goal
+use Rattle.nats_start.specs.Steps.{LinkOut}
+use Rattle.nats_start.proofs.Returned.{one_back}
+use Rattle.nats_start.proofs.first_link.out_of_memory.Goals.{in-Some, in_default}
+use Rattle.nats_start.proofs.first_link.out_of_memory.Goals as goal
 
 pub returns-clause-back : goal.returns-clause-back
 returns-clause-back g c = elim c.match-link.branch [

@@ -5,8 +5,12 @@ use Rattle.nats_names.specs.declared.addr_error.AddrError.{AddrError}
 use Rattle.nats_names.specs.declared.addr_error.AddrError.TheVariants as addr_error
 use Rattle.nats_pool.specs.declared.pool_error.SetServerPoolErrorKind.{SetServerPoolErrorKind}
 use Rattle.nats_pool.specs.declared.pool_error.SetServerPoolErrorKind.TheVariants as kind
-use Rattle.nats_drive.specs.declared.servers.ServerPoolError.{ServerPoolError}
-use Rattle.nats_drive.specs.declared.servers.ServerPoolError.TheVariants as refused
+use Rattle.nats_start.specs.declared.servers.ServerPoolError.{ServerPoolError}
+use Rattle.nats_start.specs.declared.servers.ServerPoolError.TheVariants as refused
+
+-- these are the servers that the pool had at some moment of the call
+abbrev pub HeldBy : {Q S : Type 0} → (Q → List S) → List S → Type 0
+HeldBy {Q} servers all = (pool : Q) × (all ≡ servers pool)
 
 -- why addresses are none: one does not parse, or memory was wanting
 abbrev pub WhyNotParsed : Result (List Parts) AddrError → SetServerPoolErrorKind → Type 0

@@ -15,7 +15,7 @@ pub enum Stopped {
 }
 
 impl fmt::Display for Stopped {
-    ghost use Rattle.nats_drive.specs.Refusing.{stopped_text};
+    ghost use Rattle.nats_start.specs.Steps.{stopped_text};
 
     ghost output = { λ stopped. Some (stopped_text stopped) };
 

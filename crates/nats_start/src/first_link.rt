@@ -4,18 +4,16 @@ ghost use Rattle.nats_handshake.specs.Shaking.{wanting};
 ghost use Rattle.nats_dial.specs.Causes.{AllBack};
 ghost use Rattle.nats_outside.specs.Told.{Seen};
 ghost use Rattle.nats_client.specs.Views.{client_of};
-ghost use Rattle.nats_drive.specs.Refusing.{HandsBack, HasWorld, LinkOut};
-ghost use Rattle.nats_drive.specs.declared.refused.Stopped.TheVariants as stop;
+ghost use Rattle.nats_start.specs.Steps.{HandsBack, HasWorld, LinkOut};
+ghost use Rattle.nats_start.specs.declared.refused.Stopped.TheVariants as stop;
 
-use crate::driver::note_choice;
-use crate::link::play_up;
-use crate::shared::note_skipped;
+use crate::notes::{note_choice, note_skipped};
 use crate::stages::{make_hub, wanting};
 use crate::{Connected, Refused, Servers, Shared, Stopped, World};
 use nats_client::Client;
-use nats_core::ServerInfo;
+use nats_core::{Bytes, ServerInfo, Turn};
 use nats_dial::{ConnectOptions, Linked};
-use nats_hub::Tallies;
+use nats_hub::{Hub, Tallies};
 use nats_names::{NoMemory, Text};
 use nats_outside::{LinkWrite, seen};
 use nats_pool::ServerPool;
@@ -24,7 +22,7 @@ use std::sync::ledger::Blank;
 use std::sync::{Arc, Mutex, Wait};
 
 /// Shuts a link, and hands it back.
-pub(crate) fn hand_back<W: World>(world: &mut W, read: W::Read, write: W::Write)
+fn hand_back<W: World>(world: &mut W, read: W::Read, write: W::Write)
     ensures back { HandsBack (W.Read.read_told read) (W.seen world.old) (W.seen world.new) }
 {
     let mut write = write;
@@ -54,6 +52,31 @@ fn share<G: Tallies, Q: ServerPool + Drop>(
     let shared = Arc::new(alloc, Shared { hub, pool })?;
     let servers = Servers { shared };
     Ok(Connected { client, servers })
+}
+
+/// Plays that a link came up, and what came with it as its first piece. The number of the link. Own call.
+///
+/// # Errors
+///
+/// `NoMemory` for want of memory: that the link came up may have been played.
+pub fn play_up<G: Tallies, R: Wait>(
+    rt: &R,
+    alloc: Global,
+    hub: &Hub<G>,
+    info: ServerInfo,
+    rest: Vec<u8>,
+) -> Result<u64, NoMemory> {
+    if hub.play(rt, alloc, Turn::Up(info)).is_err() {
+        return Err(NoMemory);
+    }
+    let link = hub.link(rt);
+    if !rest.is_empty() {
+        let bytes = Bytes::from_vec(rest)?;
+        if hub.play_on(rt, alloc, link, Turn::Piece(bytes)).is_err() {
+            return Err(NoMemory);
+        }
+    }
+    Ok(link)
 }
 
 /// What is played of a link that came up.
@@ -91,10 +114,15 @@ fn share_up<G: Tallies, Q: ServerPool + Drop, R: Wait>(
 }
 
 /// A client that is connected, and its link where there is one.
-type Begun<G, Q, L, H> = (Connected<G, Q>, Option<(L, H)>);
+pub type Begun<G, Q, L, H> = (Connected<G, Q>, Option<(L, H)>);
 
-/// The client of a new hub, on its first link where there is one. Where memory is wanting an open link is handed back.
-pub(crate) fn begin<G: Tallies, Q: ServerPool + Drop, R: Wait, W: World>(
+/// The client of a new hub, on its first link where there is one, and that link for who drives it. The hub plays that
+/// the link came up, and what came with it; the client has all parts of the hub. Own call: the crate's call begins so.
+///
+/// # Errors
+///
+/// `NoMemory` for want of memory: an open link was shut and handed back to the world.
+pub fn begin<G: Tallies, Q: ServerPool + Drop, R: Wait, W: World>(
     rt: &R,
     alloc: Global,
     blank: Blank,
@@ -140,8 +168,9 @@ pub(crate) fn begin<G: Tallies, Q: ServerPool + Drop, R: Wait, W: World>(
     }
 }
 
-/// The refusal for want of memory, after which a link that is open was handed back to the world.
-pub(crate) fn out_of<W: World>(world: W, link: Option<(W::Read, W::Write)>) -> Refused<W>
+/// The refusal for want of memory, which hands the world back: a link that is open was shut and handed back to it. Own
+/// call.
+pub fn out_of_memory<W: World>(world: W, link: Option<(W::Read, W::Write)>) -> Refused<W>
     ensures error { result.error ≡ stop.Connect wanting }
     ensures back { (a : Seen) → LinkOut a (W.seen world) link → HasWorld (λ w. AllBack a (W.seen w)) result.world }
 {

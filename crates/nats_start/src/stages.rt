@@ -4,7 +4,7 @@ ghost use Rattle.nats_pool.specs.Auths.{auth_value};
 ghost use Rattle.nats_handshake.specs.Credentials.{SignerAnswers, AuthAnswers, Offers};
 ghost use Rattle.nats_handshake.specs.Shaking.{wanting};
 ghost use Rattle.nats_dial.specs.Causes.{AllBack};
-ghost use Rattle.nats_drive.specs.Refusing.{LinkOut, RoundFailed, WhyNotParsed};
+ghost use Rattle.nats_start.specs.Steps.{LinkOut, RoundFailed, WhyNotParsed};
 
 use crate::World;
 use nats_core::Config;
@@ -18,18 +18,19 @@ use rand::rngs::SmallRng;
 use std::alloc::Global;
 use std::sync::ledger::Blank;
 
-/// Memory was wanting.
-pub(crate) fn wanting() -> ConnectError
+/// The error of connecting for want of memory. Own call.
+pub fn wanting() -> ConnectError
     ensures { result ≡ wanting }
 {
     ConnectError::new(ConnectErrorKind::NoMemory)
 }
 
-/// The addresses of the servers to connect to.
-pub(crate) fn addrs_of<A: ToServerAddrs>(
-    alloc: Global,
-    addrs: &A,
-) -> Result<Vec<ServerAddr>, ConnectError>
+/// The addresses of the servers to connect to. Own call.
+///
+/// # Errors
+///
+/// `ServerParse` with its cause where an address does not parse; `NoMemory` for want of memory.
+pub fn addrs_of<A: ToServerAddrs>(alloc: Global, addrs: &A) -> Result<Vec<ServerAddr>, ConnectError>
     ensures ok { IfOk result (λ v. A.addrs addrs.now ≡ Ok v.items) }
     ensures err { IfErr result (λ e. WhyNotParsed (A.addrs addrs.now) e) }
 {
@@ -64,8 +65,13 @@ fn one_round<Q: ServerPool, W: World>(
     }
 }
 
-/// One round of connecting, unless the first attempts are made in the background too.
-pub(crate) fn first_round<Q: ServerPool, W: World>(
+/// One round of connecting, unless the first attempts are made in the background too: then there is no link, and
+/// nothing is tried. Own call.
+///
+/// # Errors
+///
+/// That of the round, where it gave no link: each link that came was handed back to the world.
+pub fn first_round<Q: ServerPool, W: World>(
     alloc: Global,
     pool: &mut Q,
     options: &ConnectOptions,

@@ -1,8 +1,8 @@
 -- the link that was open was handed back
 use Rattle.std.proofs.Common.{◌≡◌, subst}
-use Rattle.nats_drive.specs.Refusing.{LinkOut}
-use Rattle.nats_drive.proofs.Returned.{one_back}
-use Rattle.nats_drive.proofs.begin.begin.Goals as goal
+use Rattle.nats_start.specs.Steps.{LinkOut}
+use Rattle.nats_start.proofs.Returned.{one_back}
+use Rattle.nats_start.proofs.first_link.begin.Goals as goal
 
 pub returns-in-Err-clause-back : goal.returns-in-Err-clause-back
 returns-in-Err-clause-back g c = λ a out.

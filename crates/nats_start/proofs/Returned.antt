@@ -3,7 +3,7 @@ use Rattle.std.proofs.Common.{◌≡◌, refl, ap, ℕ, List, [], Option, Some, 
 use Rattle.nats_outside.specs.Told.{Seen, ReadTold}
 use Rattle.nats_dial.specs.Causes.{AllBack, Grew, OneOut}
 use Rattle.nats_dial.proofs.Returning.{out_back}
-use Rattle.nats_drive.specs.Refusing.{HandsBack, LinkOut}
+use Rattle.nats_start.specs.Steps.{HandsBack, LinkOut}
 
 grew_same : {L : Type 0} (links : Option (List L)) → Grew links links
 grew_same None = tt

@@ -17,7 +17,7 @@ use Rattle.nats_handshake.specs.Errors.{Failure}
 use Rattle.nats_handshake.specs.Heard.{RefusesIn, RefusesText}
 use Rattle.nats_handshake.specs.Shaking.{Declines, wanting}
 use Rattle.nats_dial.specs.Causes.{last_tls, LinkCause, ServerCause, Why, RoundCause}
-use Rattle.nats_drive.specs.Refusing.{RoundFailed, TakesTexts}
+use Rattle.nats_start.specs.Steps.{RoundFailed, TakesTexts}
 
 module _ {P : Type 0} (Takes : P → P → List (List ℕ) → List (List ℕ) → Type 0)
     (Offers : List ℕ → Result AuthValue (List ℕ) → Type 0) (by_option : Bool) (name : Option (List ℕ)) (no_echo : Bool)
@@ -52,7 +52,8 @@ module _ {P : Type 0} (Takes : P → P → List (List ℕ) → List (List ℕ) �
       link by_scheme a e b (inr (inr (inl failed))) = inr (inr (inl failed))
       link by_scheme a e b (inr (inr (inr (inl ended)))) = inr (inr (inr (inl ended)))
       link by_scheme a e b (inr (inr (inr (inr (text, gave, (p, q, refused)))))) =
-          inr (inr (inr (inr (text, gave, (tt, tt, refuses_in by_scheme p q (greeting_at (front text)) text e refused)))))
+          let why = refuses_in by_scheme p q (greeting_at (front text)) text e refused in
+          inr (inr (inr (inr (text, gave, (tt, tt, why)))))
 
       server : (tried : List Planned) (a : Seen) (e : Failure) (b : Seen)
           → ServerCause Takes Offers by_option name no_echo timeout tried a e b

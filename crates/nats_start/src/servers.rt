@@ -1,6 +1,7 @@
 //! The calls of a client on its pool of servers.
 ghost use Rattle.std.specs.Prelude.{◌≡◌, Ok, IfErr, IfOk};
-ghost use Rattle.nats_drive.specs.Pooling.{SetsOrNot, WhyNotParsed};
+ghost use Rattle.std.specs.Arc.{arc_value};
+ghost use Rattle.nats_start.specs.Pooling.{HeldBy, SetsOrNot, WhyNotParsed};
 
 use crate::Shared;
 use nats_hub::Tallies;
@@ -15,7 +16,8 @@ use std::sync::{Arc, Wait};
 /// at a time: a call waits for it so long. The crate's client has these calls itself.
 #[derive(Drop)]
 pub struct Servers<G: Tallies, Q> {
-    pub(crate) shared: Arc<Shared<G, Q>, Global>,
+    /// What its client and the driver share.
+    pub shared: Arc<Shared<G, Q>, Global>,
 }
 
 /// Why the servers were not told. The crate's `ServerPoolError`.
@@ -29,7 +31,7 @@ pub enum ServerPoolError {
 
 impl fmt::Display for ServerPoolError {
     ghost use Rattle.std.specs.Prelude.{Some};
-    ghost use Rattle.nats_drive.specs.Pooling.{server_pool_text};
+    ghost use Rattle.nats_start.specs.Pooling.{server_pool_text};
 
     ghost output = { λ error. Some (server_pool_text error) };
 
@@ -64,7 +66,9 @@ impl<G: Tallies, Q: ServerPool> Servers<G, Q> {
     /// # Errors
     ///
     /// `NoMemory` where there are as many holds as may be.
-    pub fn again(&self) -> Result<Servers<G, Q>, NoMemory> {
+    pub fn again(&self) -> Result<Servers<G, Q>, NoMemory>
+        ensures { IfOk result (λ servers. arc_value servers.shared ≡ arc_value self.now.shared) }
+    {
         match Arc::try_clone(&self.shared) {
             Ok(shared) => Ok(Servers { shared }),
             Err(_) => Err(NoMemory),
@@ -80,7 +84,9 @@ impl<G: Tallies, Q: ServerPool> Servers<G, Q> {
         &self,
         rt: &R,
         alloc: Global,
-    ) -> Result<Vec<Server>, ServerPoolError> {
+    ) -> Result<Vec<Server>, ServerPoolError>
+        ensures { IfOk result (λ all. HeldBy Q.servers all.items) }
+    {
         if self.shared.hub.is_closed(rt) {
             return Err(ServerPoolError::Send);
         }
