@@ -128,7 +128,7 @@ done
 # rates: of each kind, where two clients share the messages, and of one that takes what another process publishes
 rated() {
     grep -Eq "^$2 stats: [0-9,]+ msgs/sec ~ [0-9,]+\.[0-9]{2} MB/sec$" "$1.out" || fail "the rate of $2: $(cat "$1.out")"
-    tr '\r' '\n' < "$1.err" | grep -q "^$3 of $3$" || fail "the progress of $2"
+    tr '\r' '\n' < "$1.err" | grep -q "^$3 of $3" || fail "the progress of $2"
 }
 for way in pub:Pub pubsub:Pub/Sub request:Request; do
     status 0 bench "${way%%:*}" --msgs 1001 --size 16 --clients 2
