@@ -73,3 +73,21 @@ matches_itself pattern subject bare is =
     sym (whole_text pattern)
     ∙ ap (join_with_byte 46) (same_tokens (tokens_of pattern) (tokens_of subject) (bare_tokens pattern bare) is)
     ∙ whole_text subject
+
+-- ---- its own text
+
+or_true : (a : Bool) → (a || true) ≡ true
+or_true true = refl
+or_true false = refl
+
+own_tokens : (tokens : List (List ℕ)) → tokens_match tokens tokens ≡ true
+own_tokens [] = refl
+own_tokens (token ∷ tokens) =
+    ap (λ c. takes_rest token tokens || ((bytes_eq token (codes "*") || c) && tokens_match tokens tokens)) ((bytes_eq-Decides token token).1 refl)
+    ∙ ap (λ c. takes_rest token tokens || (c && tokens_match tokens tokens)) (or_true (bytes_eq token (codes "*")))
+    ∙ ap (λ c. takes_rest token tokens || c) (own_tokens tokens)
+    ∙ or_true (takes_rest token tokens)
+
+-- a text matches itself
+pub same_matches : (pattern subject : List ℕ) → bytes_eq pattern subject ≡ true → matches pattern subject ≡ true
+same_matches pattern subject is = ap (λ text. matches text subject) (equal_bytes pattern subject is) ∙ own_tokens (tokens_of subject)

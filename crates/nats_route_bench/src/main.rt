@@ -25,39 +25,16 @@ const FAILED: u8 = 1;
 /// The words are no command.
 const UNKNOWN: u8 = 2;
 
-/// What the words of the command line ask for.
-#[derive(Clone, Copy)]
-enum Asked {
-    Publish {
-        timed: bool,
-        interests: u64,
-        matching: u64,
-        count: u64,
-    },
-    Line {
-        len: u64,
-        piece: usize,
-    },
-}
-
-fn number(word: &String) -> Option<u64> {
-    word.as_str().parse::<u64>().ok()
-}
-
-fn asked_of(words: &[String]) -> Option<Asked> {
-    match words {
-        [word, interests, matching, count] => Some(Asked::Publish {
-            timed: word.as_str() == "time",
-            interests: number(interests)?,
-            matching: number(matching)?,
-            count: number(count)?,
-        }),
-        [_, len, piece] => Some(Asked::Line {
-            len: number(len)?,
-            piece: number(piece)? as usize,
-        }),
-        _ => None,
+/// The numbers behind the first word, `None` where one is none.
+fn numbers_of(alloc: Global, words: &[String]) -> Result<Option<Vec<u64>>> {
+    let mut numbers = Vec::new(alloc);
+    for word in words {
+        match word.as_str().parse::<u64>() {
+            Ok(number) => numbers.push(number)?,
+            Err(_) => return Ok(None),
+        }
     }
+    Ok(Some(numbers))
 }
 
 /// Feeds a peer and does its commands; `false` where it is not up.
@@ -133,33 +110,45 @@ fn write_line(alloc: Global, len: u64, piece: &[u8]) -> Result<()> {
     Ok(())
 }
 
+/// Prints how many bytes the peers of a broker were told, and where it is `timed` how long that took.
+fn print_published<R: Clock + Print + AllocGlobal>(
+    rt: &R,
+    timed: bool,
+    interests: u64,
+    matching: u64,
+    count: u64,
+) -> Result<()> {
+    let mut broker = broker_with(rt.alloc(), interests, matching)?;
+    let start = Instant::now(rt)?;
+    let told = publish(rt.alloc(), &mut broker, count)?;
+    let elapsed = start.elapsed(rt)?.as_millis();
+    if timed {
+        println!(rt; "{told} bytes in {elapsed} ms")?;
+    } else {
+        println!(rt; "{told} bytes")?;
+    }
+    Ok(())
+}
+
+/// Does what the words ask for; `false` where they are no command.
 fn measure<R: Clock + Env + Print + AllocGlobal>(rt: &R) -> Result<bool> {
     let words: Vec<String> = env::args(rt)?.skip(1).collect(rt.alloc())?;
-    match asked_of(words.as_slice()) {
-        Some(
-            Asked::Publish {
-                timed,
-                interests,
-                matching,
-                count,
-            },
-        ) => {
-            let mut broker = broker_with(rt.alloc(), interests, matching)?;
-            let start = Instant::now(rt)?;
-            let told = publish(rt.alloc(), &mut broker, count)?;
-            let elapsed = start.elapsed(rt)?.as_millis();
-            if timed {
-                println!(rt; "{told} bytes in {elapsed} ms")?;
-            } else {
-                println!(rt; "{told} bytes")?;
-            }
+    let [word, rest @ ..] = words.as_slice() else {
+        return Ok(false);
+    };
+    let Some(numbers) = numbers_of(rt.alloc(), rest)? else {
+        return Ok(false);
+    };
+    match numbers.as_slice() {
+        [interests, matching, count] => {
+            print_published(rt, word.as_str() == "time", *interests, *matching, *count)?;
         }
-        Some(Asked::Line { len, piece }) => {
+        [len, piece] => {
             let start = Instant::now(rt)?;
-            write_line(rt.alloc(), len, &PIECE[..piece.min(PIECE.len())])?;
+            write_line(rt.alloc(), *len, &PIECE[..PIECE.len().min(*piece as usize)])?;
             println!(rt; "{} ms", start.elapsed(rt)?.as_millis())?;
         }
-        None => return Ok(false),
+        _ => return Ok(false),
     }
     Ok(true)
 }
