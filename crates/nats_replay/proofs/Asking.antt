@@ -2,7 +2,8 @@
 use Rattle.std.proofs.Common.{◌≡◌, ◌≢◌, inl, inr, refl, ◌∙◌, sym, ap, subst, ℕ, List, [], ◌∷◌, length, Option, None, Some, Ok, Err, arith}
 use Rattle.std.proofs.lemmas.Option.{none-some, same_Some}
 use Rattle.std.specs.Io.KnownBytes.{Appends}
-use Rattle.nats_seat_text.specs.Asked.{seats_asked}
+use Rattle.nats_worker_text.specs.declared.asked.Crew.{Crew}
+use Rattle.nats_worker_text.specs.Asked.{crew_asked}
 use Rattle.nats_replay.specs.declared.top.Refusal.{Refusal}
 use Rattle.nats_replay.specs.declared.top.Refusal.TheVariants.{ReadFault, NoMemory, TooLong}
 use Rattle.nats_replay.specs.declared.top.Output.{Output}
@@ -40,17 +41,17 @@ not_receives words addr subject n other is =
     let no : others ≡ receives addr subject n = sym other ∙ is in cc
 
 -- the same of words that ask for workers
-pub seats_alone : (words : List (List ℕ)) (asked : ℕ × ℕ) → Some asked ≡ seats_asked words → Alone words
-seats_alone [] asked is = absurd (none-some asked (sym is))
-seats_alone (w ∷ []) asked is = absurd (none-some asked (sym is))
-seats_alone (w ∷ v ∷ []) asked is = absurd (none-some asked (sym is))
-seats_alone (w ∷ v ∷ u ∷ []) asked is = (three_not_run w v u, refl, refl)
-seats_alone (w ∷ v ∷ u ∷ t ∷ words) asked is = absurd (none-some asked (sym is))
+pub crew_alone : (words : List (List ℕ)) (crew : Crew) → Some crew ≡ crew_asked words → Alone words
+crew_alone [] crew is = absurd (none-some crew (sym is))
+crew_alone (w ∷ []) crew is = absurd (none-some crew (sym is))
+crew_alone (w ∷ v ∷ []) crew is = absurd (none-some crew (sym is))
+crew_alone (w ∷ v ∷ u ∷ []) crew is = (three_not_run w v u, refl, refl)
+crew_alone (w ∷ v ∷ u ∷ t ∷ words) crew is = absurd (none-some crew (sym is))
 
--- what holds of the numbers that the words ask for holds of them by any name
-pub seats_answered : (Is : ℕ × ℕ → Type 0) (words : List (List ℕ)) (asked : ℕ × ℕ) → Some asked ≡ seats_asked words → Is asked
-    → (workers count : ℕ) → seats_asked words ≡ Some (workers, count) → Is (workers, count)
-seats_answered Is words asked exact is workers count asks = subst Is (same_Some asked (workers, count) (exact ∙ asks)) is
+-- what holds of the workers that the words ask for holds of them by any name
+pub crew_answered : (Is : Crew → Type 0) (words : List (List ℕ)) (crew : Crew) → Some crew ≡ crew_asked words → Is crew
+    → (other : Crew) → crew_asked words ≡ Some other → Is other
+crew_answered Is words crew exact is other asks = subst Is (same_Some crew other (exact ∙ asks)) is
 
 -- ---- what is answered
 

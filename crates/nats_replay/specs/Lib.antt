@@ -5,6 +5,6 @@ pub mod Memory
 pub mod Outside
 pub mod Played
 pub mod Scripts
-pub mod Seats
 pub mod Whole
 pub mod Words
+pub mod Workers

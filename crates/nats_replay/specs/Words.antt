@@ -16,7 +16,7 @@ use Rattle.nats_spelling.specs.Spelling.{field_number}
 use Rattle.nats_bulk.specs.Generated.{bulk_config, generated}
 use Rattle.nats_bulk.specs.Summary.{summary}
 use Rattle.nats_replay.specs.declared.whole.TheConstants.{SCRIPT_LIMIT}
-use Rattle.nats_seat_text.specs.Asked.{seats_asked}
+use Rattle.nats_worker_text.specs.Asked.{crew_asked}
 use Rattle.nats_replay.specs.Asked.{asked_by}
 use Rattle.nats_replay.specs.Live.{live_of, others}
 
@@ -40,7 +40,7 @@ bulk_count words = None
 -- the words are no command
 abbrev pub IsUnknown : List (List ℕ) → Type 0
 IsUnknown words =
-    (words ≢ run_words) × (asked_by words ≡ None) × (seats_asked words ≡ None) × (bulk_count words ≡ None)
+    (words ≢ run_words) × (asked_by words ≡ None) × (crew_asked words ≡ None) × (bulk_count words ≡ None)
     × (live_of words ≡ others)
 
 -- the words ask for a command on a live link

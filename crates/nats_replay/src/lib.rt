@@ -6,9 +6,9 @@ mod asked;
 mod live;
 mod memory;
 mod outside;
-mod seats;
 mod top;
 mod whole;
+mod workers;
 
 pub use asked::{Asked, PATIENCE_LIMIT, TRIES_LIMIT};
 pub use live::RECEIVE_LIMIT;

@@ -21,21 +21,22 @@ ghost use Rattle.nats_replay.specs.Words.{run_words, in_bulk, bulk_count, IsLive
 ghost use Rattle.nats_replay.specs.declared.asked.Asked.{Asked};
 ghost use Rattle.nats_replay.specs.Asked.{asked_by};
 ghost use Rattle.nats_replay.specs.Scripts.{AskedAnswers};
-ghost use Rattle.nats_replay.specs.Seats.{SeatsAnswers};
-ghost use Rattle.nats_seat_text.specs.Asked.{seats_asked};
+ghost use Rattle.nats_replay.specs.Workers.{CrewAnswers};
+ghost use Rattle.nats_worker_text.specs.declared.asked.Crew.{Crew};
+ghost use Rattle.nats_worker_text.specs.Asked.{crew_asked};
 ghost use Rattle.nats_replay.specs.Played.{Comes, Played, status_of_ending, status_of};
 
 use crate::asked::{answer_asked, asked_of};
 use crate::live::answer_live;
 use crate::outside::{Sink, Source};
-use crate::seats::answer_seats;
 use crate::whole::{ReadRefusal, SCRIPT_LIMIT, read_all, write_all};
+use crate::workers::answer_crew;
 use nats_bulk::{bulk_config, bulk_turns, in_turn, summary};
 use nats_live::World;
 use nats_names::NoMemory;
 use nats_script::{Script, field_number, print_transcript, push_number, read_script};
-use nats_seat_text::seats_of;
 use nats_session::{Config, RunError, Seq, Turn, run};
+use nats_worker_text::crew_of;
 use std::alloc::Global;
 use std::sync::Wait;
 use std::thread::Threads;
@@ -333,9 +334,10 @@ fn answer_others<R: Wait, K: Sink, W: World>(
 /// its transcript comes to in eight lines; where they are `seats N K`, N from 1 to 64 and K from 1 to 10,000 in decimal,
 /// it lets N workers publish K times each at one session, all at once and each with a seat of its own, and prints how
 /// many calls were accepted, how many bytes the link takes, and how many publishes of each worker were accepted; where
-/// they are `pub ADDR SUBJECT PAYLOAD` it connects to the server
-/// of that address, publishes that, and prints `published` once the link took all of it; where they are `sub
-/// ADDR SUBJECT N`, N in the same range, it connects, subscribes, takes N messages and prints each. These two
+/// they are `threads N K`, in the same ranges, it does so with a client of its own for each worker, and prints how many
+/// calls were accepted, and how many bytes the link takes; where they are `pub ADDR SUBJECT PAYLOAD` it connects to the
+/// server of that address, publishes that, and prints `published` once the link took all of it; where they are `sub
+/// ADDR SUBJECT N`, N from 1 to 1,000,000, it connects, subscribes, takes N messages and prints each. These two
 /// use the world, others leave it alone, and may wait. It answers the status to exit with: 0, what was asked
 /// for is printed; 2, other words, which are called unknown; 3, the source failed; 4, the sink failed; 5, a
 /// line of the script cannot be read, and `script line k` says which is the first; 6, a turn of the script may
@@ -365,9 +367,9 @@ pub fn replay<R: Threads + Wait + Sync, S: Source, K: Sink, W: World>(
         (record { given = S.given source.old; ends = S.ends source.old; faults = S.faults source.old })
         (record { given = S.given source.new; ends = S.ends source.new; faults = S.faults source.new }) result
         (K.faults sink.old) (K.faults sink.new) (K.written sink.old) (K.written sink.new) }
-    // `seats N K`: what the closed journal of the workers tells, by each status.
-    ensures seats { (workers count : _) → seats_asked (map string_bytes words.now) ≡ Some (workers, count) →
-        IsTrue (is_status_of_bulk result) × SeatsAnswers workers count result
+    // `seats N K`, and `threads N K`: what the journal of the workers' session tells, by each status.
+    ensures workers { (crew : Crew) → crew_asked (map string_bytes words.now) ≡ Some crew →
+        IsTrue (is_status_of_bulk result) × CrewAnswers crew result
         (K.faults sink.old) (K.faults sink.new) (K.written sink.old) (K.written sink.new) }
     // 0 to `bulk N`: what was written sums up the transcript of the generated turns, which may come where they stand.
     ensures summary { (n : _) → bulk_count (map string_bytes words.now) ≡ Some n → result ≡ 0 →
@@ -456,8 +458,8 @@ pub fn replay<R: Threads + Wait + Sync, S: Source, K: Sink, W: World>(
     if let Some(asked) = asked_of(words) {
         return answer_asked(alloc, asked, source, sink);
     }
-    if let Some(asked) = seats_of(words) {
-        return answer_seats(rt, alloc, asked, sink);
+    if let Some(crew) = crew_of(words) {
+        return answer_crew(rt, alloc, crew, sink);
     }
     if !are_run(words) {
         return answer_others(rt, alloc, words, sink, world);

@@ -1,5 +1,3 @@
-mod Behind
-mod Counts
 mod Lines
 mod Right
 mod Total

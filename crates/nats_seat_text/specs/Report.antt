@@ -1,24 +1,16 @@
 -- What is printed of the closed journal of a session at which workers published.
-use Rattle.std.specs.Prelude.{◌≡◌, ℕ, zero, suc, ◌*◌, ◌-◌, ◌^◌, Bool, false, List, [], ◌∷◌, ◌++◌, length, count_by, Option, Some, None, if◌then◌else◌, codes, decimal}
+use Rattle.std.specs.Prelude.{◌≡◌, ℕ, zero, suc, ◌*◌, Bool, false, List, [], ◌++◌, count_by, codes, decimal}
 use Rattle.nats_history.specs.declared.config.Config.{Config}
 use Rattle.nats_history.specs.declared.turn.Turn.{Turn}
-use Rattle.nats_history.specs.declared.turn.Turn.TheVariants.{Write}
-use Rattle.nats_history.specs.declared.transcript.LinkRow.{LinkRow}
-use Rattle.nats_history.specs.History.{is_up}
-use Rattle.nats_history.specs.Schedule.{out_of_turn, steps}
-use Rattle.nats_history.specs.Transcripts.{transcript}
 use Rattle.nats_core.specs.declared.entry.StepReply.{StepReply}
 use Rattle.nats_core.specs.declared.entry.StepReply.TheVariants as replies
 use Rattle.nats_core.specs.Journal.{turns_of}
-use Rattle.nats_bulk.specs.Generated.{bulk_config}
 use Rattle.nats_bulk.specs.Summary.{is_accepted, line}
 use Rattle.nats_desk.specs.declared.entry.SeatEntry.{SeatEntry}
 use Rattle.nats_desk.specs.Journal.{IsRightBySeat, plain}
 use Rattle.nats_seat_workers.specs.Publishing.{EachAccepted, EachPublished, HasNoOthers, accepted_by}
-
--- the settings: those of a long list of turns, but so many calls may wait
-abbrev pub seats_config : ℕ → Config
-seats_config calls = record bulk_config { client_capacity = calls }
+use Rattle.nats_worker_text.specs.Settings.{workers_config}
+use Rattle.nats_worker_text.specs.Taken.{bytes_taken, written_out}
 
 -- ---- accepted calls
 
@@ -34,37 +26,11 @@ was_accepted e = accepts e.reply
 abbrev pub accepted_in : List SeatEntry → ℕ
 accepted_in journal = count_by was_accepted journal
 
--- ---- what the link takes
+-- ---- its turns
 
 -- the turns of a journal, in order
 abbrev pub turns_in : List SeatEntry → List Turn
 turns_in journal = turns_of (plain journal)
-
--- the link takes all that waits
-abbrev pub whole_write : Turn
-whole_write = Write (2 ^ 64 - 1)
-
--- it does so this often
-abbrev pub writes : ℕ → List Turn
-writes zero = []
-writes (suc n) = writes n ++ whole_write ∷ []
-
--- turns, and so many such writes behind them where a link is up there
-abbrev pub written_out : Config → ℕ → List Turn → List Turn
-written_out c n turns = if is_up (steps c turns) then turns ++ writes n else turns
-
--- how many bytes link 1 took, 0 where there is none
-abbrev pub first_taken : List LinkRow → ℕ
-first_taken [] = 0
-first_taken (row ∷ rows) = length row.taken
-
-abbrev pub taken_by : Option ℕ → List LinkRow → ℕ
-taken_by None links = first_taken links
-taken_by (Some place) links = 0
-
--- how many bytes link 1 takes as these turns are played, 0 where one of them may not come where it stands
-abbrev pub bytes_taken : Config → List Turn → ℕ
-bytes_taken c turns = taken_by (out_of_turn c turns) (transcript c turns).links
 
 -- ---- the text
 
@@ -86,7 +52,7 @@ text_length c n journal = bytes_taken c (written_out c n (turns_in journal))
 abbrev pub report : ℕ → ℕ → List SeatEntry → List ℕ
 report workers calls journal =
     (line (codes "accepted") (accepted_in journal)
-    ++ line (codes "text") (text_length (seats_config calls) calls journal))
+    ++ line (codes "text") (text_length (workers_config calls) calls journal))
     ++ worker_lines workers journal
 
 -- the text tells of the closed journal of a session at which so many workers made k publishes each, all of which were
@@ -94,5 +60,5 @@ report workers calls journal =
 abbrev pub TellsOfWorkers : ℕ → ℕ → List ℕ → Type 0
 TellsOfWorkers workers k text = (journal : List SeatEntry)
     × EachPublished workers k journal × EachAccepted workers k journal × HasNoOthers workers journal
-    × (accepted_in journal ≡ workers * k) × IsRightBySeat (seats_config (workers * k)) journal
+    × (accepted_in journal ≡ workers * k) × IsRightBySeat (workers_config (workers * k)) journal
     × (text ≡ report workers (workers * k) journal)

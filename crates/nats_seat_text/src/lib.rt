@@ -3,10 +3,8 @@
 //! 1, and so are links.
 #![tactic(auto)]
 
-mod asked;
 mod output;
 mod taken;
 
-pub use asked::{MOST_PUBLISHES, MOST_WORKERS, seats_of};
 pub use nats_seat_workers::WorkError;
 pub use output::seats_output;

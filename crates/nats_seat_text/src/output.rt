@@ -2,26 +2,18 @@
 ghost use Rattle.std.specs.Prelude.{◌≡◌, ◌+◌, ◌*◌, ◌^◌, ◌<◌, ◌++◌, count_by, IfOk, OnOk, None, string_bytes};
 ghost use Rattle.nats_history.specs.Schedule.{out_of_turn};
 ghost use Rattle.nats_bulk.specs.Summary as sums;
-ghost use Rattle.nats_seat_text.specs.Asked.{IsAsked};
 ghost use Rattle.nats_seat_text.specs.Report as words;
+ghost use Rattle.nats_worker_text.specs.Asked.{IsAsked};
+ghost use Rattle.nats_worker_text.specs.Settings.{workers_config};
 
 use crate::taken::text_length;
-use nats_bulk::bulk_config;
-use nats_core::{CallReply, Config, NoMemory, StepReply};
+use nats_core::{CallReply, NoMemory, StepReply};
 use nats_desk::SeatEntry;
 use nats_seat_workers::{WorkError, accepted_by, publish_by_seats};
+use nats_worker_text::{push_line, workers_config};
 use std::alloc::Global;
 use std::sync::Wait;
 use std::thread::Threads;
-
-/// The settings of `bulk_config`, but so many calls may wait.
-fn seats_config(alloc: Global, calls: u64) -> Result<Config, NoMemory>
-    ensures { IfOk result (λ config. config ≡ words.seats_config calls) }
-{
-    let mut config = bulk_config(alloc)?;
-    config.client_capacity = calls;
-    Ok(config)
-}
 
 fn is_accepted(reply: &CallReply) -> bool
     ensures { result ≡ sums.is_accepted reply.now }
@@ -49,14 +41,6 @@ fn accepted_in(journal: &[SeatEntry]) -> u64
         }
     }
     count
-}
-
-fn push_line(alloc: Global, out: &mut String, word: &str, n: u64) -> Result<(), NoMemory>
-    ensures { OnOk result (string_bytes out.new ≡ string_bytes out.old ++ sums.line word.now n) }
-{
-    let line = format!(in alloc; "{word} {n}\n")?;
-    out.push_str(line.as_str())?;
-    Ok(())
 }
 
 fn push_worker(alloc: Global, out: &mut String, worker: u64, n: u64) -> Result<(), NoMemory>
@@ -89,12 +73,12 @@ fn report(
 ) -> Result<String, NoMemory>
     requires few { workers + 1 < 2 ^ 64 }
     requires some { 0 < calls }
-    requires valid { out_of_turn (words.seats_config calls) (words.turns_in journal.items) ≡ None }
+    requires valid { out_of_turn (workers_config calls) (words.turns_in journal.items) ≡ None }
     ensures { IfOk result (λ text. string_bytes text ≡ words.report workers calls journal.items) }
 {
     let accepted = accepted_in(journal.as_slice());
     let lines = worker_lines(alloc, workers, journal.as_slice())?;
-    let config = seats_config(alloc, calls)?;
+    let config = workers_config(alloc, calls)?;
     let taken = text_length(alloc, config, journal, calls)?;
     let mut out = String::new(alloc);
     push_line(alloc, &mut out, "accepted", accepted)?;
@@ -123,7 +107,7 @@ pub fn seats_output<R: Threads + Wait + Sync>(
     ensures { IfOk result (λ text. words.TellsOfWorkers workers count text.items) }
 {
     let calls = workers * count;
-    let config = seats_config(alloc, calls)?;
+    let config = workers_config(alloc, calls)?;
     let journal = publish_by_seats(rt, alloc, config, workers, count)?;
     let text = report(alloc, workers, calls, journal)?;
     Ok(text.into_bytes())

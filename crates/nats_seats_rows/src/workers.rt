@@ -1,9 +1,11 @@
 //! Workers, and what is printed of them.
 
 use anyhow::{Result, anyhow};
-use nats_seat_text::{seats_of, seats_output};
+use nats_seat_text::seats_output;
 use nats_seat_workers::{WorkError, accepted_by, publish_by_seats};
 use nats_seats::{Config, NoMemory, SeatEntry};
+use nats_thread_text::threads_output;
+use nats_worker_text::{Crew, crew_of};
 use std::alloc::{AllocError, Global};
 use std::str;
 use std::sync::Wait;
@@ -52,6 +54,12 @@ fn words_of(alloc: Global, texts: &[&str]) -> Result<Vec<String>, AllocError> {
     Ok(words)
 }
 
+/// Prints a text.
+fn show<R: Print>(rt: &R, text: &[u8]) -> Result<()> {
+    print!(rt; "{}", str::from_utf8(text).unwrap_or("(bytes)"))?;
+    Ok(())
+}
+
 /// Prints what these words ask for, and what is printed of that.
 fn play_words<R: Threads + Wait + Print + Sync>(
     rt: &R,
@@ -59,18 +67,25 @@ fn play_words<R: Threads + Wait + Print + Sync>(
     texts: &[&str],
 ) -> Result<()> {
     let words = words_of(alloc, texts)?;
-    match seats_of(words.as_slice()) {
-        Some((workers, count)) => {
-            let text = seats_output(rt, alloc, workers, count)?;
-            print!(rt; "{}", str::from_utf8(text.as_slice()).unwrap_or("(bytes)"))?;
+    match crew_of(words.as_slice()) {
+        Some(Crew::Seats { workers, count }) => {
+            show(rt, seats_output(rt, alloc, workers, count)?.as_slice())
         }
-        None => println!(rt; "no workers are asked for")?,
+        Some(Crew::Threads { workers, count }) => match threads_output(rt, alloc, workers, count) {
+            Ok(text) => show(rt, text.as_slice()),
+            Err(_) => Err(anyhow!("no memory")),
+        },
+        None => {
+            println!(rt; "no workers are asked for")?;
+            Ok(())
+        }
     }
-    Ok(())
 }
 
 /// Prints what words that ask for workers, and words that do not, come to.
 pub(crate) fn play_text<R: Threads + Wait + Print + Sync>(rt: &R, alloc: Global) -> Result<()> {
     play_words(rt, alloc, &["seats", "2", "3"])?;
-    play_words(rt, alloc, &["seats", "0", "1"])
+    play_words(rt, alloc, &["seats", "0", "1"])?;
+    play_words(rt, alloc, &["threads", "2", "3"])?;
+    play_words(rt, alloc, &["threads", "2", "10001"])
 }

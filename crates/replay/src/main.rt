@@ -24,6 +24,7 @@ usage: replay run < SCRIPT
        replay rpc TRIES PATIENCE < SCRIPT
        replay bulk N
        replay seats N K
+       replay threads N K
        replay pub ADDR SUBJECT PAYLOAD
        replay sub ADDR SUBJECT N
        replay --help | -h | help | --version
@@ -33,6 +34,7 @@ route plays a script of a broker in memory, and prints what its peers were told.
 rpc plays a script of requests that are tried again: TRIES, 1 to 100, times each, PATIENCE milliseconds each.
 bulk plays N turns that are made by a rule, 1 to 1,000,000, and prints what they came to.
 seats lets N workers, 1 to 64, publish K times each, 1 to 10,000, and prints what their journal tells.
+threads does so with a client of its own for each worker, and prints what their hub came to.
 pub connects to a server and publishes a message, and prints published once it was written.
 sub connects to a server, receives N messages, 1 to 1,000,000, and prints a line for each.
 An address is as nats://127.0.0.1:4222, or a host alone.

@@ -19,8 +19,8 @@ const TOO_LONG: u8 = 8;
 
 /// What the words should have been.
 const USAGE: &str = "\
-the commands are `run`, `route`, `rpc TRIES PATIENCE`, `bulk N`, `seats N K`, `pub ADDR SUBJECT PAYLOAD` and \
-`sub ADDR SUBJECT N`; see `replay --help`";
+the commands are `run`, `route`, `rpc TRIES PATIENCE`, `bulk N`, `seats N K`, `threads N K`, \
+`pub ADDR SUBJECT PAYLOAD` and `sub ADDR SUBJECT N`; see `replay --help`";
 
 /// What is known of a run that ended: its status and words, the bytes of the script where they were kept, and whom
 /// it asked of the system.

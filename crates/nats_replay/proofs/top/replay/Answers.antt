@@ -2,10 +2,10 @@
 use Rattle.std.proofs.Common.{map, IsTrue}
 use Rattle.std.specs.String.{string_bytes}
 use Rattle.nats_replay.proofs.Lived.{live_status, not_published_by, not_received_by, pub_answers, pub_cut_by, pub_live, published_by, received_by, sub_answers, sub_cut_by, sub_live}
-use Rattle.nats_replay.proofs.Asking.{seats_answered}
+use Rattle.nats_replay.proofs.Asking.{crew_answered}
 use Rattle.nats_replay.proofs.Outcomes.{completes}
-use Rattle.nats_replay.specs.Seats.{SeatsAnswers}
 use Rattle.nats_replay.specs.Words.{is_status_of_bulk}
+use Rattle.nats_replay.specs.Workers.{CrewAnswers}
 use Rattle.nats_replay.proofs.top.replay.Goals as goal
 
 pub returns-in-Ok-write_all-clause-complete : goal.returns-in-Ok-write_all-clause-complete
@@ -86,10 +86,10 @@ returns-then-not-are_run-clause-live g c = λ live.
     (g.K.Sink.written c.args.sink.now) (g.K.Sink.written c.answer_others.new.sink)
     (c.answer_others.ensures.live live)
 
-pub returns-in-Some-seats_of-clause-seats : goal.returns-in-Some-seats_of-clause-seats
-returns-in-Some-seats_of-clause-seats g c = let status = c.answer_seats.result in seats_answered
-    (λ asked. IsTrue (is_status_of_bulk status) × SeatsAnswers asked.0 asked.1 status
-    (g.K.Sink.faults c.args.sink.now) (g.K.Sink.faults c.answer_seats.new.sink)
-    (g.K.Sink.written c.args.sink.now) (g.K.Sink.written c.answer_seats.new.sink))
-    (map string_bytes c.args.words.now) c.in-Some-seats_of.asked c.in-Some-seats_of.ensures.exact
-    (c.answer_seats.ensures.status, c.answer_seats.ensures.answers)
+pub returns-in-Some-crew_of-clause-workers : goal.returns-in-Some-crew_of-clause-workers
+returns-in-Some-crew_of-clause-workers g c = let status = c.answer_crew.result in crew_answered
+    (λ crew. IsTrue (is_status_of_bulk status) × CrewAnswers crew status
+    (g.K.Sink.faults c.args.sink.now) (g.K.Sink.faults c.answer_crew.new.sink)
+    (g.K.Sink.written c.args.sink.now) (g.K.Sink.written c.answer_crew.new.sink))
+    (map string_bytes c.args.words.now) c.in-Some-crew_of.crew c.in-Some-crew_of.ensures.exact
+    (c.answer_crew.ensures.status, c.answer_crew.ensures.answers)

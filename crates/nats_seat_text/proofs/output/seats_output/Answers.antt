@@ -1,14 +1,14 @@
 -- The journal is that of the workers, and it is right under their settings.
 use Rattle.std.proofs.Common.{◌*◌, ◌∙◌, ap, subst}
 use Rattle.nats_desk.specs.Journal.{IsRightBySeat}
-use Rattle.nats_seat_text.specs.Report.{seats_config}
+use Rattle.nats_worker_text.specs.Settings.{workers_config}
 use Rattle.nats_seat_text.proofs.Right.{all_come}
 use Rattle.nats_seat_text.proofs.Total.{all_accepted}
 use Rattle.nats_seat_text.proofs.output.seats_output.Goals as goal
 
 pub report-requires-clause-valid : goal.report-requires-clause-valid
 report-requires-clause-valid g c =
-    all_come (seats_config (c.args.workers * c.args.count)) c.in_ok-journal.journal.items
+    all_come (workers_config (c.args.workers * c.args.count)) c.in_ok-journal.journal.items
     (subst (λ k. IsRightBySeat k c.in_ok-journal.journal.items) c.in_ok-config.ensures c.in_ok-journal.ensures.right)
 
 pub returns : goal.returns
