@@ -22,8 +22,6 @@ const PIECE: [u8; 1024] = [b'x'; 1024];
 
 /// Nothing was measured.
 const FAILED: u8 = 1;
-/// The words are no command.
-const UNKNOWN: u8 = 2;
 
 /// The numbers behind the first word, `None` where one is none.
 fn numbers_of(alloc: Global, words: &[String]) -> Result<Option<Vec<u64>>> {
@@ -102,30 +100,8 @@ fn publish(alloc: Global, broker: &mut Broker, count: u64) -> Result<u64> {
 /// A peer writes a line in pieces.
 fn write_line(alloc: Global, len: u64, piece: &[u8]) -> Result<()> {
     let mut broker = broker_with(alloc, 0, 0)?;
-    let mut left = len;
-    while left > 0 {
+    for _ in 0..len.checked_div(piece.len() as u64).unwrap_or(0) {
         play(alloc, &mut broker, 1, piece)?;
-        left = left.saturating_sub((piece.len() as u64).max(1));
-    }
-    Ok(())
-}
-
-/// Prints how many bytes the peers of a broker were told, and where it is `timed` how long that took.
-fn print_published<R: Clock + Print + AllocGlobal>(
-    rt: &R,
-    timed: bool,
-    interests: u64,
-    matching: u64,
-    count: u64,
-) -> Result<()> {
-    let mut broker = broker_with(rt.alloc(), interests, matching)?;
-    let start = Instant::now(rt)?;
-    let told = publish(rt.alloc(), &mut broker, count)?;
-    let elapsed = start.elapsed(rt)?.as_millis();
-    if timed {
-        println!(rt; "{told} bytes in {elapsed} ms")?;
-    } else {
-        println!(rt; "{told} bytes")?;
     }
     Ok(())
 }
@@ -141,7 +117,13 @@ fn measure<R: Clock + Env + Print + AllocGlobal>(rt: &R) -> Result<bool> {
     };
     match numbers.as_slice() {
         [interests, matching, count] => {
-            print_published(rt, word.as_str() == "time", *interests, *matching, *count)?;
+            let mut broker = broker_with(rt.alloc(), *interests, *matching)?;
+            let start = Instant::now(rt)?;
+            let told = publish(rt.alloc(), &mut broker, *count)?;
+            match word.as_str() {
+                "time" => println!(rt; "{told} bytes in {} ms", start.elapsed(rt)?.as_millis())?,
+                _ => println!(rt; "{told} bytes")?,
+            }
         }
         [len, piece] => {
             let start = Instant::now(rt)?;
@@ -156,7 +138,7 @@ fn measure<R: Clock + Env + Print + AllocGlobal>(rt: &R) -> Result<bool> {
 fn main(rt: HostRuntime) -> ExitCode {
     match measure(&rt) {
         Ok(true) => ExitCode::SUCCESS,
-        Ok(false) => ExitCode::from(UNKNOWN),
+        Ok(false) => ExitCode::from(FAILED + 1),
         Err(failure) => {
             let _ = eprintln!(rt; "{failure:?}");
             ExitCode::from(FAILED)
