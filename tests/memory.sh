@@ -63,6 +63,7 @@ done
 each bulk /dev/null bulk 8
 each retry "$here/../examples/retry.script" rpc 2 100
 each seats /dev/null seats 2 3
+each threads /dev/null threads 2 3
 
 again=0
 "$twice" < /dev/null > "$folder/whole" || { echo "refused memory: a second try: status $?"; exit 1; }
