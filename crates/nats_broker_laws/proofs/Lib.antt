@@ -1,0 +1,4 @@
+mod Order
+mod Reading
+mod Steps
+mod Valid
