@@ -1,8 +1,10 @@
 //! Rows of clients and subscribers over a hub in memory: what each call hands to the session is shown by what then
-//! waits for the link, and what a hub came to by its audit. Two threads meet over one hub. The rows print the same
+//! waits for the link, and what a hub came to by its audit. Two threads meet over one hub. A client is seen by its traits,
+//! one at a time. The rows print the same
 //! whatever the schedule.
 #![tactic(auto)]
 
+mod asks;
 mod hand;
 mod held;
 mod meets;
@@ -20,5 +22,6 @@ fn main(rt: HostRuntime) -> Result<()> {
     takes::play_takes::<Brand, HostRuntime>(&rt, alloc, Blank::new(ALL_PARTS))?;
     held::play_held::<Brand, HostRuntime>(&rt, alloc, Blank::new(ALL_PARTS))?;
     meets::play_meets::<Brand, HostRuntime>(&rt, alloc, Blank::new(ALL_PARTS))?;
+    asks::play_asks::<Brand, HostRuntime>(&rt, alloc, Blank::new(ALL_PARTS))?;
     Ok(())
 }

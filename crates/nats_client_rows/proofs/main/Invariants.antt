@@ -24,3 +24,9 @@ ghosts-play_meets-G-Tallies g a = record { is_kept = true }
 
 abbrev pub ghosts-play_meets-G-Ledger : goal.ghosts-play_meets-G-Ledger
 ghosts-play_meets-G-Ledger g a = record { name = a.blank.name; parts = a.blank.parts }
+
+abbrev pub ghosts-play_asks-G-Tallies : goal.ghosts-play_asks-G-Tallies
+ghosts-play_asks-G-Tallies g a = record { is_kept = true }
+
+abbrev pub ghosts-play_asks-G-Ledger : goal.ghosts-play_asks-G-Ledger
+ghosts-play_asks-G-Ledger g a = record { name = a.blank.name; parts = a.blank.parts }
