@@ -18,7 +18,7 @@ use Rattle.nats_refusals.specs.Errors.{RefusesRequest}
 use Rattle.nats_hub.specs.Asking.{Objects, Lacks}
 use Rattle.nats_client.specs.Calls.{requested}
 use Rattle.nats_client.specs.Views.{ClientView}
-use Rattle.nats_client.specs.Inboxes.{unheard, unanswered, IsDeaf, IsUnheard, IsUncounted, RefusesSent, RefusesAt, CountsSent, CountsAt, HoldsAt, Ends}
+use Rattle.nats_client.specs.Inboxes.{unheard, unanswered, IsDeaf, IsUnheard, Tests, RefusesSent, RefusesAt, CountsSent, CountsAt, HoldsAt, Ends}
 
 -- an error: its kind and its source
 abbrev E : Type 0
@@ -26,17 +26,12 @@ E = RequestErrorKind × Option Cause
 
 -- ---- the test
 
-pub tells_tested : (m : OutboundMessage) (r : Refusal) → Objects (Publish m) r → RefusesRequest (Publish m) (request_kind r) (source_of r)
-tells_tested m InvalidSubject objects = refl
-tells_tested m (TooLarge limit size) objects = objects
-tells_tested m refusal objects = absurd objects
+pub tells_tested : (call : Call) (r : Refusal) → Objects call r → Tests call (request_kind r) (source_of r)
+tells_tested call InvalidSubject objects = refl
+tells_tested call (TooLarge limit size) objects = objects
+tells_tested call refusal objects = absurd objects
 
-pub tested_uncounted : (call : Call) (r : Refusal) → Objects call r → IsUncounted (request_kind r)
-tested_uncounted call InvalidSubject objects = tt
-tested_uncounted call (TooLarge limit size) objects = tt
-tested_uncounted call refusal objects = absurd objects
-
-pub ruleset tested_rules = (tells_tested, tested_uncounted)
+pub ruleset tested_rules = (tells_tested)
 
 -- ---- the subscription
 
@@ -114,40 +109,51 @@ not_late m refusal may is = absurd may
 
 pub ruleset answered_rules = (tells_sent, sent_counts, tells_unanswered, unanswered_counts, late_answer, not_late)
 
+-- ---- the end of the subscription
+
+pub ended_well : {A : Type 0} (answer result : Result A E) (old new : ClientView) → result ≡ answer
+    → new ≡ record old { parts = old.parts + 1; made = new.made } → old.made ≤ new.made → new.made ≤ old.made + 1 → Ends answer result old new
+ended_well answer result old new is closes least most = inl (is, (closes, least, most))
+
+pub ended_badly : {A : Type 0} (answer result : Result A E) (old new : ClientView) → result ≡ Err (kinds.NoMemory, None) → new ≡ old
+    → Ends answer result old new
+ended_badly answer result old new is same = inr (is, same)
+
+pub ruleset ended_rules = (ended_well, ended_badly)
+
 -- ---- what ended before a message was published
 
 -- the client is as it was
-pub early_holds : {A : Type 0} (e : E) (v : ClientView) → HoldsAt {A = A} (Err e) v v
-early_holds (kinds.NoMemory, s) v = (refl, omega arith, omega arith)
-early_holds (kinds.TimedOut, s) v = refl
-early_holds (kinds.NoResponders, s) v = refl
-early_holds (kinds.InvalidSubject, s) v = refl
-early_holds (kinds.MaxPayloadExceeded, s) v = refl
-early_holds (kinds.Other, s) v = refl
+pub early_holds : (A : Type 0) (e : E) (v : ClientView) → HoldsAt {A = A} (Err e) v v
+early_holds A (kinds.NoMemory, s) v = (refl, omega arith, omega arith)
+early_holds A (kinds.TimedOut, s) v = refl
+early_holds A (kinds.NoResponders, s) v = refl
+early_holds A (kinds.InvalidSubject, s) v = refl
+early_holds A (kinds.MaxPayloadExceeded, s) v = refl
+early_holds A (kinds.Other, s) v = refl
 
-pub tested_counts : {A : Type 0} (e : E) (n : ℕ) → IsUncounted e.0 → CountsAt {A = A} (Err e) n n
-tested_counts (kinds.InvalidSubject, s) n is = (omega arith, omega arith)
-tested_counts (kinds.MaxPayloadExceeded, s) n is = (omega arith, omega arith)
-tested_counts (kind, s) n is = absurd is
+pub tested_counts : (A : Type 0) (call : Call) (e : E) (n : ℕ) → Tests call e.0 e.1 → CountsAt {A = A} (Err e) n n
+tested_counts A call (kinds.InvalidSubject, s) n is = (omega arith, omega arith)
+tested_counts A call (kinds.MaxPayloadExceeded, s) n is = (omega arith, omega arith)
+tested_counts A call (kind, s) n is = absurd is
 
-pub tested_tells : (parts : ℕ) (subject payload : List ℕ) (reply : Option (List ℕ)) (headers : Option Headers) (e : E) → IsUncounted e.0
-    → RefusesRequest (Publish (record { subject = subject; reply = reply; payload = payload; headers = headers })) e.0 e.1
-    → RefusesAt parts (requested subject payload headers) e.0 e.1
-tested_tells parts s p r hs (kinds.InvalidSubject, source) is tells = tells
-tested_tells parts s p r hs (kinds.MaxPayloadExceeded, Some (cause.Payload limit size)) is tells = tells
-tested_tells parts s p r hs (kinds.MaxPayloadExceeded, source) is tells = absurd tells
-tested_tells parts s p r hs (kind, source) is tells = absurd is
+pub tested_tells : (parts : ℕ) (m : OutboundMessage) (e : E) → Tests (Publish m) e.0 e.1
+    → RefusesAt parts (requested m.subject m.payload m.headers) e.0 e.1
+tested_tells parts m (kinds.InvalidSubject, source) tells = tells
+tested_tells parts m (kinds.MaxPayloadExceeded, Some (cause.Payload limit size)) tells = tells
+tested_tells parts m (kinds.MaxPayloadExceeded, source) tells = absurd tells
+tested_tells parts m (kind, source) tells = absurd tells
 
-pub tested_in_time : (e : E) → IsUncounted e.0 → e.0 ≡ kinds.TimedOut → ⊥
-tested_in_time (kinds.InvalidSubject, s) is late = cc
-tested_in_time (kinds.MaxPayloadExceeded, s) is late = cc
-tested_in_time (kind, s) is late = absurd is
+pub tested_in_time : (call : Call) (e : E) → Tests call e.0 e.1 → e.0 ≡ kinds.TimedOut → ⊥
+tested_in_time call (kinds.InvalidSubject, s) is late = cc
+tested_in_time call (kinds.MaxPayloadExceeded, s) is late = cc
+tested_in_time call (kind, s) is late = absurd is
 
-pub deaf_counts : {A : Type 0} (parts : ℕ) (e : E) (n : ℕ) → IsUnheard parts e.0 e.1 → CountsAt {A = A} (Err e) n n
-deaf_counts parts (kinds.Other, Some cause.BrokenPipe) n is = absurd is
-deaf_counts parts (kinds.Other, source) n is = (omega arith, omega arith)
-deaf_counts parts (kinds.NoMemory, source) n is = (omega arith, omega arith)
-deaf_counts parts (kind, source) n is = absurd is
+pub deaf_counts : (A : Type 0) (parts : ℕ) (e : E) (n : ℕ) → IsUnheard parts e.0 e.1 → CountsAt {A = A} (Err e) n n
+deaf_counts A parts (kinds.Other, Some cause.BrokenPipe) n is = absurd is
+deaf_counts A parts (kinds.Other, source) n is = (omega arith, omega arith)
+deaf_counts A parts (kinds.NoMemory, source) n is = (omega arith, omega arith)
+deaf_counts A parts (kind, source) n is = absurd is
 
 pub deaf_tells : (parts : ℕ) (call : Call) (e : E) → IsUnheard parts e.0 e.1 → RefusesAt parts call e.0 e.1
 deaf_tells parts call (kinds.Other, Some cause.BrokenPipe) is = absurd is
@@ -159,6 +165,8 @@ pub deaf_in_time : (parts : ℕ) (e : E) → IsUnheard parts e.0 e.1 → e.0 ≡
 deaf_in_time parts (kinds.Other, source) is late = cc
 deaf_in_time parts (kinds.NoMemory, source) is late = cc
 deaf_in_time parts (kind, source) is late = absurd is
+
+pub ruleset inbox_rules = (early_holds, tested_counts, tested_tells, tested_in_time, deaf_counts, deaf_tells, deaf_in_time)
 
 -- ---- what came behind the subscription
 
@@ -190,7 +198,7 @@ holds (Err (kinds.Other, source)) old new p t s = alike new (record old { made =
 pub all_holds : {A : Type 0} (v0 v1 v2 v3 : ClientView) (answer result : Result A E) → 1 < v0.parts
     → v1 ≡ record v0 { parts = v0.parts - 1; made = v0.made + 1 } → v2 ≡ record v1 { made = v2.made } → Ends answer result v2 v3
     → HoldsAt result v0 v3
-all_holds v0 v1 v2 v3 answer result some p q (inl (is, closes, least, most)) =
+all_holds v0 v1 v2 v3 answer result some p q (inl (is, (closes, least, most))) =
     let parts : v3.parts ≡ v2.parts + 1 = ap (λ (v : ClientView). v.parts) closes in
     let before = sends_parts v0 v1 v2 p q in
     holds result v0 v3 (omega (arith, some, parts, before))
@@ -234,7 +242,7 @@ counts_behind (Err (kinds.MaxPayloadExceeded, s)) n a b c one counts least most 
 pub all_counts : {A : Type 0} (v0 v1 v2 v3 : ClientView) (answer result : Result A E)
     → v1 ≡ record v0 { parts = v0.parts - 1; made = v0.made + 1 } → CountsSent answer v1.made v2.made → Ends answer result v2 v3
     → CountsAt result v0.made v3.made
-all_counts v0 v1 v2 v3 answer result p counts (inl (is, closes, least, most)) =
+all_counts v0 v1 v2 v3 answer result p counts (inl (is, (closes, least, most))) =
     subst (λ r. CountsAt r v0.made v3.made) (sym is)
     (counts_behind answer v0.made v1.made v2.made v3.made (ap (λ (v : ClientView). v.made) p) counts least most)
 all_counts v0 v1 v2 v3 answer result p counts (inr (is, same)) =
@@ -261,7 +269,7 @@ pub all_tells : {A : Type 0} (parts : ℕ) (subject payload : List ℕ) (headers
     (v2 v3 : ClientView) (answer result : Result A E) → 1 < parts → m.payload ≡ payload → m.headers ≡ headers
     → IfErr answer (λ e. RefusesSent (Publish m) e.0 e.1) → Ends answer result v2 v3
     → IfErr result (λ e. RefusesAt parts (requested subject payload headers) e.0 e.1)
-all_tells parts s p hs m v2 v3 answer result some same also tells (inl (is, closes)) =
+all_tells {A = A} parts s p hs m v2 v3 answer result some same also tells (inl (is, closes)) =
     subst (λ r. IfErr r (λ e. RefusesAt parts (requested s p hs) e.0 e.1)) (sym is)
     (each answer tells)
   where

@@ -3,13 +3,15 @@
 use Rattle.std.specs.Prelude.{◌≡◌, ◌⊎◌, ℕ, ◌+◌, ◌≤◌, ◌<◌, List, [], Option, Some, None, Result, Ok, Err}
 use Rattle.nats_names.specs.declared.cause.Cause.{Cause}
 use Rattle.nats_names.specs.declared.cause.Cause.TheVariants as cause
+use Rattle.nats_message.specs.declared.message.OutboundMessage.{OutboundMessage}
 use Rattle.nats_history.specs.declared.call.Call.{Call}
+use Rattle.nats_history.specs.declared.call.Call.TheVariants.{Publish}
 use Rattle.nats_refusals.specs.declared.refusal.Refusal.{Refusal}
 use Rattle.nats_refusals.specs.declared.refusal.Refusal.TheVariants as refused
 use Rattle.nats_refusals.specs.declared.kinds.RequestErrorKind.{RequestErrorKind}
 use Rattle.nats_refusals.specs.declared.kinds.RequestErrorKind.TheVariants as request
 use Rattle.nats_refusals.specs.Kinds.{source_of, request_kind}
-use Rattle.nats_refusals.specs.Errors.{RefusesRequest}
+use Rattle.nats_refusals.specs.Errors.{IsTooLarge, RefusesRequest}
 use Rattle.nats_client.specs.Calls.{CountsRequest}
 use Rattle.nats_client.specs.Views.{ClientView}
 
@@ -34,6 +36,17 @@ unheard refusal = (request_kind refusal, source_of refusal)
 abbrev pub unanswered : Refusal → RequestErrorKind × Option Cause
 unanswered refused.Dropped = (request.Other, Some cause.BrokenPipe)
 unanswered refusal = (request_kind refusal, source_of refusal)
+
+-- the message that a call publishes
+abbrev pub message_in : Call → Option OutboundMessage
+message_in (Publish message) = Some message
+message_in call = None
+
+-- a message is refused for its own subject or its size, which is told before all
+abbrev pub Tests : Call → RequestErrorKind → Option Cause → Type 0
+Tests call request.InvalidSubject source = source ≡ Some cause.Format
+Tests call request.MaxPayloadExceeded source = IsTooLarge call source
+Tests call kind source = ⊥
 
 -- the sources of an inbox that was not subscribed to, by a client with so many parts
 abbrev pub IsDeaf : ℕ → Option Cause → Type 0
@@ -75,12 +88,6 @@ RefusesAsked None parts call kind source = RefusesRequest call kind source
 RefusesAsked (Some inbox) parts call kind source = RefusesAt parts call kind source
 
 -- ---- which calls count
-
--- nothing was accepted where this kind is told before all
-abbrev pub IsUncounted : RequestErrorKind → Type 0
-IsUncounted request.InvalidSubject = Unit {0}
-IsUncounted request.MaxPayloadExceeded = Unit {0}
-IsUncounted kind = ⊥
 
 abbrev pub counts_broken : Option Cause → ℕ
 counts_broken (Some cause.BrokenPipe) = 1

@@ -48,25 +48,42 @@ fn body(payload: Option<Bytes>) -> Bytes
     }
 }
 
+/// The message that a call publishes.
+fn message_in(call: Call) -> Option<OutboundMessage>
+    ensures { result ≡ words.message_in call }
+{
+    match call {
+        Call::Publish(message) => Some(message),
+        _other => None,
+    }
+}
+
 impl<G: Tallies> Client<G> {
-    /// Tests the subject and the size of a message, which comes back.
+    /// Tests the subject and the size of a call.
     #[tactic(auto, using(crate::proofs::Inboxes::tested_rules))]
+    fn test<R: Wait>(&self, rt: &R, call: &Call) -> Result<(), RequestError>
+        ensures refused { IfErr result (λ e. words.Tests call.now e.0 e.1) }
+    {
+        match self.hub().objection(rt, call) {
+            Some(refusal) => Err(request_error(refusal)),
+            None => Ok(()),
+        }
+    }
+
+    /// Tests the subject and the size of a message, which comes back.
     fn tested<R: Wait>(
         &self,
         rt: &R,
         message: OutboundMessage,
     ) -> Result<OutboundMessage, RequestError>
         ensures back { IfOk result (λ m. m ≡ message) }
-        ensures refused { IfErr result (λ e. RefusesRequest (calls.Publish message) e.0 e.1) }
-        ensures uncounted { IfErr result (λ e. words.IsUncounted e.0) }
+        ensures refused { IfErr result (λ e. words.Tests (calls.Publish message) e.0 e.1) }
     {
         let call = Call::Publish(message);
-        if let Some(refusal) = self.hub().objection(rt, &call) {
-            return Err(request_error(refusal));
-        }
-        match call {
-            Call::Publish(message) => Ok(message),
-            _ => unreachable!(),
+        self.test(rt, &call)?;
+        match message_in(call) {
+            Some(message) => Ok(message),
+            None => unreachable!(),
         }
     }
 
