@@ -51,7 +51,8 @@ fn answers<G: Tallies, R: Wait>(rt: &R, alloc: Global, hub: &Hub<G>, bytes: &'st
     let _ = hub.play(rt, alloc, Turn::Piece(Bytes::from_static(bytes)));
 }
 
-/// Makes a request at an inbox while the link gives these bytes, and prints what it comes to, and what waits for the link.
+/// Makes a request at an inbox while the link gives these bytes, and prints what it comes to, and what waits for the
+/// link.
 fn meets<G: Tallies + Send + Sync, R: Threads + Wait + Print + Sync>(
     rt: &R,
     alloc: Global,
