@@ -1,3 +1,4 @@
 mod Refusals
 mod Returned
 mod Rounding
+mod Defaults

@@ -1,2 +1,3 @@
 pub mod Pooling
 pub mod Refusing
+pub mod Defaults

@@ -14,6 +14,7 @@ mod servers;
 mod shared;
 mod stages;
 mod starter;
+pub mod usual;
 mod world;
 
 pub use bay::Bay;
