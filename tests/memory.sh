@@ -1,7 +1,8 @@
 #!/usr/bin/env bash
 # tests/memory.sh PROGRAM TWICE: runs commands of PROGRAM again and again, and refuses another allocation each time, from the first to the
 # last. Each run has to end with status 7 and to print nothing; or to print all that it does else, where what was refused only served words
-# on standard error. TWICE is a program that makes each call a second time where it wants memory, which has to print the same in each run.
+# on standard error. Two of the commands have a link to a server on the loopback. TWICE is a program that makes each call a second time where
+# it wants memory, which has to print the same in each run.
 # Says in its last line how many runs there were, or that this was skipped.
 set -u
 program=$(realpath "$1") || exit 1
@@ -64,6 +65,19 @@ each bulk /dev/null bulk 8
 each retry "$here/../examples/retry.script" rpc 2 100
 each seats /dev/null seats 2 3
 each threads /dev/null threads 2 3
+
+if command -v python3 > /dev/null; then
+    mkfifo "$folder/end"
+    python3 "$here/memory/server.py" < "$folder/end" > "$folder/port" &
+    exec 9> "$folder/end"
+    until [ -s "$folder/port" ]; do sleep 0.05; done
+    server=nats://127.0.0.1:$(cat "$folder/port")
+    each publish /dev/null pub "$server" a hi
+    each receive /dev/null sub "$server" a 1
+    exec 9>&-
+else
+    echo "refused memory: publish and receive skipped, since no python3 is installed"
+fi
 
 again=0
 "$twice" < /dev/null > "$folder/whole" || { echo "refused memory: a second try: status $?"; exit 1; }

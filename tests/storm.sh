@@ -1,10 +1,12 @@
 #!/usr/bin/env bash
-# storm.sh PROGRAM: the client of the command line beside a real server that is killed and started anew twenty times, where one is installed.
+# storm.sh PROGRAM AUDITED: the client of the command line beside a real server that is killed and started anew twenty times, where one is installed.
 # Five subscriptions, two of them with a limit, stand the whole time; numbered messages are published meanwhile, and requests are made. What
 # each subscription was given has to be in order with no number twice and, where it has a limit, no more than that; each publish and
-# request has to end with its answer or a refusal. Says in its last line what came of it, or that this was skipped.
+# request has to end with its answer or a refusal. Beside it AUDITED, a client that does all of this in one process and then holds what it
+# saw against the journal of its session, has to say that both agree. Says in its last line what came of it, or that this was skipped.
 set -u
 program=$(realpath "$1") || exit 1
+audited=$(realpath "$2") || exit 1
 if ! command -v nats-server > /dev/null; then
     echo "storm: skipped, since no nats-server is installed"
     exit 0
@@ -55,6 +57,10 @@ done
 timeout 120 "$program" reply storm.ask yes > "$folder/asked" 2> "$folder/told.6" &
 beside+=($!)
 await 6 'SUB storm' "$folder/log"
+timeout 120 "$audited" "$NATS_URL" 2000 > "$folder/audit" 2>&1 &
+auditor=$!
+beside+=("$auditor")
+await 6 'SUB audit' "$folder/log"
 
 # speak: publishes numbered messages and asks, until it is told to stop
 speak() {
@@ -100,5 +106,7 @@ refused=$(grep -c '^pub [^0]' "$folder/said")
 answered=$(grep -c '^request 0' "$folder/said")
 unanswered=$(grep -c '^request [^0]' "$folder/said")
 [ "$published" -gt 0 ] && [ "$answered" -gt 0 ] || fail "nothing went through"
+wait "$auditor"
+[ "$(tail -n 1 "$folder/audit")" = agrees ] || fail "what a client saw and its journal: $(tail -n 8 "$folder/audit")"
 echo "storm: a server was killed 20 times; $published publishes and $answered requests went through, $refused and $unanswered were refused; five" \
-    "subscriptions were given $given messages in order, none twice"
+    "subscriptions were given $given messages in order, none twice; a client's journal agrees with what it saw"

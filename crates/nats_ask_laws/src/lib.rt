@@ -60,8 +60,8 @@ pub fn turns_in_order()
     ensures { TurnsInOrder }
 {}
 
-/// Where each call that is handled was the oldest that waited, the request that is handled for a ticket is the call that
-/// the ticket was given to.
+/// Where each call that is handled was the oldest that waited, the request that is handled for a ticket is the call
+/// that the ticket was given to.
 pub fn handled_as_given()
     ensures { HandledAsGiven }
 {}

@@ -18,7 +18,8 @@ use Rattle.nats_client.specs.Views.{ClientView, client_of}
 plus_none : (before after : ℕ) → after ≡ before → after ≡ before + 0
 plus_none before after is = omega (arith, is)
 
-pub counts_request : (call : Call) (before after : ℕ) (r : Refusal) → MayFailAsk call r → CountsAsk {A = Message} (Err r) before after
+pub counts_request : (call : Call) (before after : ℕ) (r : Refusal) → MayFailAsk call r
+    → CountsAsk {A = Message} (Err r) before after
     → CountsRequest {A = Message} (Err (request_kind r, source_of r)) before after
 counts_request call before after InvalidSubject may is = is
 counts_request call before after InvalidQueueName may is = plus_none before after is
@@ -67,7 +68,8 @@ tells_requested s p hs t NoMemory may = tells_request s p hs t NoMemory may
 
 -- ---- flushes
 
-pub flush_counts_error : (r : Refusal) → counts_flush_error {A = Unit {0}} (Err (flush_kind r, source_of r)) ≡ counts_flush {A = Unit {0}} (Err r)
+pub flush_counts_error : (r : Refusal)
+    → counts_flush_error {A = Unit {0}} (Err (flush_kind r, source_of r)) ≡ counts_flush {A = Unit {0}} (Err r)
 flush_counts_error FlushFailed = refl
 flush_counts_error NoMemory = refl
 flush_counts_error refusal = refl

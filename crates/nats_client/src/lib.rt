@@ -5,12 +5,14 @@
 
 mod client;
 mod ending;
+mod inbox;
 mod poll;
 mod publish;
 mod reads;
 mod request;
 mod subscribe;
 mod subscriber;
+pub mod traits;
 
 pub use client::{Client, FinishError, REQUEST_TIMEOUT_MS};
 pub use nats_core::{

@@ -157,8 +157,8 @@ impl<G: Tallies> Client<G> {
         }
     }
 
-    /// Sends a request with headers as soon as there is room for it, and waits for the message by which it is replied, for
-    /// at most this client's `timeout` by `clock` from its acceptance on. The crate's `request_with_headers`.
+    /// Sends a request with headers as soon as there is room for it, and waits for the message by which it is replied,
+    /// for at most this client's `timeout` by `clock` from its acceptance on. The crate's `request_with_headers`.
     ///
     /// # Errors
     ///

@@ -3,11 +3,15 @@ ghost use Rattle.std.specs.Prelude.{◌≡◌, ◌+◌, ◌-◌, ◌^◌, ◌≤
 ghost use Rattle.nats_history.specs.declared.call.TakeReply.TheVariants as takes;
 ghost use Rattle.nats_outside.specs.Counts.{RoseBy};
 ghost use Rattle.nats_refusals.specs.Errors.{RefusesClosing};
+ghost use Rattle.nats_refusals.specs.declared.refusal.Refusal.TheVariants as refused;
+ghost use Rattle.nats_hub.specs.Asking.{Lacks};
+ghost use Rattle.nats_hub.specs.Late.{IsLate};
 ghost use Rattle.nats_client.specs.Calls.{takes_empty};
 
 use crate::Client;
 use nats_core::{Call, Message, NoMemory, StepError, StepReply, TakeReply, Turn};
 use nats_hub::{Holder, Tallies};
+use nats_outside::Clock;
 use nats_refusals::{Refusal, UnsubscribeError, closing_cause};
 use std::alloc::Global;
 use std::marker::Model;
@@ -111,6 +115,22 @@ impl<G: Tallies> Subscriber<G> {
             TakeReply::Message(message) => Ok(Some(message)),
             TakeReply::Empty | TakeReply::Ended => Ok(None),
         }
+    }
+
+    /// Waits for one message, for at most `timeout` milliseconds by `clock` from now on.
+    pub(crate) fn await_message<R: Wait, C: Clock>(
+        &self,
+        rt: &R,
+        alloc: Global,
+        timeout: Option<u64>,
+        clock: &mut C,
+    ) -> Result<Message, Refusal>
+        ensures lacks { IfErr result (λ r. Lacks r) }
+        ensures late { IfErr result (λ r. r ≡ refused.TimedOut
+            → IsLate timeout (C.clock_told clock.old) (C.clock_told clock.new)) }
+    {
+        let hub = self.holder.hub();
+        hub.await_message(rt, alloc, self.number, timeout, clock)
     }
 
     /// Makes a call on its subscription as soon as there is room for it.

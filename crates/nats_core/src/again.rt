@@ -48,8 +48,8 @@ fn take_again(reply: &TakeReply, message: Option<Message>) -> TakeReply
     }
 }
 
-/// The reply of a turn again, for a journal of one's own, with a copy of the message that was taken, if one was. It takes
-/// no memory: `message_for` took it before the turn was played. Own call.
+/// The reply of a turn again, for a journal of one's own, with a copy of the message that was taken, if one was. It
+/// takes no memory: `message_for` took it before the turn was played. Own call.
 pub fn reply_again(reply: &StepReply, message: Option<Message>) -> StepReply
     requires plain { IsPlainReply reply.now }
     requires message { message ≡ message_of reply.now }

@@ -44,7 +44,8 @@ pub enum ReadOnce {
     Played(u64),
     /// The link failed or ended, and its loss was played.
     Lost,
-    /// No link is up, or another one is, and nothing was read. `Core::read_link` never answers it: calls over a core do.
+    /// No link is up, or another one is, and nothing was read. `Core::read_link` never answers it: calls over a core
+    /// do.
     Gone,
 }
 
@@ -57,7 +58,7 @@ pub enum WriteOnce {
     Idle,
     /// The link failed, and its loss was played.
     Lost,
-    /// No link is up, or another one is, and nothing was written. `Core::write_link` never answers it: calls over a core
-    /// do.
+    /// No link is up, or another one is, and nothing was written. `Core::write_link` never answers it: calls over a
+    /// core do.
     Gone,
 }

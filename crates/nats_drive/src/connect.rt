@@ -139,11 +139,11 @@ where
 }
 
 /// Connects over a pool of servers, and goes on until the session is closed: a client of a new hub, and its hold of the
-/// pool, whose links a job drives that `starter` starts. In this order: one round of connecting over `world`, unless the
-/// first attempts are to be made in the background too; a hub, which plays that the link came up, and what came with it;
-/// the driver, which owns the world. Whether the journal is kept the options say, as `G` does. Times are milliseconds.
-/// The options of a pool are not read: the pool has its own. Own call, for pools of one's own: the crate has but one
-/// kind of pool.
+/// pool, whose links a job drives that `starter` starts. In this order: one round of connecting over `world`, unless
+/// the first attempts are to be made in the background too; a hub, which plays that the link came up, and what came
+/// with it; the driver, which owns the world. Whether the journal is kept the options say, as `G` does. Times are
+/// milliseconds. The options of a pool are not read: the pool has its own. Own call, for pools of one's own: the crate
+/// has but one kind of pool.
 ///
 /// # Errors
 ///

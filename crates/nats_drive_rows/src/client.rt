@@ -11,7 +11,7 @@ use std::sync::Wait;
 use std::sync::ledger::Blank;
 
 /// Takes a message, and puts its payload on a line.
-fn take<G: Tallies, R: Wait>(
+pub fn take<G: Tallies, R: Wait>(
     rt: &R,
     alloc: Global,
     subscriber: &mut Subscriber<G>,
@@ -46,7 +46,7 @@ fn work<G: Tallies, Q: ServerPool, R: Wait>(
 }
 
 /// Waits until the subscription ended, which is once the session is closed.
-fn wait_for_end<G: Tallies, R: Wait>(
+pub fn wait_for_end<G: Tallies, R: Wait>(
     rt: &R,
     alloc: Global,
     subscriber: &mut Subscriber<G>,
@@ -78,10 +78,9 @@ where
     requires kept { G.is_kept ≡ false }
 {
     let options = ConnectOptions::new();
-    let connected = connect_with_options::<G, R, P, W, String>(
+    match connect_with_options::<G, R, P, W, String>(
         rt, alloc, blank, starter, world, addr, options,
-    );
-    match connected {
+    ) {
         Ok(connected) => {
             let Connected {
                 mut client,

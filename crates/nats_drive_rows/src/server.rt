@@ -12,7 +12,7 @@ const INFO: &str = "INFO {\"max_payload\":100}\r\n";
 const MOST: usize = 4_096;
 
 /// Reads until what was heard ends in these bytes.
-fn hear<S: Read>(stream: &mut S, heard: &mut Vec<u8>, end: &[u8]) -> Result<()> {
+pub fn hear<S: Read>(stream: &mut S, heard: &mut Vec<u8>, end: &[u8]) -> Result<()> {
     'bytes: for _ in 0..MOST {
         if heard.as_slice().ends_with(end) {
             return Ok(());
@@ -27,7 +27,7 @@ fn hear<S: Read>(stream: &mut S, heard: &mut Vec<u8>, end: &[u8]) -> Result<()> 
 }
 
 /// Reads until the client is gone.
-fn hear_end<S: Read>(stream: &mut S) -> Result<()> {
+pub fn hear_end<S: Read>(stream: &mut S) -> Result<()> {
     'bytes: for _ in 0..MOST {
         let mut byte = [0u8; 1];
         if stream.read(&mut byte)? == 0 {
@@ -37,12 +37,25 @@ fn hear_end<S: Read>(stream: &mut S) -> Result<()> {
     Err(anyhow!("the client stayed"))
 }
 
-/// Greets, and hears all up to the subscription.
-fn greet<S: Read + Write>(stream: &mut S, heard: &mut Vec<u8>) -> Result<()> {
+/// Does the handshake.
+fn shake<S: Read + Write>(stream: &mut S, heard: &mut Vec<u8>) -> Result<()> {
     stream.write_all(INFO.as_bytes())?;
     hear(stream, heard, b"PING\r\n")?;
-    stream.write_all(b"PONG\r\n")?;
+    Ok(stream.write_all(b"PONG\r\n")?)
+}
+
+/// Greets, and hears all up to the subscription.
+pub fn greet<S: Read + Write>(stream: &mut S, heard: &mut Vec<u8>) -> Result<()> {
+    shake(stream, heard)?;
     hear(stream, heard, b"SUB a 1\r\n")
+}
+
+/// Does the handshake on a link, and waits until the client is gone.
+pub fn greet_one(alloc: Global, listener: &TcpListener) -> Result<()> {
+    let mut heard = Vec::new(alloc);
+    let (mut stream, _) = listener.accept()?;
+    shake(&mut stream, &mut heard)?;
+    hear_end(&mut stream)
 }
 
 /// The link that ends in the midst of a message.
@@ -66,15 +79,15 @@ fn is_connect(line: &str) -> bool {
     line.starts_with("CONNECT ")
 }
 
-/// Each command that was heard, on a line of its own behind the number of its link.
-fn told(alloc: Global, link: u64, heard: &[u8], out: &mut String) -> Result<()> {
+/// Each command that was heard, on a line of its own behind the name of its link.
+pub fn told(alloc: Global, link: &str, heard: &[u8], out: &mut String) -> Result<()> {
     let Ok(text) = std::str::from_utf8(heard) else {
         return Err(anyhow!("the client said what is no text"));
     };
     'lines: for line in text.split("\r\n") {
         let word = if is_connect(line) { "CONNECT" } else { line };
         if !word.is_empty() {
-            out.push_str(format!(in alloc; "link {link}: {word}\n")?.as_str())?;
+            out.push_str(format!(in alloc; "{link}: {word}\n")?.as_str())?;
         }
     }
     Ok(())
@@ -87,10 +100,10 @@ pub fn play(alloc: Global, listener: &TcpListener) -> Result<String> {
     let (mut stream, _) = listener.accept()?;
     first(&mut stream, &mut heard)?;
     drop(stream);
-    told(alloc, 1, heard.as_slice(), &mut out)?;
+    told(alloc, "link 1", heard.as_slice(), &mut out)?;
     let mut heard = Vec::new(alloc);
     let (mut stream, _) = listener.accept()?;
     second(&mut stream, &mut heard)?;
-    told(alloc, 2, heard.as_slice(), &mut out)?;
+    told(alloc, "link 2", heard.as_slice(), &mut out)?;
     Ok(out)
 }

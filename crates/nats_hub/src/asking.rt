@@ -83,13 +83,13 @@ fn replied(taken: Option<Message>) -> Result<Message, Refusal>
 }
 
 impl<G: Tallies> Hub<G> {
-    /// Waits for a message of the subscription of this number, for at most `timeout` milliseconds by `clock` from now on.
-    /// Own call: it stands for the crate's `next` under a timeout.
+    /// Waits for a message of the subscription of this number, for at most `timeout` milliseconds by `clock` from now
+    /// on. Own call: it stands for the crate's `next` under a timeout.
     ///
     /// # Errors
     ///
-    /// `NoResponders` where the message says that nobody answers; `TimedOut` only where the clock gives that the time is
-    /// over; `Dropped` where none will come; `NoMemory` for want of memory.
+    /// `NoResponders` where the message says that nobody answers; `TimedOut` only where the clock gives that the time
+    /// is over; `Dropped` where none will come; `NoMemory` for want of memory.
     pub fn await_message<R: Wait, C: Clock>(
         &self,
         rt: &R,

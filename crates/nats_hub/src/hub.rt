@@ -65,7 +65,8 @@ impl<G: Tallies> Hub<G> {
         }
     }
 
-    /// Wakes all who wait where steps are still due that wanted memory: the next turn, which holds the lock, plays them.
+    /// Wakes all who wait where steps are still due that wanted memory: the next turn, which holds the lock, plays
+    /// them.
     fn wake_where_behind(&self, is_behind: bool) {
         if is_behind {
             self.wake_all();
@@ -128,8 +129,8 @@ impl<G: Tallies> Hub<G> {
         unreachable!()
     }
 
-    /// The oldest message of the subscription of this number, none where none will come; or how often those who wait were
-    /// woken before, as `sleep` takes it, where some may still come.
+    /// The oldest message of the subscription of this number, none where none will come; or how often those who wait
+    /// were woken before, as `sleep` takes it, where some may still come.
     pub(crate) fn message_or_seen<R: Wait>(
         &self,
         rt: &R,

@@ -84,8 +84,8 @@ impl<G: Tallies> Hub<G> {
         }
     }
 
-    /// What a server said of itself last, where that is news: none where just `seen` INFOs were read, over all links and
-    /// those by which links came up left out; else how many were read, and the last one. Own call: what drives the
+    /// What a server said of itself last, where that is news: none where just `seen` INFOs were read, over all links
+    /// and those by which links came up left out; else how many were read, and the last one. Own call: what drives the
     /// links of a client tells its pool what is news.
     ///
     /// # Errors

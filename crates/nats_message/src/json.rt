@@ -1,16 +1,17 @@
 //! JSON of messages.
-ghost use Rattle.std.specs.Prelude.{◌≡◌, [], ◌∷◌, ◌++◌, map, option_map, IfOk, OnOk, None, Some, codes};
-ghost use Rattle.std.specs.Result.{result_map_both};
+ghost use Rattle.std.specs.Prelude.{◌≡◌, IfOk, None, codes};
 ghost use Rattle.serde_json.specs.Find.{get, as_str};
-ghost use Rattle.serde_json.specs.Data.{number, string, unsigned};
-ghost use Rattle.serde_json.specs.View.{view, items_view};
+ghost use Rattle.serde_json.specs.Data.{string};
+ghost use Rattle.serde_json.specs.View.{view};
 ghost use Rattle.nats_header.specs.Json.{Gives, Puts, headers_in, headers_json};
 ghost use Rattle.nats_info.specs.Fields.{field, whole, text_or_null};
-ghost use Rattle.nats_message.specs.Json.{if_status, byte_in, bytes_in, all_pushed, payload_in, or_null, status_in, needed, with_texts, with_numbers, with_headers, with_fields, blank_message, message_in, bytes_json, json_or_null, message_json, HeadersReadAs, ReadsAs};
+ghost use Rattle.nats_message_json.specs.Fields.{or_null, needed, json_or_null};
+ghost use Rattle.nats_message.specs.Json.{with_texts, with_numbers, with_headers, with_fields, blank_message, message_in, message_json, HeadersReadAs, ReadsAs};
 
 use crate::message::Message;
 use nats_header::{HeaderMap, JsonError};
-use nats_names::{Bytes, NoMemory, StatusCode, Subject, Text};
+use nats_message_json::{json_of_bytes, json_of_status, payload_of, status_of};
+use nats_names::{Bytes, NoMemory, Subject, Text};
 use serde_json::{Map, Value, put};
 use std::alloc::Global;
 
@@ -52,97 +53,6 @@ fn length_of(object: &Value) -> Result<usize, JsonError>
     };
     let number = value.as_u64().ok_or(JsonError::NoMatch)?;
     Ok(number as usize)
-}
-
-fn status_number(number: u64) -> Result<StatusCode, JsonError>
-    ensures { Gives (if_status number) result }
-{
-    match u16::try_from(number).map(StatusCode::from_u16) {
-        Ok(Ok(status)) => Ok(status),
-        _ => Err(JsonError::NoMatch),
-    }
-}
-
-fn status_or_null(value: &Value) -> Result<Option<StatusCode>, JsonError>
-    ensures { Gives (or_null status_in (view value.now)) result }
-{
-    if value.is_null() {
-        return Ok(None);
-    }
-    let number = value.as_u64().ok_or(JsonError::NoMatch)?;
-    Ok(Some(status_number(number)?))
-}
-
-fn status_of(object: &Value) -> Result<Option<StatusCode>, JsonError>
-    ensures { Gives (field (or_null status_in) None (get (codes "status") (view object.now))) result }
-{
-    match object.get("status") {
-        Some(value) => status_or_null(value),
-        None => Ok(None),
-    }
-}
-
-fn byte_of(value: &Value) -> Result<u8, JsonError>
-    ensures { Gives (byte_in (view value.now)) result }
-{
-    let number = value.as_u64().ok_or(JsonError::NoMatch)?;
-    u8::try_from(number).map_err(|_| JsonError::NoMatch)
-}
-
-fn push_byte(bytes: &mut Vec<u8>, byte: u8) -> Result<(), NoMemory>
-    ensures ok { OnOk result (bytes.new.items ≡ bytes.old.items ++ byte ∷ []) }
-{
-    bytes.push(byte)?;
-    Ok(())
-}
-
-fn push_bytes(bytes: &mut Vec<u8>, items: &[Value]) -> Result<(), JsonError>
-    ensures { Puts (option_map (all_pushed bytes.old.items) (bytes_in (items_view items.now)))
-        result bytes.new.items }
-{
-    for item in items {
-        let byte = byte_of(item)?;
-        push_byte(bytes, byte)?;
-    }
-    Ok(())
-}
-
-fn bytes_of(alloc: Global, items: &[Value]) -> Result<Vec<u8>, JsonError>
-    ensures { Gives (bytes_in (items_view items.now)) (result_map_both (λ bytes. bytes.items) (λ error. error) result) }
-{
-    let mut bytes = Vec::new(alloc);
-    match push_bytes(&mut bytes, items) {
-        Ok(()) => Ok(bytes),
-        Err(error) => Err(error),
-    }
-}
-
-fn list_of_bytes(alloc: Global, items: &[Value]) -> Result<Bytes, JsonError>
-    ensures { Gives (bytes_in (items_view items.now)) result }
-{
-    match bytes_of(alloc, items) {
-        Ok(bytes) => match Bytes::from_vec(bytes) {
-            Ok(bytes) => Ok(bytes),
-            Err(_) => Err(JsonError::NoMemory),
-        },
-        Err(error) => Err(error),
-    }
-}
-
-fn text_bytes(alloc: Global, text: &str) -> Result<Bytes, NoMemory>
-    ensures { IfOk result (λ bytes. bytes ≡ text.now) }
-{
-    Ok(Bytes::copy_from_slice(alloc, text.as_bytes())?)
-}
-
-fn payload_of(alloc: Global, object: &Value) -> Result<Bytes, JsonError>
-    ensures { Gives (needed payload_in (get (codes "payload") (view object.now))) result }
-{
-    match object.get("payload") {
-        Some(Value::Array(items)) => list_of_bytes(alloc, items.as_slice()),
-        Some(Value::String(text)) => Ok(text_bytes(alloc, text.as_str())?),
-        _ => Err(JsonError::NoMatch),
-    }
 }
 
 fn headers_or_null(alloc: Global, value: &Value) -> Result<Option<HeaderMap>, JsonError>
@@ -239,43 +149,6 @@ fn json_of_headers(alloc: Global, headers: &Option<HeaderMap>) -> Result<Value, 
         Some(headers) => headers.to_json(alloc),
         None => Ok(Value::Null),
     }
-}
-
-fn json_of_status(status: Option<StatusCode>) -> Value
-    ensures json { view result ≡ json_or_null (λ n. number (unsigned n)) status }
-    ensures reads_back { or_null status_in (view result) ≡ Some status }
-{
-    match status {
-        Some(status) => Value::from(status.as_u16()),
-        None => Value::Null,
-    }
-}
-
-fn json_of_byte(byte: u8) -> Value
-    ensures json { view result ≡ number (unsigned byte) }
-    ensures reads_back { byte_in (view result) ≡ Some byte }
-{
-    Value::from(byte)
-}
-
-fn items_of_bytes(alloc: Global, bytes: &[u8]) -> Result<Vec<Value>, NoMemory>
-    ensures json { IfOk result (λ items. map view items.items
-        ≡ map (λ byte. number (unsigned byte)) bytes.now) }
-    ensures reads_back { IfOk result (λ items. map byte_in (map view items.items) ≡ map Some bytes.now) }
-{
-    let mut items = Vec::new(alloc);
-    for byte in bytes {
-        items.push(json_of_byte(*byte))?;
-    }
-    Ok(items)
-}
-
-fn json_of_bytes(alloc: Global, bytes: &[u8]) -> Result<Value, NoMemory>
-    ensures json { IfOk result (λ v. view v ≡ bytes_json bytes.now) }
-    ensures reads_back { IfOk result (λ v. payload_in (view v) ≡ Some bytes.now) }
-{
-    let items = items_of_bytes(alloc, bytes)?;
-    Ok(Value::Array(items))
 }
 
 impl Message {

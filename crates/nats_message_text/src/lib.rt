@@ -1,5 +1,5 @@
-//! A message as text: seven fields of a line, or a line of its own; and headers that pairs of fields spell. It is our own
-//! format.
+//! A message as text: seven fields of a line, or a line of its own; and headers that pairs of fields spell. It is our
+//! own format.
 #![tactic(auto)]
 
 mod message;

@@ -116,8 +116,8 @@ impl OutBuf {
     }
 
     /// The first waiting bytes in `PIECES_MOST` pieces at most, each nonempty, which share their memory; none where
-    /// nothing waits. Joined they are what waits first, and all of it where they are fewer than `PIECES_MOST`. They stay
-    /// until `taken` takes them.
+    /// nothing waits. Joined they are what waits first, and all of it where they are fewer than `PIECES_MOST`. They
+    /// stay until `taken` takes them.
     pub fn pieces(&mut self, alloc: Global) -> Result<Vec<Bytes>, NoMemory>
         ensures front { IfOk result (λ pieces. IsFront PIECES_MOST pieces.items self.old) }
         ensures all { IfOk result (λ pieces. length pieces.items < PIECES_MOST → concat pieces.items ≡ self.old) }

@@ -1,6 +1,6 @@
-//! Rows of the parts that a session is made of, of scripts, and of a core. Each group stands in a table with its answers,
-//! or in a few calls, and the program prints a line for each group: that all is as its rows say, or the row that is
-//! answered in another way.
+//! Rows of the parts that a session is made of, of scripts, and of a core. Each group stands in a table with its
+//! answers, or in a few calls, and the program prints a line for each group: that all is as its rows say, or the row
+//! that is answered in another way.
 #![tactic(auto)]
 
 mod bulk_rows;

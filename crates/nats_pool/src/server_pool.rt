@@ -9,9 +9,9 @@ use crate::{Choice, Pool, Rounds, Server, ServerAddr, SetServerPoolErrorKind};
 use nats_names::NoMemory;
 use std::alloc::Global;
 
-/// What a driver of connections needs of a pool beside its rounds: how a round was chosen, and the calls by which a user
-/// looks at the servers and replaces them. A `Pool` is one. Own trait: a driver that is generic in its pool holds no
-/// callback in its signature.
+/// What a driver of connections needs of a pool beside its rounds: how a round was chosen, and the calls by which a
+/// user looks at the servers and replaces them. A `Pool` is one. Own trait: a driver that is generic in its pool holds
+/// no callback in its signature.
 pub trait ServerPool: Rounds {
     /// How the servers of the last round were chosen.
     ghost chosen: { Self → Choice };

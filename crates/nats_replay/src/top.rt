@@ -331,14 +331,14 @@ fn answer_others<R: Wait, K: Sink, W: World>(
 /// PATIENCE below 2^32 in decimal, it does so with a script of calls that are tried again, and prints what becomes of
 /// the calls and the transcript of the core below them; where they are `bulk N`, N from 1 to 1,000,000 in
 /// decimal, it plays a list of N turns that is made by a rule, behind the opening of that list, and prints what
-/// its transcript comes to in eight lines; where they are `seats N K`, N from 1 to 64 and K from 1 to 10,000 in decimal,
-/// it lets N workers publish K times each at one session, all at once and each with a seat of its own, and prints how
-/// many calls were accepted, how many bytes the link takes, and how many publishes of each worker were accepted; where
-/// they are `threads N K`, in the same ranges, it does so with a client of its own for each worker, and prints how many
-/// calls were accepted, and how many bytes the link takes; where they are `pub ADDR SUBJECT PAYLOAD` it connects to the
-/// server of that address, publishes that, and prints `published` once the link took all of it; where they are `sub
-/// ADDR SUBJECT N`, N from 1 to 1,000,000, it connects, subscribes, takes N messages and prints each. These two
-/// use the world, others leave it alone, and may wait. It answers the status to exit with: 0, what was asked
+/// its transcript comes to in eight lines; where they are `seats N K`, N from 1 to 64 and K from 1 to 10,000 in
+/// decimal, it lets N workers publish K times each at one session, all at once and each with a seat of its own, and
+/// prints how many calls were accepted, how many bytes the link takes, and how many publishes of each worker were
+/// accepted; where they are `threads N K`, in the same ranges, it does so with a client of its own for each worker, and
+/// prints how many calls were accepted, and how many bytes the link takes; where they are `pub ADDR SUBJECT PAYLOAD` it
+/// connects to the server of that address, publishes that, and prints `published` once the link took all of it; where
+/// they are `sub ADDR SUBJECT N`, N from 1 to 1,000,000, it connects, subscribes, takes N messages and prints each.
+/// These two use the world, others leave it alone, and may wait. It answers the status to exit with: 0, what was asked
 /// for is printed; 2, other words, which are called unknown; 3, the source failed; 4, the sink failed; 5, a
 /// line of the script cannot be read, and `script line k` says which is the first; 6, a turn of the script may
 /// not come where it stands, and `turn k out of turn` says which is the first; 7, want of memory; 8, more than

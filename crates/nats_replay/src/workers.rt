@@ -49,8 +49,8 @@ fn crew_text<R: Threads + Wait + Sync>(
     }
 }
 
-/// Lets workers publish as is asked, and prints what the journal of their session tells. Nothing is printed where memory
-/// is wanting.
+/// Lets workers publish as is asked, and prints what the journal of their session tells. Nothing is printed where
+/// memory is wanting.
 pub(crate) fn answer_crew<R: Threads + Wait + Sync, K: Sink>(
     rt: &R,
     alloc: Global,

@@ -1,6 +1,7 @@
 //! Measures a broker in memory. `time N M K` lets peers make N interests, M of which match, lets one more publish K
 //! times, and prints how many bytes the peers were told and how many milliseconds the publishing took; `count N M K`
-//! prints the bytes alone. `line N K` lets a peer write a line of N bytes in pieces of K, and prints how long that took.
+//! prints the bytes alone. `line N K` lets a peer write a line of N bytes in pieces of K, and prints how long that
+//! took.
 #![tactic(auto)]
 
 use anyhow::Result;

@@ -79,9 +79,9 @@ fn play_turns(
 /// message, in decimal; each other line is a turn: `join`, `feed p B` for bytes of peer p, or `leave p`, where B spells
 /// bytes as in the scripts of a session: a byte from `!` to `}` but `%` stands for itself, another is `%` and two
 /// hexadecimal digits in upper case, and no bytes are `%` alone. The turns are played on a new broker named `LOOPBACK`,
-/// and two lines are printed for each peer: `peer p WORD`, its word `up`, `left`, `bad` or `size`, and `text B`, what it
-/// was told behind the broker's INFO. Where a line has no such form `script line k` names the first, from 1, and where a
-/// turn may not come where it stands `turn k out of turn` names the first, from 1. Own call.
+/// and two lines are printed for each peer: `peer p WORD`, its word `up`, `left`, `bad` or `size`, and `text B`, what
+/// it was told behind the broker's INFO. Where a line has no such form `script line k` names the first, from 1, and
+/// where a turn may not come where it stands `turn k out of turn` names the first, from 1. Own call.
 ///
 /// # Errors
 ///

@@ -1,5 +1,5 @@
-//! One seat, at whose session no call may wait: a turn out of turn has no entry, a refused call has one, and the session
-//! is closed once the seat that was split is joined.
+//! One seat, at whose session no call may wait: a turn out of turn has no entry, a refused call has one, and the
+//! session is closed once the seat that was split is joined.
 ghost use Rattle.std.specs.Prelude.{◌≡◌, IfOk};
 
 use anyhow::{Result, anyhow};

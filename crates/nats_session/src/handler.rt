@@ -7,15 +7,15 @@ mod calls;
 mod drains;
 mod due;
 mod ends;
+mod exchange;
 mod infos;
 mod played;
 mod requests;
 
 pub use due::Look;
+use exchange::Exchange;
 use nats_history::{Call, Config, Event, NoMemory, ServerInfo, Statistics};
-use nats_subs::{Pings, Queue, Subscriptions};
-use nats_tickets::Tickets;
-use nats_wire::Connection;
+use nats_subs::Queue;
 pub use played::Played;
 use std::alloc::Global;
 use std::marker::Model;
@@ -54,12 +54,9 @@ pub struct ConnectionHandler {
     info: Option<Box<ServerInfo>>,
     infos: u64,
     reads: u64,
-    pings: Pings,
-    connection: Connection,
+    exchange: Exchange,
     calls: Queue<Call>,
-    subs: Subscriptions,
     requested: bool,
-    tickets: Tickets,
     statistics: Statistics,
     events: Queue<Event>,
 }
@@ -82,17 +79,17 @@ impl Model for ConnectionHandler {
           info = option_map (λ info. info.value) h.info;
           infos = h.infos;
           reads = h.reads;
-          pings = h.pings;
-          wire = h.connection.wire;
+          pings = h.exchange.pings;
+          wire = h.exchange.connection.wire;
         };
         calls = h.calls;
-        subs = h.subs;
+        subs = h.exchange.subs;
         requested = h.requested;
-        tickets = h.tickets.tickets;
+        tickets = h.exchange.tickets.tickets;
         statistics = h.statistics;
       };
       events = h.events;
-      ready = h.tickets.ready;
+      ready = h.exchange.tickets.ready;
     } };
 }
 
@@ -114,12 +111,9 @@ impl ConnectionHandler {
             info: None,
             infos: 0,
             reads: 0,
-            pings: Pings::new(alloc),
-            connection: Connection::new(alloc),
+            exchange: Exchange::new(alloc),
             calls: Queue::new(alloc),
-            subs: Subscriptions::new(alloc),
             requested: false,
-            tickets: Tickets::new(alloc),
             statistics: Statistics::default(),
             events: Queue::new(alloc),
         })

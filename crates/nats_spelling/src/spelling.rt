@@ -62,8 +62,8 @@ fn push_run(out: &mut Vec<u8>, bytes: &[u8]) -> Result<usize, NoMemory>
     Ok(run + 1)
 }
 
-/// Appends the one spelling of `bytes` in a field of a line: bytes from `!` to `}` but `%` stand for themselves, another
-/// is `%` and two hexadecimal digits in upper case, and the empty text is `%` alone.
+/// Appends the one spelling of `bytes` in a field of a line: bytes from `!` to `}` but `%` stand for themselves,
+/// another is `%` and two hexadecimal digits in upper case, and the empty text is `%` alone.
 ///
 /// # Errors
 ///

@@ -10,8 +10,8 @@ use nats_outside::{DialWord, Dialer};
 use std::io;
 use std::net::{Net, OpenStream, SocketAddr};
 
-/// How many milliseconds a write may block until the link counts as failed. Own choice: a server that reads no more would
-/// hold its link for ever, as a write that blocks is not ended by ticks.
+/// How many milliseconds a write may block until the link counts as failed. Own choice: a server that reads no more
+/// would hold its link for ever, as a write that blocks is not ended by ticks.
 pub const MOST_WRITE_MS: u64 = 10_000;
 
 /// A dialer over the network of the system: each link is a stream, whose two halves are two handles of it. Each

@@ -48,8 +48,8 @@ impl<R> NetResolver<R> {
         }
     }
 
-    /// The host that was asked for last where the system failed, and what it said of it: for whoever prints. None before
-    /// any, and where memory was wanting to keep the host.
+    /// The host that was asked for last where the system failed, and what it said of it: for whoever prints. None
+    /// before any, and where memory was wanting to keep the host.
     pub fn last_fault(&self) -> Option<(&Text, io::Error)> {
         match &self.fault {
             Some((host, error)) => Some((host, *error)),

@@ -53,11 +53,11 @@ fn report(alloc: Global, calls: u64, audit: Audit) -> Result<String, NoMemory>
 }
 
 /// Lets so many workers publish at one session, `count` times each, all at once, each in a thread of its own and by a
-/// client of its own; settles their clients, finishes the hub, and answers what it came to, a line each: `accepted`, how
-/// many of its calls were accepted; `text`, how many bytes link 1 takes as the turns of its journal are played under its
-/// settings, and behind them as many whole writes as there were publishes. Worker i publishes on `t.` with i in decimal
-/// the decimal texts of 1 to `count`; what refuses one of them, other than want of memory, is passed over. The settings
-/// are those of `workers_config`: as many calls may wait as all workers make. Own call.
+/// client of its own; settles their clients, finishes the hub, and answers what it came to, a line each: `accepted`,
+/// how many of its calls were accepted; `text`, how many bytes link 1 takes as the turns of its journal are played
+/// under its settings, and behind them as many whole writes as there were publishes. Worker i publishes on `t.` with i
+/// in decimal the decimal texts of 1 to `count`; what refuses one of them, other than want of memory, is passed over.
+/// The settings are those of `workers_config`: as many calls may wait as all workers make. Own call.
 ///
 /// # Errors
 ///

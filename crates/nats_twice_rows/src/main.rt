@@ -1,38 +1,31 @@
-//! A session with requests is played on a core, and each call that answers want of memory is made a second time. What
-//! comes of the core's journal is printed. Where a run is refused one allocation, whichever it is, it prints the same.
+//! Calls that want memory are made a second time: those of a session with requests, of commands on a live link over a
+//! world in memory, and of a client whose link is read until it is over. What came of each is printed. Where a run is
+//! refused one allocation, whichever it is, it prints the same.
 #![tactic(auto)]
 
-use nats_core::{Config, Core, Entry, NoMemory, StepError, Turn};
-use nats_script::{Script, print_transcript, read_script};
-use nats_session::{RunError, run};
+mod lost;
+mod session;
+mod world;
+
+use nats_client::ALL_PARTS;
+use nats_names::NoMemory;
 use std::alloc::Global;
 use std::io::Write;
+use std::marker::Brand;
 use std::process::ExitCode;
+use std::sync::Wait;
+use std::sync::ledger::Blank;
+use std::thread::Threads;
 
-/// Two requests are answered, one of them by a 503; of two under one token the later replaces the earlier, and is timed
-/// out. Then the link takes a part of what waits, and another comes.
-const SCRIPT: &[u8] = b"config 2048 65536 check _INBOX MUX1
-up 1048576
-request svc T1 hi
-piece MSG%20_INBOX.MUX1.T1%200%202%0D%0Aok%0D%0A
-piece MSG%20_INBOX.MUX1.T1%200%202%0D%0Aok%0D%0A
-request svc T2 hi
-piece HMSG%20_INBOX.MUX1.T2%200%2016%2016%0D%0ANATS/1.0%20503%0D%0A%0D%0A%0D%0A
-request svc T3 hi
-request svc T3 hi
-deadline 4
-piece MSG%20_INBOX.MUX1.T3%200%202%0D%0Aok%0D%0A
-write 52
-lost
-up 1048576
-";
+/// The status where memory was wanting twice.
+const NO_MEMORY: u8 = 7;
 
-/// Why there is no transcript.
+/// Why nothing is printed.
 enum Refused {
     /// Memory was wanting twice.
     NoMemory,
-    /// The script is not as it should be.
-    Script,
+    /// What was played is not as it should be.
+    Played,
 }
 
 impl From<NoMemory> for Refused {
@@ -41,83 +34,50 @@ impl From<NoMemory> for Refused {
     }
 }
 
-fn script(alloc: Global) -> Result<Script, NoMemory> {
-    match read_script(alloc, SCRIPT) {
-        Err(NoMemory) => read_script(alloc, SCRIPT),
-        script => script,
+/// What a command printed, behind what others did.
+fn add(text: &mut Vec<u8>, more: &[u8]) -> Result<(), NoMemory> {
+    if text.extend_from_slice(more).is_err() {
+        text.extend_from_slice(more)?;
     }
+    Ok(())
 }
 
-/// Plays a turn: whether it may come.
-fn play(alloc: Global, core: &mut Core, turn: &Turn) -> Result<bool, NoMemory> {
-    match core.step(alloc, turn.copy(alloc)?) {
-        Ok(_) => Ok(true),
-        Err(StepError::OutOfTurn | StepError::LinkGone { .. }) => Ok(false),
-        Err(StepError::NoMemory) => Err(NoMemory),
-    }
-}
-
-fn play_twice(alloc: Global, core: &mut Core, turn: &Turn) -> Result<bool, NoMemory> {
-    match play(alloc, core, turn) {
-        Err(NoMemory) => play(alloc, core, turn),
-        played => played,
-    }
-}
-
-fn core_of(alloc: Global, config: &Config) -> Result<Core, NoMemory> {
-    Core::new(alloc, config.copy(alloc)?, true)
-}
-
-/// A core on which all turns were played.
-fn played(alloc: Global, config: &Config, turns: &[Turn]) -> Result<Core, Refused> {
-    let mut core = match core_of(alloc, config) {
-        Err(NoMemory) => core_of(alloc, config)?,
-        Ok(core) => core,
-    };
-    for turn in turns {
-        if !play_twice(alloc, &mut core, turn)? {
-            return Err(Refused::Script);
-        }
-    }
-    Ok(core)
-}
-
-fn turns_of(alloc: Global, journal: &[Entry]) -> Result<Vec<Turn>, NoMemory> {
-    let mut turns = Vec::new(alloc);
-    for entry in journal {
-        turns.push(entry.turn.copy(alloc)?)?;
-    }
-    Ok(turns)
-}
-
-/// What is printed of a journal.
-fn text_of(alloc: Global, config: &Config, journal: &[Entry]) -> Result<Vec<u8>, Refused> {
-    let turns = turns_of(alloc, journal)?;
-    match run(alloc, config.copy(alloc)?, turns.as_slice()) {
-        Ok(transcript) => Ok(print_transcript(alloc, &transcript)?),
-        Err(RunError::NoMemory) => Err(Refused::NoMemory),
-        Err(RunError::OutOfTurn { .. }) => Err(Refused::Script),
-    }
-}
-
-fn printed(alloc: Global) -> Result<Vec<u8>, Refused> {
-    let Script::Good { config, turns } = script(alloc)? else {
-        return Err(Refused::Script);
-    };
-    let core = played(alloc, &config, turns.as_slice())?;
-    match text_of(alloc, &config, core.journal()) {
-        Err(Refused::NoMemory) => text_of(alloc, &config, core.journal()),
-        text => text,
-    }
+fn played<R: Threads + Wait + Sync>(rt: &R, alloc: Global) -> Result<Vec<u8>, Refused> {
+    let mut text = session::printed(alloc)?;
+    add(
+        &mut text,
+        world::printed(rt, alloc, &world::PUBLISH)?.as_slice(),
+    )?;
+    add(
+        &mut text,
+        world::printed(rt, alloc, &world::RECEIVE)?.as_slice(),
+    )?;
+    Ok(text)
 }
 
 fn main(rt: HostRuntime) -> ExitCode {
-    match printed(rt.alloc()) {
-        Ok(text) => match rt.stdout().write_all(text.as_slice()) {
-            Ok(()) => ExitCode::SUCCESS,
-            Err(_) => ExitCode::FAILURE,
-        },
-        Err(Refused::NoMemory) => ExitCode::from(7),
-        Err(Refused::Script) => ExitCode::FAILURE,
+    let alloc = rt.alloc();
+    let text = match played(&rt, alloc) {
+        Ok(text) => text,
+        Err(Refused::NoMemory) => return ExitCode::from(NO_MEMORY),
+        Err(Refused::Played) => return ExitCode::FAILURE,
+    };
+    let is_lost = match lost::is_lost::<Brand, HostRuntime>(&rt, alloc, Blank::new(ALL_PARTS)) {
+        Err(NoMemory) => lost::is_lost::<Brand, HostRuntime>(&rt, alloc, Blank::new(ALL_PARTS)),
+        answer => answer,
+    };
+    match is_lost {
+        Ok(true) => {}
+        Ok(false) => return ExitCode::FAILURE,
+        Err(NoMemory) => return ExitCode::from(NO_MEMORY),
+    }
+    let mut out = rt.stdout();
+    match out.write_all(text.as_slice()) {
+        Ok(()) => {}
+        Err(_) => return ExitCode::FAILURE,
+    }
+    match out.write_all(b"the loss of a link that was read\n") {
+        Ok(()) => ExitCode::SUCCESS,
+        Err(_) => ExitCode::FAILURE,
     }
 }

@@ -74,8 +74,8 @@ fn asked_by(word: &str, workers_word: &str, count_word: &str) -> Option<Crew>
     }
 }
 
-/// Which workers the words ask for, where they are `seats N K` or `threads N K`, both numbers in decimal with no leading
-/// zero: N workers, from 1 to `MOST_WORKERS`, and K publishes of each, from 1 to `MOST_PUBLISHES`. Own choice.
+/// Which workers the words ask for, where they are `seats N K` or `threads N K`, both numbers in decimal with no
+/// leading zero: N workers, from 1 to `MOST_WORKERS`, and K publishes of each, from 1 to `MOST_PUBLISHES`. Own choice.
 pub fn crew_of(words: &[String]) -> Option<Crew>
     ensures exact { result ≡ crew_asked (map string_bytes words.now) }
     ensures fits { IfSome result IsFit }

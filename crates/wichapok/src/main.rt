@@ -1,5 +1,5 @@
-//! `wichapok` is a NATS client on the command line: it publishes, subscribes, asks, answers and measures. It connects over the
-//! system's sockets and stays connected: where a link ends it comes back, and says so on standard error.
+//! `wichapok` is a NATS client on the command line: it publishes, subscribes, asks, answers and measures. It connects
+//! over the system's sockets and stays connected: where a link ends it comes back, and says so on standard error.
 #![tactic(auto)]
 
 mod asked;

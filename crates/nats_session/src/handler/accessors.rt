@@ -35,10 +35,10 @@ impl ConnectionHandler {
         if !self.is_up {
             return false;
         }
-        if !self.connection.is_unfinished() {
+        if !self.exchange.connection.is_unfinished() {
             return true;
         }
-        !self.connection.is_write_buf_full() && !self.calls.is_empty()
+        !self.exchange.connection.is_write_buf_full() && !self.calls.is_empty()
     }
 
     /// Whether a turn may be played: it may come here, and no step is due. It is the condition of the call of that
@@ -59,8 +59,8 @@ impl ConnectionHandler {
             Turn::Up(_) | Turn::GiveUp => !self.is_up && !self.is_closed,
             Turn::Hangup => !self.is_closed,
             Turn::Do(call) => self.may_name(call),
-            Turn::Take(sid) => self.subs.has(*sid),
-            Turn::Deadline(ticket) => self.tickets.is_request(*ticket),
+            Turn::Take(sid) => self.exchange.subs.has(*sid),
+            Turn::Deadline(ticket) => self.exchange.tickets.is_request(*ticket),
         }
     }
 
@@ -68,7 +68,7 @@ impl ConnectionHandler {
         ensures { result ≡ may_name self.now.parts (names call.now) }
     {
         match names(call) {
-            Some(sid) => self.subs.has(sid),
+            Some(sid) => self.exchange.subs.has(sid),
             None => true,
         }
     }
@@ -77,8 +77,8 @@ impl ConnectionHandler {
     fn has_no_number(&self, call: &Call) -> bool
         ensures { result ≡ has_no_number self.now.parts call.now }
     {
-        (subscribes(call) && self.subs.given() == u64::MAX)
-            || (takes_ticket(call) && self.tickets.given() == u64::MAX)
+        (subscribes(call) && self.exchange.subs.given() == u64::MAX)
+            || (takes_ticket(call) && self.exchange.tickets.given() == u64::MAX)
     }
 
     /// The reply by which a call is refused, if it is.
@@ -199,7 +199,7 @@ impl ConnectionHandler {
     pub(crate) fn tick_word(&self) -> Option<LinkWord>
         ensures { result ≡ end_in (own_steps self.now.parts turns.Tick) }
     {
-        if self.pings.ticks() >= TICK_LIMIT {
+        if self.exchange.pings.ticks() >= TICK_LIMIT {
             return Some(LinkWord::Ticks);
         }
         None
@@ -209,7 +209,7 @@ impl ConnectionHandler {
     pub fn pending(&self) -> u64
         ensures { result ≡ length self.now.parts.link.wire.waiting }
     {
-        self.connection.pending() as u64
+        self.exchange.connection.pending() as u64
     }
 
     /// A copy of the first `n` bytes that wait to be taken, or of all where fewer wait.
@@ -217,16 +217,17 @@ impl ConnectionHandler {
         ensures { IfOk result (λ copy. copy.items
             ≡ take (min n (length self.now.parts.link.wire.waiting)) self.now.parts.link.wire.waiting) }
     {
-        let count = (n as usize).min(self.connection.pending());
-        self.connection.copy_waiting(alloc, count)
+        let count = (n as usize).min(self.exchange.connection.pending());
+        self.exchange.connection.copy_waiting(alloc, count)
     }
 
     /// A copy of all bytes that wait to be taken.
     pub(crate) fn copy_left(&self, alloc: Global) -> Result<Vec<u8>, NoMemory>
         ensures { IfOk result (λ copy. copy.items ≡ self.now.parts.link.wire.waiting) }
     {
-        self.connection
-            .copy_waiting(alloc, self.connection.pending())
+        self.exchange
+            .connection
+            .copy_waiting(alloc, self.exchange.connection.pending())
     }
 
     /// The youngest waiting message of the subscription of number `s`, from 1; `None` where none waits, or the
@@ -234,7 +235,7 @@ impl ConnectionHandler {
     pub fn last_put(&self, s: u64) -> Option<&Message>
         ensures { option_copied result ≡ youngest (item_of s self.now.parts.subs.rows) }
     {
-        self.subs.last(s)
+        self.exchange.subs.last(s)
     }
 
     /// The oldest waiting message of the subscription of number `s`, from 1, which is the one that `take` takes;
@@ -242,7 +243,7 @@ impl ConnectionHandler {
     pub fn first_waiting(&self, s: u64) -> Option<&Message>
         ensures { option_copied result ≡ first_of (item_of s self.now.parts.subs.rows) }
     {
-        self.subs.first(s)
+        self.exchange.subs.first(s)
     }
 
     /// The settings that the session was made with. Own call.
@@ -256,7 +257,7 @@ impl ConnectionHandler {
     pub(crate) fn has_news(&self) -> bool
         ensures { result ≡ (not (length self.now.events == 0) || not (length self.now.ready == 0)) }
     {
-        !self.events.is_empty() || self.tickets.has_next()
+        !self.events.is_empty() || self.exchange.tickets.has_next()
     }
 
     fn take_event(&mut self) -> Option<Event>
@@ -281,14 +282,14 @@ impl ConnectionHandler {
         ensures ticket { result ≡ first self.old.ready }
         ensures rest { self.new ≡ record self.old { ready = drop 1 self.old.ready } }
     {
-        self.tickets.next()
+        self.exchange.tickets.next()
     }
 
     fn take_reply_of(&mut self, t: u64) -> Option<CallReply>
         ensures reply { result ≡ reply_in t self.old.ready }
         ensures rest { self.new ≡ record self.old { ready = without t self.old.ready } }
     {
-        self.tickets.reply_of(t)
+        self.exchange.tickets.reply_of(t)
     }
 
     /// Hands out the reply by which ticket `t` settled. `None` exactly where it did not settle or its reply was

@@ -1,5 +1,5 @@
 //! The calls that play a session, turn by turn and step by step.
-ghost use Rattle.std.specs.Prelude.{◌≡◌, ◌<◌, [], ◌∷◌, ◌++◌, OnOk, OnErr, IfOk, IfErr, IsTrue, min, length, is_some, Some, None};
+ghost use Rattle.std.specs.Prelude.{◌≡◌, ◌<◌, [], ◌∷◌, ◌++◌, OnOk, OnErr, IfOk, IsTrue, min, length, is_some, Some, None};
 ghost use Rattle.nats_names.specs.declared.event.Event.TheVariants.{Connected};
 ghost use Rattle.nats_outbuf.specs.Buffers.{IsFront};
 ghost use Rattle.nats_history.specs.declared.turn.Turn.TheVariants as turns;
@@ -52,7 +52,12 @@ impl ConnectionHandler {
         ensures ok { OnOk result (self.new ≡ record self.old { events = self.old.events ++ Connected ∷ [] }) }
         ensures err { OnErr result (self.new ≡ self.old) }
     {
-        let connection = subscribed_again(alloc, &self.config, self.requested, &self.subs)?;
+        let connection = subscribed_again(
+            alloc,
+            &self.config,
+            self.requested,
+            &self.exchange.subs,
+        )?;
         self.events.push(Event::Connected)?;
         Ok(connection)
     }
@@ -67,10 +72,10 @@ impl ConnectionHandler {
         self.is_up = true;
         self.max_payload = info.max_payload;
         self.info = Some(info);
-        self.pings.clear();
-        self.connection = connection;
-        self.tickets.renew();
-        self.subs.renew();
+        self.exchange.pings.clear();
+        self.exchange.connection = connection;
+        self.exchange.tickets.renew();
+        self.exchange.subs.renew();
     }
 
     fn open_link(&mut self, alloc: Global, info: ServerInfo) -> Result<(), NoMemory>
@@ -105,8 +110,8 @@ impl ConnectionHandler {
         ensures ok { OnOk result (self.new ≡ seen_after self.old (fed bytes.now)) }
         ensures err { OnErr result (self.new ≡ self.old) }
     {
-        self.connection.feed(alloc, bytes)?;
-        self.connection.look();
+        self.exchange.connection.feed(alloc, bytes)?;
+        self.exchange.connection.look();
         Ok(())
     }
 
@@ -115,8 +120,8 @@ impl ConnectionHandler {
         ensures ok { OnOk result (self.new ≡ seen_after self.old (fed bytes.now)) }
         ensures err { OnErr result (self.new ≡ self.old) }
     {
-        self.connection.feed_shared(alloc, bytes)?;
-        self.connection.look();
+        self.exchange.connection.feed_shared(alloc, bytes)?;
+        self.exchange.connection.look();
         Ok(())
     }
 
@@ -153,9 +158,9 @@ impl ConnectionHandler {
     fn let_go(&mut self, n: u64)
         ensures { self.new ≡ seen_after self.old (taken (min n (length self.old.parts.link.wire.waiting))) }
     {
-        let count = (n as usize).min(self.connection.pending());
-        self.connection.written(count);
-        self.tickets.pass(count as u64);
+        let count = (n as usize).min(self.exchange.connection.pending());
+        self.exchange.connection.written(count);
+        self.exchange.tickets.pass(count as u64);
     }
 
     /// The link took the first `n` waiting bytes, or all where fewer wait; each flush that awaited no more of them
@@ -184,12 +189,15 @@ impl ConnectionHandler {
         ensures ok { OnOk result (self.new ≡ seen_after self.old ticked) }
         ensures err { OnErr result (self.new ≡ self.old) }
     {
-        self.pings.push(Ping::Tick)?;
-        let write = self.connection.enqueue_write_op(alloc, &ClientOp::Ping);
+        self.exchange.pings.push(Ping::Tick)?;
+        let write = self
+            .exchange
+            .connection
+            .enqueue_write_op(alloc, &ClientOp::Ping);
         match write {
             Ok(()) => Ok(()),
             Err(NoMemory) => {
-                self.pings.pop_back();
+                self.exchange.pings.pop_back();
                 Err(NoMemory)
             }
         }
@@ -200,7 +208,7 @@ impl ConnectionHandler {
         ensures ok { OnOk result (self.new ≡ seen_all self.old (own_steps self.old.parts turns.Tick)) }
         ensures err { OnErr result (self.new ≡ self.old) }
     {
-        if self.pings.ticks() >= TICK_LIMIT {
+        if self.exchange.pings.ticks() >= TICK_LIMIT {
             self.end_with(alloc, LinkWord::Ticks)
         } else {
             self.write_ping(alloc)
@@ -281,8 +289,8 @@ impl ConnectionHandler {
         if let Err(refused) = self.calls.push(call) {
             return Err(refused.value);
         }
-        match self.tickets.give(waits) {
-            Ok(()) => Ok(CallReply::Numbered(self.tickets.given())),
+        match self.exchange.tickets.give(waits) {
+            Ok(()) => Ok(CallReply::Numbered(self.exchange.tickets.given())),
             Err(NoMemory) => match self.calls.pop_back() {
                 Some(call) => Err(call),
                 None => unreachable!(),
@@ -310,11 +318,11 @@ impl ConnectionHandler {
         }
         let Some(interest) = interest else {
             self.drain_accepted = drained;
-            self.subs.alter_named(shut, Alteration::Shut);
+            self.exchange.subs.alter_named(shut, Alteration::Shut);
             return Ok(CallReply::Accepted);
         };
-        match self.subs.give(alloc, interest) {
-            Ok(()) => Ok(CallReply::Numbered(self.subs.given())),
+        match self.exchange.subs.give(alloc, interest) {
+            Ok(()) => Ok(CallReply::Numbered(self.exchange.subs.given())),
             Err(NoMemory) => match self.calls.pop_back() {
                 Some(call) => Err(call),
                 None => unreachable!(),
@@ -328,7 +336,7 @@ impl ConnectionHandler {
         let gone = lets_go(&call);
         match self.take_in(alloc, call) {
             Ok(reply) => {
-                self.subs.alter_named(gone, Alteration::LetGo);
+                self.exchange.subs.alter_named(gone, Alteration::LetGo);
                 Ok(reply)
             }
             Err(call) => Err(call),
@@ -364,7 +372,7 @@ impl ConnectionHandler {
         ensures reply { result ≡ take_reply self.old.parts sid }
         ensures rest { self.new ≡ seen_after self.old (took sid) }
     {
-        self.subs.take(sid)
+        self.exchange.subs.take(sid)
     }
 
     /// Takes the oldest waiting message of the subscription of number `s` out of its queue. Where none waits it
@@ -382,7 +390,7 @@ impl ConnectionHandler {
     fn time_out(&mut self, ticket: u64)
         ensures { self.new ≡ seen_all self.old (own_steps self.old.parts (turns.Deadline ticket)) }
     {
-        self.tickets.time_out(ticket);
+        self.exchange.tickets.time_out(ticket);
     }
 
     /// The deadline of the request of ticket `t` came: where it is unsettled, it settles as `TimedOut`, and its
@@ -434,6 +442,6 @@ impl ConnectionHandler {
         ensures wants { OnErr result (0 < length self.old.parts.link.wire.waiting) }
         ensures same { self.new ≡ self.old }
     {
-        self.connection.pending_pieces(alloc)
+        self.exchange.connection.pending_pieces(alloc)
     }
 }

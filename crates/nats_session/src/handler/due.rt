@@ -1,36 +1,22 @@
 //! Due steps.
-ghost use Rattle.std.specs.Prelude.{◌≡◌, ◌++◌, ◌≤◌, length, drop, Some, OnOk, OnErr, IfOk, IsTrue, true, is_some};
-ghost use Rattle.nats_message.specs.declared.op.ClientOp.TheVariants as client;
+ghost use Rattle.std.specs.Prelude.{◌≡◌, ◌≤◌, length, Some, OnOk, OnErr, IfOk, IsTrue, true, is_some};
 ghost use Rattle.nats_lines.specs.Operations.{pong_op, front, unfinished, got, peeked_view};
-ghost use Rattle.nats_commands.specs.Commands.{command_text};
-ghost use Rattle.nats_wire.specs.Wire.{with_waiting};
 ghost use Rattle.nats_history.specs.declared.turn.Due.TheVariants as due_names;
 ghost use Rattle.nats_history.specs.Queue.{first};
-ghost use Rattle.nats_tables.specs.Numbers.{item_of};
 ghost use Rattle.nats_history.specs.declared.transcript.LinkWord.TheVariants as word;
-ghost use Rattle.nats_history.specs.History.{link_end, read, handled, unsubscribe_command, is_open_at, commands, pings_after};
-ghost use Rattle.nats_history.specs.Parts.{at_with};
+ghost use Rattle.nats_history.specs.History.{link_end, read, handled};
 ghost use Rattle.nats_history.specs.Schedule.{due, due_chain, chain, read_end, pong_end};
-ghost use Rattle.nats_history.specs.After.{written, subs_after};
-ghost use Rattle.nats_subs.specs.Delivery.{with_rows, rows_with};
-ghost use Rattle.nats_tickets.specs.Kept.{kept_after};
 ghost use Rattle.nats_session.specs.Handler.{Advances, is_at_rest, Sees, counted, read_past, message_past, command_end, seen_handled, is_nothing, handled_first, seen_all, name_of, coming, delivery_of, delivery_name, played_name, unwanted_seen, after_message, arrived_seen, come_seen, pong_read, end_in};
 
 use super::ConnectionHandler;
-use super::drains::{
-    drain, drain_all, forget_draining, note_draining, unsubscribe, write_unsubscribe,
-};
+use super::drains::{forget_draining, note_draining, write_unsubscribe};
 use super::ends::note_end;
 use super::played::Played;
-use super::requests::{ask, inbox_subject, request_ops};
 use nats_history::refusals::{drains_all, ends_link, is_requested_with};
 use nats_history::statistics::{with_call, with_message};
-use nats_history::{
-    Call, Config, Event, LinkWord, Message, NoMemory, OutboundMessage, Ping, Subject,
-};
-use nats_subs::{Alteration, Delivery, Pings, Subscriptions};
-use nats_tickets::Tickets;
-use nats_wire::{ClientOp, Connection, Peeked, PeekedOp, WireError};
+use nats_history::{Event, LinkWord, Message, NoMemory, Ping};
+use nats_subs::{Alteration, Delivery};
+use nats_wire::{ClientOp, Peeked, PeekedOp, WireError};
 use std::alloc::Global;
 
 /// The number under which replies to requests come. The crate's.
@@ -58,101 +44,6 @@ impl Look {
     }
 }
 
-fn write_publish(
-    connection: &mut Connection,
-    alloc: Global,
-    message: &OutboundMessage,
-) -> Result<(), NoMemory>
-    ensures ok { OnOk result (connection.new ≡ with_waiting
-        (connection.old.wire.waiting
-        ++ command_text (client.Publish message.now.subject message.now.payload message.now.reply message.now.headers))
-        connection.old) }
-    ensures err { OnErr result (connection.new ≡ connection.old) }
-{
-    let OutboundMessage {
-        subject,
-        reply,
-        payload,
-        headers,
-    } = message;
-    connection.enqueue_publish(alloc, subject, reply, headers, payload)
-}
-
-fn write_subscribe(
-    connection: &mut Connection,
-    alloc: Global,
-    sid: u64,
-    subject: &Subject,
-    queue_group: &Option<Subject>,
-) -> Result<(), NoMemory>
-    ensures ok { OnOk result (connection.new ≡ with_waiting
-        (connection.old.wire.waiting ++ command_text (client.Subscribe sid subject.now queue_group.now))
-        connection.old) }
-    ensures err { OnErr result (connection.new ≡ connection.old) }
-{
-    connection.enqueue_subscribe(alloc, sid, subject, queue_group)
-}
-
-/// Writes the commands of a call that is handled, and changes the subscription or the ticket that it is about.
-fn handle_call(
-    connection: &mut Connection,
-    subs: &mut Subscriptions,
-    pings: &mut Pings,
-    tickets: &mut Tickets,
-    alloc: Global,
-    config: &Config,
-    requested: bool,
-    call: &Call,
-) -> Result<(), NoMemory>
-    ensures text { OnOk result (connection.new ≡ with_waiting
-        (written true (commands config.now requested (at_with pings.old subs.old) subs.old.rows (handled call.now))
-        connection.old.wire.waiting)
-        connection.old) }
-    ensures subs { OnOk result (subs.new ≡ subs_after config.now pings.old (handled call.now) subs.old) }
-    ensures pings { OnOk result (pings.new ≡ pings_after (handled call.now) pings.old) }
-    ensures tickets { OnOk result
-        (tickets.new ≡ kept_after config.now (length connection.old.wire.waiting) (handled call.now) tickets.old) }
-    ensures err { OnErr result
-        ((connection.new ≡ connection.old) × (subs.new ≡ subs.old) × (pings.new ≡ pings.old)
-        × (tickets.new ≡ tickets.old)) }
-{
-    match call {
-        Call::Publish(message) => write_publish(connection, alloc, message),
-        Call::Subscribe {
-            subject,
-            queue_group,
-        } => {
-            let Some(sid) = subs.next_subscribed() else {
-                return Ok(());
-            };
-            write_subscribe(connection, alloc, sid, subject, queue_group)?;
-            subs.subscribe();
-            Ok(())
-        }
-        Call::Unsubscribe(sid) | Call::DropSub(sid) => {
-            unsubscribe(connection, subs, alloc, *sid, None, Alteration::End)
-        }
-        Call::Drain(sid) => drain(connection, subs, pings, alloc, *sid),
-        Call::DrainAll => drain_all(connection, subs, pings, alloc),
-        Call::Flush => tickets.handle_flush(connection.pending() as u64),
-        Call::Request {
-            subject,
-            payload,
-            headers,
-            token,
-        } => {
-            let reply = inbox_subject(alloc, config, token)?;
-            let ops = request_ops(alloc, config, !requested, subject, payload, headers, &reply)?;
-            ask(connection, tickets, alloc, ops.as_slice(), &reply)
-        }
-        Call::Reconnect => Ok(()),
-        Call::Limit(sid, limit) => {
-            let alteration = Alteration::Limit(*limit);
-            unsubscribe(connection, subs, alloc, *sid, Some(*limit), alteration)
-        }
-    }
-}
-
 impl ConnectionHandler {
     /// Whether no link is up, or no byte is unread and no call waits: no step is due then, which takes no look at what
     /// is unread to tell. A session that is not at rest may still have no step due. It takes no memory. Own call.
@@ -160,7 +51,7 @@ impl ConnectionHandler {
     pub fn is_at_rest(&self) -> bool
         ensures { result ≡ is_at_rest self.now.parts }
     {
-        !self.is_up || (self.connection.unread() == 0 && self.calls.is_empty())
+        !self.is_up || (self.exchange.connection.unread() == 0 && self.calls.is_empty())
     }
 
     /// Tells which step is due. Reading comes first, then the calls that wait.
@@ -171,10 +62,10 @@ impl ConnectionHandler {
         if !self.is_up {
             return Ok(Look::Nothing);
         }
-        if self.connection.unread() == 0 {
+        if self.exchange.connection.unread() == 0 {
             return Ok(self.look_at_calls());
         }
-        match self.connection.peek_op(alloc) {
+        match self.exchange.connection.peek_op(alloc) {
             Ok(Some(peeked)) => {
                 let delivery = self.coming(&peeked.op);
                 Ok(Look::Read(peeked, delivery))
@@ -204,7 +95,7 @@ impl ConnectionHandler {
         requires nothing_to_read { front self.now.parts.link.wire.unread ≡ unfinished }
         ensures { Sees self.now.parts result }
     {
-        if self.connection.is_write_buf_full() || self.calls.is_empty() {
+        if self.exchange.connection.is_write_buf_full() || self.calls.is_empty() {
             return Look::Nothing;
         }
         Look::Command
@@ -241,7 +132,7 @@ impl ConnectionHandler {
     fn pong_end(&self) -> Option<LinkWord>
         ensures { result ≡ pong_end (first self.now.parts.link.pings) }
     {
-        match self.pings.front() {
+        match self.exchange.pings.front() {
             Some(Ping::DrainAll) => Some(LinkWord::Drained),
             Some(Ping::Tick | Ping::Drain(_)) | None => None,
         }
@@ -308,7 +199,9 @@ impl ConnectionHandler {
                 name
             }
             PeekedOp::Ping => {
-                self.connection.enqueue_write_op(alloc, &ClientOp::Pong)?;
+                self.exchange
+                    .connection
+                    .enqueue_write_op(alloc, &ClientOp::Pong)?;
                 self.read_past(len);
                 Ok(Played::Read)
             }
@@ -349,10 +242,10 @@ impl ConnectionHandler {
     fn answer_ping(&mut self)
         ensures { self.new ≡ pong_read self.old }
     {
-        if let Some(Ping::Drain(sid)) = self.pings.front() {
-            self.subs.alter(sid, Alteration::End);
+        if let Some(Ping::Drain(sid)) = self.exchange.pings.front() {
+            self.exchange.subs.alter(sid, Alteration::End);
         }
-        self.pings.discard();
+        self.exchange.pings.discard();
     }
 
     /// The session was drained: the link ends.
@@ -379,8 +272,8 @@ impl ConnectionHandler {
         ensures { self.new ≡ read_past len self.old }
     {
         self.count_read();
-        self.connection.consume(len);
-        self.connection.look();
+        self.exchange.connection.consume(len);
+        self.exchange.connection.look();
     }
 
     /// One more message was read, of such a length; it took so many bytes.
@@ -416,7 +309,7 @@ impl ConnectionHandler {
     fn arrive(&mut self, message: Box<Message>)
         ensures { self.new ≡ arrived_seen message.value self.old }
     {
-        self.tickets.arrive(Box::into_inner(message));
+        self.exchange.tickets.arrive(Box::into_inner(message));
     }
 
     /// Brings a message to its subscription.
@@ -436,7 +329,7 @@ impl ConnectionHandler {
     {
         match delivery {
             Delivery::Put => {
-                self.subs.deliver(&self.config, sid, message)?;
+                self.exchange.subs.deliver(&self.config, sid, message)?;
                 Ok(Played::Put(sid))
             }
             Delivery::Dropped => {
@@ -448,7 +341,7 @@ impl ConnectionHandler {
                 Ok(Played::Read)
             }
             Delivery::Ignored => {
-                self.subs.deliver(&self.config, sid, message)?;
+                self.exchange.subs.deliver(&self.config, sid, message)?;
                 Ok(Played::Read)
             }
         }
@@ -459,8 +352,8 @@ impl ConnectionHandler {
         ensures ok { OnOk result (self.new ≡ unwanted_seen sid self.old) }
         ensures err { OnErr result (self.new ≡ self.old) }
     {
-        write_unsubscribe(&mut self.connection, alloc, true, sid, None)?;
-        self.subs.alter(sid, Alteration::End);
+        write_unsubscribe(&mut self.exchange.connection, alloc, true, sid, None)?;
+        self.exchange.subs.alter(sid, Alteration::End);
         Ok(())
     }
 
@@ -468,7 +361,7 @@ impl ConnectionHandler {
     fn delivery(&self, sid: u64) -> Delivery
         ensures { result ≡ delivery_of self.now.parts sid }
     {
-        self.subs.delivery(&self.config, sid)
+        self.exchange.subs.delivery(&self.config, sid)
     }
 
     fn handle_command(&mut self, alloc: Global) -> Result<Played, NoMemory>
@@ -513,16 +406,10 @@ impl ConnectionHandler {
         let requested = is_requested_with(call, self.requested);
         let statistics = with_call(self.statistics, &self.config, call);
         note_draining(&mut self.events, is_whole)?;
-        match handle_call(
-            &mut self.connection,
-            &mut self.subs,
-            &mut self.pings,
-            &mut self.tickets,
-            alloc,
-            &self.config,
-            self.requested,
-            call,
-        ) {
+        let handled = self
+            .exchange
+            .handle(alloc, &self.config, self.requested, call);
+        match handled {
             Ok(()) => {
                 self.drain_handled = is_whole || self.drain_handled;
                 self.requested = requested;

@@ -1,5 +1,5 @@
 //! The end of a link, and of the session.
-ghost use Rattle.std.specs.Prelude.{◌≡◌, ◌∷◌, [], OnOk, OnErr};
+ghost use Rattle.std.specs.Prelude.{◌≡◌, ◌∷◌, OnOk, OnErr};
 ghost use Rattle.nats_history.specs.declared.transcript.LinkWord.TheVariants as word;
 ghost use Rattle.nats_history.specs.History.{link_end, closed, end_events};
 ghost use Rattle.nats_history.specs.Schedule.{closes, closing, chain};
@@ -75,10 +75,10 @@ impl ConnectionHandler {
         ensures { self.new ≡ seen_after self.old (link_end word.Hangup) }
     {
         self.is_up = false;
-        self.pings.clear();
-        self.connection = Connection::new(alloc);
-        self.tickets.fail();
-        self.subs.end_link();
+        self.exchange.pings.clear();
+        self.exchange.connection = Connection::new(alloc);
+        self.exchange.tickets.fail();
+        self.exchange.subs.end_link();
     }
 
     /// Drops the calls that wait, ends each subscription, and fails each flush.
@@ -87,8 +87,8 @@ impl ConnectionHandler {
     {
         self.is_closed = true;
         self.calls.clear();
-        self.tickets.drop_waiting();
-        self.subs.close();
+        self.exchange.tickets.drop_waiting();
+        self.exchange.subs.close();
     }
 
     /// Drops the link, and closes the session where it is to close.

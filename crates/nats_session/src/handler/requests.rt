@@ -1,14 +1,14 @@
 //! Requests over one inbox.
-ghost use Rattle.std.specs.Prelude.{◌≡◌, ◌++◌, ◌∷◌, [], length, Some, OnOk, OnErr, IfOk};
+ghost use Rattle.std.specs.Prelude.{◌≡◌, ◌++◌, ◌∷◌, [], Some, OnOk, OnErr, IfOk};
 ghost use Rattle.nats_message.specs.declared.op.ClientOp.TheVariants as client;
 ghost use Rattle.nats_commands.specs.Commands.{command_texts};
 ghost use Rattle.nats_wire.specs.Wire.{with_waiting};
 ghost use Rattle.nats_history.specs.History.{inbox, inbox_of, inbox_commands};
 ghost use Rattle.nats_tickets.specs.Kept.{request_one};
 
+use super::exchange::Exchange;
 use nats_history::{Bytes, Config, HeaderMap, NoMemory, Subject, Token};
-use nats_tickets::Tickets;
-use nats_wire::{ClientOp, Connection, copy_headers};
+use nats_wire::{ClientOp, copy_headers};
 use std::alloc::Global;
 
 /// What the subjects of all replies begin with, and then a text.
@@ -73,27 +73,26 @@ pub fn request_ops(
     Ok(ops)
 }
 
-/// Writes the commands of a request, whose reply is to come to a subject, and has it wait for that.
-pub fn ask(
-    connection: &mut Connection,
-    tickets: &mut Tickets,
-    alloc: Global,
-    ops: &[ClientOp],
-    reply: &Subject,
-) -> Result<(), NoMemory>
-    ensures text { OnOk result
-        (connection.new ≡ with_waiting (connection.old.wire.waiting ++ command_texts ops.now) connection.old) }
-    ensures tickets { OnOk result (tickets.new ≡ request_one reply.now tickets.old) }
-    ensures err { OnErr result ((connection.new ≡ connection.old) × (tickets.new ≡ tickets.old)) }
-{
-    let waiting = connection.pending();
-    connection.enqueue_write_ops(alloc, ops)?;
-    let asked = tickets.handle_request(alloc, reply);
-    match asked {
-        Ok(()) => Ok(()),
-        Err(NoMemory) => {
-            connection.cut(waiting);
-            Err(NoMemory)
+impl Exchange {
+    /// Writes the commands of a request, whose reply is to come to a subject, and has it wait for that.
+    pub fn ask(&mut self, alloc: Global, ops: &[ClientOp], reply: &Subject) -> Result<(), NoMemory>
+        ensures ok { OnOk result (self.new ≡ record self.old {
+          connection = with_waiting
+              (self.old.connection.wire.waiting ++ command_texts ops.now)
+              self.old.connection;
+          tickets = request_one reply.now self.old.tickets;
+        }) }
+        ensures err { OnErr result (self.new ≡ self.old) }
+    {
+        let waiting = self.connection.pending();
+        self.connection.enqueue_write_ops(alloc, ops)?;
+        let asked = self.tickets.handle_request(alloc, reply);
+        match asked {
+            Ok(()) => Ok(()),
+            Err(NoMemory) => {
+                self.connection.cut(waiting);
+                Err(NoMemory)
+            }
         }
     }
 }

@@ -4,7 +4,8 @@ use Rattle.serde_json.specs.View.{members_view}
 use Rattle.serde_json.specs.Data.{object}
 use Rattle.serde_json.proofs.Views.{view-Object}
 use Rattle.nats_header.specs.Json.{headers_in}
-use Rattle.nats_message.specs.Json.{or_null, status_in, payload_in, bytes_json, message_in, message_json, HeadersReadAs, ReadsAs}
+use Rattle.nats_message_json.specs.Fields.{or_null, status_in, payload_in, bytes_json}
+use Rattle.nats_message.specs.Json.{message_in, message_json, HeadersReadAs, ReadsAs}
 use Rattle.nats_message.proofs.JsonBack.{message_back}
 use Rattle.nats_message.proofs.message.Message.to_json.Goals as goal
 

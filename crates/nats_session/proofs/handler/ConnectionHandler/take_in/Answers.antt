@@ -12,7 +12,7 @@ returns-in-Ok-give c =
 
 pub returns-in_default-interest : goal.returns-in_default-interest
 returns-in_default-interest c =
-    let subs = c.self.inside.subs in
+    let subs = c.self.inside.exchange.subs in
     let drained = c.is_drained_with-drained.ensures in
     shut_by _ c.args.self.now c.args.call c.is_drained_with-drained.result c.push.new.self c.alter_named.new.self c.self.view_is (sym c.in_default.ensures)
     (sym c.in_default-waits_as.ensures) (sym c.in-Ok.ensures ∙ c.in_default-interest.is) drained c.in_default-push.ensures.ok
