@@ -84,7 +84,7 @@ fn main(rt: HostRuntime) -> ExitCode {
     } = match asked {
         Ok(Asked::Connect(task)) => task,
         Ok(Asked::Serve(serving)) => {
-            return code_of(serve::run(&rt, alloc, &mut clock, serving));
+            return code_of(serve::serve_at(&rt, alloc, &mut clock, serving));
         }
         Err(stop) => return stop.code(),
     };

@@ -50,7 +50,7 @@ fn announce<R: Print>(rt: &R, listener: &TcpListener, most: u64) -> Result<(), S
 }
 
 /// Serves a broker until the process is ended.
-pub fn run<
+pub fn serve_at<
     R: Net<Listener = TcpListener, Stream = TcpStream>
         + Threads
         + Wait

@@ -26,9 +26,9 @@ const STATUSES: &str = "Exit status:
 
 /// When a benchmark gives up.
 const PATIENCE: &str =
-    "A benchmark is given up once no message came for 10 seconds (`sub` waits 60 for its first), a \
-                        reply is late, or no link came up anew for about 16 seconds: then it tells how many of how \
-                        many came, prints their rate, and ends with status 13.";
+    "A benchmark is given up once no message came for 10 seconds (`sub` waits 60 for its first),
+a reply is late, or no link came up anew for about 16 seconds. Then it tells how many of how
+many came, prints their rate, and ends with status 13.";
 
 /// An option with a value.
 fn option<'a>(alloc: Global, name: &'a str, value: &'a str, help: &'a str) -> Arg<'a> {
