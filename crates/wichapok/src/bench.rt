@@ -161,10 +161,10 @@ fn ask<G: Tallies, R: Wait + Eprint, C: Clock>(
             part.stop = Some(stop);
             break;
         }
+        part.ended = clock.now_ms();
         part.done = number.saturating_add(1);
         tell(rt, is_told, number, msgs);
     }
-    part.ended = clock.now_ms();
     part
 }
 
@@ -440,8 +440,8 @@ pub fn run<
     }
     rates::over(rt);
     conclude(rt, alloc, bench, &all)?;
-    match bench.way {
-        Way::Publish => still_on(rt, client, links),
-        Way::Subscribe | Way::Both | Way::Request => Ok(()),
+    if bench.way == Way::Publish && still_on(rt, client, links).is_err() {
+        return Err(Stop::Lost);
     }
+    Ok(())
 }
