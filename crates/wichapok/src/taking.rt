@@ -28,7 +28,7 @@ pub enum Heard {
 }
 
 /// What waiting for a message came to.
-pub fn heard(came: &Result<Message, Refusal>) -> Heard {
+fn what_came(came: &Result<Message, Refusal>) -> Heard {
     match came {
         Ok(_) | Err(Refusal::NoResponders) => Heard::Came,
         Err(Refusal::TimedOut) => Heard::Late,
@@ -62,7 +62,7 @@ impl<G: Tallies> Taker<G> {
     /// Takes the next message, which is waited for that many milliseconds at most.
     pub fn take<R: Wait, C: Clock>(&self, rt: &R, alloc: Global, clock: &mut C, ms: u64) -> Heard {
         let came = self.next(rt, alloc, clock, ms);
-        heard(&came)
+        what_came(&came)
     }
 }
 
