@@ -7,7 +7,7 @@ use nats_pool::Auth;
 use std::alloc::{AllocError, Global};
 
 /// How many attempts to connect anew may fail in turn before a benchmark is given up: they take about 16 seconds.
-const MOST_ATTEMPTS: usize = 15;
+const TRIES_IN_TURN: usize = 15;
 
 /// The port of a broker that is served, where none is named.
 const USUAL_PORT: u64 = 4_222;
@@ -128,7 +128,7 @@ impl Deed {
     /// How many attempts to connect anew may fail in turn, where that is limited: a benchmark is to end.
     pub fn most_attempts(&self) -> Option<usize> {
         match self {
-            Deed::Bench(_) => Some(MOST_ATTEMPTS),
+            Deed::Bench(_) => Some(TRIES_IN_TURN),
             Deed::Publish { .. }
             | Deed::Subscribe { .. }
             | Deed::Request { .. }
