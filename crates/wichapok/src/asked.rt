@@ -6,6 +6,15 @@ use nats_names::Text;
 use nats_pool::Auth;
 use std::alloc::{AllocError, Global};
 
+/// How many attempts to connect anew may fail in turn before a benchmark is given up: they take about 16 seconds.
+const TRIES_IN_TURN: usize = 15;
+
+/// The port of a broker that is served, where none is named.
+const USUAL_PORT: u64 = 4_222;
+
+/// How many may be connected at once to a broker that is served, where no number is named.
+const USUAL_MOST: u64 = 64;
+
 /// What a benchmark measures.
 #[derive(Clone, Copy, Debug, PartialEq, Eq)]
 pub enum Way {
@@ -27,6 +36,15 @@ impl Way {
             Way::Subscribe => "Sub",
             Way::Both => "Pub/Sub",
             Way::Request => "Request",
+        }
+    }
+
+    /// What is told behind how many of how many, where not all went through.
+    pub fn what(self) -> &'static str {
+        match self {
+            Way::Publish => "messages were published",
+            Way::Subscribe | Way::Both => "messages came",
+            Way::Request => "requests were answered",
         }
     }
 
@@ -107,6 +125,17 @@ pub enum Deed {
 }
 
 impl Deed {
+    /// How many attempts to connect anew may fail in turn, where that is limited: a benchmark is to end.
+    pub fn most_attempts(&self) -> Option<usize> {
+        match self {
+            Deed::Bench(_) => Some(TRIES_IN_TURN),
+            Deed::Publish { .. }
+            | Deed::Subscribe { .. }
+            | Deed::Request { .. }
+            | Deed::Reply { .. } => None,
+        }
+    }
+
     /// How many messages of a subscription may wait, where that is not what is usual: a benchmark loses none.
     pub fn room(&self) -> Option<u64> {
         match self {
@@ -119,7 +148,25 @@ impl Deed {
     }
 }
 
-/// All that the words ask for.
+/// A broker that is to be served.
+#[derive(Clone, Copy, Debug)]
+pub struct Serving {
+    /// The port; one that the system picks where it is 0.
+    pub port: u16,
+    /// How many may be connected at once.
+    pub most: u64,
+}
+
+/// What the words ask for: a broker that is served, or something over a connection.
+#[derive(Drop)]
+pub enum Asked {
+    /// A broker is served.
+    Serve(Serving),
+    /// Something is done over a connection.
+    Connect(Task),
+}
+
+/// All that is asked for over a connection.
 #[derive(Drop)]
 pub struct Task {
     /// The servers to connect to.
@@ -259,16 +306,27 @@ fn auth_of(alloc: Global, matches: &ArgMatches<'_>) -> Result<Auth, AllocError> 
     Ok(auth)
 }
 
-/// All that the words ask for, where `home` is the server if none is named and `input` what standard input gave.
-pub fn task_of(
+/// The broker that is to be served.
+fn serving_of(of: &ArgMatches<'_>) -> Result<Serving, Stop> {
+    let port = of.get_one::<u64>("port").unwrap_or(USUAL_PORT);
+    match u16::try_from(port) {
+        Ok(port) => Ok(Serving {
+            port,
+            most: of.get_one::<u64>("max").unwrap_or(USUAL_MOST),
+        }),
+        Err(_) => Err(Stop::Words),
+    }
+}
+
+/// All that is asked for over a connection by the command with this word.
+fn task_of(
     alloc: Global,
     matches: &ArgMatches<'_>,
+    word: &str,
+    of: &ArgMatches<'_>,
     home: &str,
     input: Vec<u8>,
 ) -> Result<Task, Stop> {
-    let Some((word, of)) = matches.subcommand() else {
-        return Err(Stop::Words);
-    };
     let deed = deed_of(alloc, word, of, input)?;
     let servers = servers_of(alloc, matches, home)?;
     let auth = auth_of(alloc, matches)?;
@@ -280,4 +338,22 @@ pub fn task_of(
         timeout: of.get_one::<u64>("timeout"),
         deed,
     })
+}
+
+/// What the words ask for, where `home` is the server if none is named and `input` what standard input gave.
+pub fn asked_of(
+    alloc: Global,
+    matches: &ArgMatches<'_>,
+    home: &str,
+    input: Vec<u8>,
+) -> Result<Asked, Stop> {
+    let Some((word, of)) = matches.subcommand() else {
+        return Err(Stop::Words);
+    };
+    if word == "serve" {
+        Ok(Asked::Serve(serving_of(of)?))
+    } else {
+        let task = task_of(alloc, matches, word, of, home, input)?;
+        Ok(Asked::Connect(task))
+    }
 }

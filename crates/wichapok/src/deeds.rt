@@ -97,7 +97,7 @@ fn publish_once<G: Tallies, R: Wait + Eprint>(
 }
 
 /// Tells where another link came up since so many did: what waited for the one before was lost.
-fn still_on<G: Tallies, R: Wait + Eprint>(
+pub(crate) fn still_on<G: Tallies, R: Wait + Eprint>(
     rt: &R,
     client: &Client<G>,
     links: u64,

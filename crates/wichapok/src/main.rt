@@ -1,17 +1,21 @@
 //! `wichapok` is a NATS client on the command line: it publishes, subscribes, asks, answers and measures. It connects
-//! over the system's sockets and stays connected: where a link ends it comes back, and says so on standard error.
+//! over the system's sockets and stays connected: where a link ends it comes back, and says so on standard error. It
+//! also serves a broker on one machine.
 #![tactic(auto)]
 
 mod asked;
 mod bench;
 mod deeds;
 mod link;
+mod part;
 mod rates;
+mod serve;
 mod shown;
 mod stop;
+mod taking;
 mod words;
 
-use asked::Task;
+use asked::{Asked, Task};
 use nats_client::ALL_PARTS;
 use nats_drive::ThreadStarter;
 use nats_names::Event;
@@ -44,11 +48,11 @@ fn input_of(rt: &HostRuntime, wants: bool) -> Result<Vec<u8>, Stop> {
 }
 
 /// What the words ask for, or why they are no command.
-fn task_of(rt: &HostRuntime, words: &[String], home: &str) -> Result<Task, Stop> {
+fn asked_of(rt: &HostRuntime, words: &[String], home: &str) -> Result<Asked, Stop> {
     match words::command(rt.alloc())?.try_get_matches_from(words) {
         Ok(matches) => {
             let input = input_of(rt, asked::wants_input(&matches))?;
-            asked::task_of(rt.alloc(), &matches, home, input)
+            asked::asked_of(rt.alloc(), &matches, home, input)
         }
         Err(error) => Err(words::refuse(rt, &error)),
     }
@@ -66,18 +70,22 @@ fn main(rt: HostRuntime) -> ExitCode {
     let alloc = rt.alloc();
     let named = env::var(&rt, "NATS_URL").ok();
     let home = named.as_deref().unwrap_or(HOME);
-    let task = match words_of(&rt) {
-        Ok(words) => task_of(&rt, words.as_slice(), home),
+    let asked = match words_of(&rt) {
+        Ok(words) => asked_of(&rt, words.as_slice(), home),
         Err(_) => Err(Stop::NoMemory),
     };
+    let mut clock = SystemClock::new(rt);
     let Task {
         servers,
         name,
         auth,
         timeout,
         deed,
-    } = match task {
-        Ok(task) => task,
+    } = match asked {
+        Ok(Asked::Connect(task)) => task,
+        Ok(Asked::Serve(serving)) => {
+            return code_of(serve::serve_at(&rt, alloc, &mut clock, serving));
+        }
         Err(stop) => return stop.code(),
     };
     let told: EventBox = match Box::new(alloc, move |event: Event| {
@@ -94,6 +102,7 @@ fn main(rt: HostRuntime) -> ExitCode {
     if let Some(room) = deed.room() {
         options.subscription_capacity = room;
     }
+    options.max_reconnects = deed.most_attempts();
     code_of(link::run::<Brand, HostRuntime, _, _, _>(
         &rt,
         alloc,
@@ -102,7 +111,7 @@ fn main(rt: HostRuntime) -> ExitCode {
         link::world(rt),
         servers,
         options,
-        &mut SystemClock::new(rt),
+        &mut clock,
         &deed,
     ))
 }

@@ -25,6 +25,8 @@ pub enum Stop {
     TimedOut,
     /// Nobody answers requests to the subject.
     NoResponders,
+    /// Messages of a benchmark were lost, or it was given up.
+    Lost,
 }
 
 impl Stop {
@@ -40,6 +42,7 @@ impl Stop {
             Stop::Refused => 10,
             Stop::TimedOut => 11,
             Stop::NoResponders => 12,
+            Stop::Lost => 13,
         })
     }
 }

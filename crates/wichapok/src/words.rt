@@ -11,6 +11,25 @@ const WAYS: &[&str] = &["pub", "sub", "pubsub", "request"];
 /// The most bytes of a benchmark's message.
 const MOST: i64 = 1_048_576;
 
+/// What each exit status of the program says.
+const STATUSES: &str = "Exit status:
+  0   all is done, or what was asked for was printed
+  2   the words are no command
+  3   standard input failed
+  4   standard output failed
+  7   out of memory
+  9   no link came about
+  10  the client or the server refused what was asked for, or the session was closed first
+  11  a request's time was over before its reply came
+  12  nobody answers requests to the subject
+  13  not all messages or replies of a benchmark came";
+
+/// When a benchmark gives up.
+const PATIENCE: &str =
+    "A benchmark is given up once no message came for 10 seconds (`sub` waits 60 for its first),
+a reply is late, or no link came up anew for about 16 seconds. Then it tells how many of how
+many came, prints their rate, and ends with status 13.";
+
 /// An option with a value.
 fn option<'a>(alloc: Global, name: &'a str, value: &'a str, help: &'a str) -> Arg<'a> {
     Arg::new(alloc, name)
@@ -97,6 +116,7 @@ fn bench<'a>(alloc: Global) -> Result<Command<'a>, AllocError> {
     ).range(0..=MOST));
     Command::new(alloc, "bench")
         .about("Measures how many messages go through in a second")
+        .after_help(PATIENCE)
         .arg(word(
             alloc,
             "WAY",
@@ -117,6 +137,28 @@ fn bench<'a>(alloc: Global) -> Result<Command<'a>, AllocError> {
         ))
 }
 
+fn serve<'a>(alloc: Global) -> Result<Command<'a>, AllocError> {
+    let port = option(
+        alloc,
+        "port",
+        "P",
+        "The port of 127.0.0.1 to listen on; 0 for one that the system picks",
+    )
+    .value_parser(value_parser!(u64).range(0..=65_535));
+    Command::new(alloc, "serve")
+        .about(
+            "Serves a broker in memory to clients on this machine, until it is ended by a signal",
+        )
+        .arg(port.default_value("4222"))?
+        .arg(number(
+            alloc,
+            "max",
+            "N",
+            "Clients at once; the link of one that comes past them is closed",
+        )
+        .default_value("64"))
+}
+
 /// All words that the program takes.
 pub fn command<'a>(alloc: Global) -> Result<Command<'a>, AllocError> {
     let server = option(
@@ -128,7 +170,8 @@ pub fn command<'a>(alloc: Global) -> Result<Command<'a>, AllocError> {
     .action(ArgAction::Append);
     Command::new(alloc, "wichapok")
         .version("0.1.0")
-        .about("A NATS client that stays connected")
+        .about("A NATS client that stays connected, and a broker for one machine")
+        .after_help(STATUSES)
         .subcommand_required(true)
         .arg(server)?
         .arg(option(alloc, "user", "NAME", "The user to log in as"))?
@@ -139,7 +182,8 @@ pub fn command<'a>(alloc: Global) -> Result<Command<'a>, AllocError> {
         .subcommand(subscribe(alloc)?)?
         .subcommand(request(alloc)?)?
         .subcommand(reply(alloc)?)?
-        .subcommand(bench(alloc)?)
+        .subcommand(bench(alloc)?)?
+        .subcommand(serve(alloc)?)
 }
 
 /// Prints why words were not taken, or the help that they asked for.
