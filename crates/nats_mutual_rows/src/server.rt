@@ -158,7 +158,7 @@ fn gives<G: Tallies, R: Wait>(rt: &R, alloc: Global, hub: &Hub<G>, text: &str) -
 }
 
 /// A client's seat, which knows the subscriptions that the client wrote so far.
-pub(crate) fn seat<G: Tallies, R: Wait>(rt: &R, alloc: Global, hub: &Hub<G>) -> Result<Seat> {
+pub(crate) fn take_seat<G: Tallies, R: Wait>(rt: &R, alloc: Global, hub: &Hub<G>) -> Result<Seat> {
     let mut seat = Seat::new(alloc);
     let text = takes(rt, alloc, hub)?;
     for line in text.as_str().lines() {

@@ -29,7 +29,7 @@ struct Side<G: Tallies> {
 }
 
 /// A side over a new hub, which subscribes to its own subject.
-fn side<G: Tallies, R: Wait>(
+fn new_side<G: Tallies, R: Wait>(
     rt: &R,
     alloc: Global,
     blank: Blank,
@@ -42,7 +42,7 @@ fn side<G: Tallies, R: Wait>(
 {
     let mut asker = client::begin::<G, R>(rt, alloc, blank)?;
     let subscriber = asker.subscribe(rt, alloc, subject)?;
-    let seat = server::seat(rt, alloc, asker.hub())?;
+    let seat = server::take_seat(rt, alloc, asker.hub())?;
     let answerer = asker.clone()?;
     let watcher = asker.clone()?;
     Ok(Side {
@@ -157,8 +157,8 @@ pub(crate) fn play_both<
     requires second_all { second.parts ≡ 2 ^ 63 }
     requires second_kept { H.is_kept ≡ true }
 {
-    let mut one = side::<G, R>(rt, alloc, first, "one")?;
-    let mut two = side::<H, R>(rt, alloc, second, "two")?;
+    let mut one = new_side::<G, R>(rt, alloc, first, "one")?;
+    let mut two = new_side::<H, R>(rt, alloc, second, "two")?;
     let ((done, served), other_done) = meets(rt, alloc, &mut one, &mut two);
     println!(rt; "{} messages handed on", served?)?;
     ends(rt, alloc, one, "one", done)?;
