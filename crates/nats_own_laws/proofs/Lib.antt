@@ -1,0 +1,9 @@
+mod Asked
+mod Begins
+mod Clients
+mod Keeping
+mod Lines
+mod Lists
+mod Meshes
+mod Numbers
+mod Told
