@@ -1,6 +1,0 @@
-mod Beginning
-mod Hearing
-mod Indexing
-mod Listed
-mod Moving
-mod Playing
