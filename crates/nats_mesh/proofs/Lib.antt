@@ -1,0 +1,6 @@
+mod Beginning
+mod Hearing
+mod Indexing
+mod Listed
+mod Moving
+mod Playing
