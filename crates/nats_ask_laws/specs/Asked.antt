@@ -27,8 +27,8 @@ Asks c ticket subject t (handled (Request to payload headers token)) =
     (first t.queued ≡ Some waits.Request) × (inbox_of c token ≡ subject) × (ticket ≡ suc t.handled)
 Asks c ticket subject t step = ⊥
 
--- a step leaves a waiting request alone: it reads no message to number 0 with the subject of its reply, handles no other
--- request whose reply is to come there, is not its deadline, and does not close the session
+-- a step leaves a waiting request alone: it reads no message to number 0 with the subject of its reply, handles no
+-- other request whose reply is to come there, is not its deadline, and does not close the session
 abbrev pub LeavesAlone : Config → ℕ → List ℕ → Tickets → Step → Type 0
 LeavesAlone c ticket subject t (read (message sid m)) = sid ≡ 0 → m.subject ≡ subject → ⊥
 LeavesAlone c ticket subject t (handled (Request to payload headers token)) =

@@ -31,8 +31,8 @@ OneAsked =
     (c : Config) (h : History) (ticket other : ℕ) (subject : List ℕ)
     → WasAsked c ticket subject h → WasAsked c other subject h → ticket ≡ other
 
--- a ticket that settled as replied by a message did so by the first one to number 0, since its request was handled, with
--- the subject of the reply
+-- a ticket that settled as replied by a message did so by the first one to number 0, since its request was handled,
+-- with the subject of the reply
 abbrev pub FirstReply : Type 0
 FirstReply =
     (c : Config) (h : History) (ticket : ℕ) (m : Message)
@@ -54,8 +54,8 @@ SettledForGood =
     × ((step : Step)
     → reply_in ticket (settles c (length (waiting_bytes c (later ++ h))) step (tickets c (later ++ h))) ≡ None)
 
--- a reply that waits to be handed out is the one by which its ticket settled; and of a ticket whose reply was not handed
--- out, the reply by which it settled waits
+-- a reply that waits to be handed out is the one by which its ticket settled; and of a ticket whose reply was not
+-- handed out, the reply by which it settled waits
 abbrev pub HeldReply : Type 0
 HeldReply =
     (c : Config) (out : HandedOut) (h : History) (seen : Seen) (ticket : ℕ) (reply : CallReply) → StandsFor c out h seen

@@ -84,7 +84,8 @@ with_block subject respond None total = None
 
 -- a subject, perhaps a reply, the length of the block, and that of block and payload together
 abbrev pub header_publication : List (List ℕ) → Option Line
-header_publication (subject ∷ block_len ∷ total ∷ []) = with_block subject None (plain_number block_len) (plain_number total)
+header_publication (subject ∷ block_len ∷ total ∷ []) =
+    with_block subject None (plain_number block_len) (plain_number total)
 header_publication (subject ∷ respond ∷ block_len ∷ total ∷ []) =
     with_block subject (Some respond) (plain_number block_len) (plain_number total)
 header_publication pieces = None

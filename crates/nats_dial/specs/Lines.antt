@@ -119,8 +119,8 @@ abbrev pub IsAt : Shake → Stage → Type 0
 IsAt shake.More at = IsOpen at
 IsAt shake.Done at = (info : ServerInfo) × (at ≡ stage.Linked info)
 
--- `Takes p q urls skipped` says what becomes of a list of servers p at the addresses of an INFO; `Offers nonce r` that r
--- is what the client authenticates by for a nonce; it wants TLS by an option, or doesn't; it has this name; it
+-- `Takes p q urls skipped` says what becomes of a list of servers p at the addresses of an INFO; `Offers nonce r` that
+-- r is what the client authenticates by for a nonce; it wants TLS by an option, or doesn't; it has this name; it
 -- wants no echo; the address is of `tls`, or isn't; the handshake began then and may take so long
 module _ {P : Type 0} (Takes : P → P → List (List ℕ) → List (List ℕ) → Type 0)
     (Offers : List ℕ → Result AuthValue (List ℕ) → Type 0) (by_option : Bool) (name : Option (List ℕ)) (no_echo : Bool)

@@ -87,4 +87,5 @@ NoneUp (turn ∷ turns) = NoneUp turns
 abbrev pub ReadOfJoined : Type 0
 ReadOfJoined = (c : Config) (s : ℕ) (info : ServerInfo) (turns : List Turn) → NoneUp turns
     → (rest : List Message)
-    × (messages_in s (operations (joined (steps c (Up info ∷ turns)))) ≡ messages_read s (steps c (Up info ∷ turns)) ++ rest)
+    × (messages_in s (operations (joined (steps c (Up info ∷ turns))))
+    ≡ messages_read s (steps c (Up info ∷ turns)) ++ rest)

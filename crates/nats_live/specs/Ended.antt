@@ -23,7 +23,8 @@ pub record LastLink (Is : EndedLink → Type 0) (links : List EndedLink) : Type 
   pub shows : Is link
 
 -- the same of the last of them, which came behind those of before
-pub record LastSince (before : Option (List EndedLink)) (Is : EndedLink → Type 0) (links : List EndedLink) : Type 0 where
+pub record LastSince (before : Option (List EndedLink)) (Is : EndedLink → Type 0) (links : List EndedLink)
+    : Type 0 where
   pub earlier : List EndedLink
   pub more : List EndedLink
   pub link : EndedLink

@@ -73,7 +73,8 @@ HearsTold s text member = AreFirst (heard_at s member) (messages_in s (operation
 
 -- whatever moves come, where a client tests subjects
 abbrev pub MeshHears : Type 0
-MeshHears = (info : BrokerInfo) (configs : List Config) (moves : List Move) (i s : ℕ) (config : Config) (member : Member)
+MeshHears =
+    (info : BrokerInfo) (configs : List Config) (moves : List Move) (i s : ℕ) (config : Config) (member : Member)
     → is_token info.server_id ≡ true → info.max_payload < 2 ^ 64 → AreTypedConfigs configs → AreTypedMoves moves
     → out_of_turn_from 1 moves (new_mesh info configs) ≡ None
     → item_of i configs ≡ Some config → config.skip_subject_validation ≡ false → 1 ≤ s

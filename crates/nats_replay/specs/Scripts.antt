@@ -42,7 +42,8 @@ Says (Rpc tries patience) ending bytes text = (played : called_played.Played) ×
 
 -- the source failed, memory was wanting, or the source held too much, and nothing is printed; else the source was read
 -- to its end, and what its bytes print is printed under the status of how they end, unless the sink failed
-abbrev pub AskedAnswers : Asked → Option (List ℕ) → Tally → Tally → ℕ → ℕ → ℕ → Option (List ℕ) → Option (List ℕ) → Type 0
+abbrev pub AskedAnswers : Asked → Option (List ℕ) → Tally → Tally → ℕ → ℕ → ℕ
+    → Option (List ℕ) → Option (List ℕ) → Type 0
 AskedAnswers asked held before after status faults faults_now written now =
     ((status ≡ 3) × Rose before.faults after.faults)
     ⊎ ((status ≡ 7)

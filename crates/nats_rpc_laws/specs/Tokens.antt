@@ -24,8 +24,8 @@ MadeBySending =
     → Moves terms now numbers asked old r numbers' asked' new → IsLive attempt asked'
     → IsLive attempt asked ⊎ ((mid : Logged) × Sends terms now numbers (rested asked) mid numbers' asked' new)
 
--- whatever history a core stood for, it stands for a longer one now, in which the ticket was given to the request of the
--- attempt of a number
+-- whatever history a core stood for, it stands for a longer one now, in which the ticket was given to the request of
+-- the attempt of a number
 abbrev pub SentIn : Terms → ℕ → Asked → ℕ → Logged → Config → HandedOut → History → Type 0
 SentIn terms number asked ticket new c out h = (later : History) × StandsFor c out (later ++ h) new.session
     × WasGiven c ticket (request_of terms number asked) (later ++ h)

@@ -19,7 +19,8 @@ behind byte (x ∷ xs) = if x == byte then Some xs else behind byte xs
 
 -- the lines of requests and deadlines are the caller's own, and none of a script's
 abbrev pub is_callers_own : List ℕ → Bool
-is_callers_own word = bytes_eq word (codes "request") || bytes_eq word (codes "hrequest") || bytes_eq word (codes "deadline")
+is_callers_own word =
+    bytes_eq word (codes "request") || bytes_eq word (codes "hrequest") || bytes_eq word (codes "deadline")
 
 abbrev pub kind_of_word : List ℕ → Kind
 kind_of_word word =

@@ -25,8 +25,8 @@ IsSaid text = (all : List Said) × AreTellable all × (text ≡ said_texts all)
 -- a message that can be told: its subject and its reply are words, its block is that of headers, and its block and its
 -- payload have no more bytes than the command says
 abbrev pub IsMessage : Publication → ℕ → Type 0
-IsMessage m size = (headers : Option Headers) × (m.block ≡ sent_block headers) × IsWord m.subject × IsWordOrNone m.respond
-    × AreHeadersOrNone headers × (counted m.block m.payload ≤ size)
+IsMessage m size = (headers : Option Headers) × (m.block ≡ sent_block headers) × IsWord m.subject
+    × IsWordOrNone m.respond × AreHeadersOrNone headers × (counted m.block m.payload ≤ size)
 
 -- what a command has that is told to peers can be told
 abbrev pub IsFit : Command → Type 0

@@ -48,7 +48,8 @@ fn world_of(alloc: Global, command: &Command) -> Result<MemoryWorld, NoMemory> {
     memory_world(alloc, vec![in alloc; link]?)
 }
 
-/// What a command prints. A link or a sink in memory that wants memory for what it notes fails, and the command with it.
+/// What a command prints. A link or a sink in memory that wants memory for what it notes fails, and the command with
+/// it.
 fn played<R: Threads + Wait + Sync>(
     rt: &R,
     alloc: Global,

@@ -43,8 +43,8 @@ sub a g%20h
 hpub FOO.BAR INBOX.67 Hello%20World Header X
 =link 1 up
 out %
-left PUB%20a%0D%0APUB%20b%200%200%0D%0A%0D%0AHPUB%20FOO.BAR%20INBOX.67%2023%2034%0D%0ANATS/1.0%0D%0AHeader:%20X%0D%0A%0D%0A\
-Hello%20World%0D%0A
+left PUB%20a%0D%0APUB%20b%200%200%0D%0A%0D%0AHPUB%20FOO.BAR%20INBOX.67%2023%2034%0D%0ANATS/1.0%0D%0A\
+Header:%20X%0D%0A%0D%0AHello%20World%0D%0A
 event 1 connected
 call 2 accepted
 call 3 invalid-subject

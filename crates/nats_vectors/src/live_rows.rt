@@ -11,8 +11,8 @@ use std::thread::Threads;
 /// What a new connection writes first, on default options.
 const OPENING: &str =
     "CONNECT {\"verbose\":false,\"pedantic\":false,\"jwt\":null,\"nkey\":null,\"sig\":null,\"name\":null,\
-\"echo\":true,\"lang\":\"rust\",\"version\":\"0.51.0\",\"protocol\":1,\"tls_required\":false,\"user\":null,\"pass\":null,\
-\"auth_token\":null,\"headers\":true,\"no_responders\":true}\r\nPING\r\n";
+\"echo\":true,\"lang\":\"rust\",\"version\":\"0.51.0\",\"protocol\":1,\"tls_required\":false,\"user\":null,\
+\"pass\":null,\"auth_token\":null,\"headers\":true,\"no_responders\":true}\r\nPING\r\n";
 
 /// A row: the words; what the link gives, each text by a read of its own; the status, what is printed, and what
 /// the link took behind the opening.
