@@ -1,28 +1,17 @@
 -- Peers that join one after another, and moves that come so.
-use Rattle.std.proofs.Common.{◌≡◌, ℕ, zero, suc, ◌+◌, ◌-◌, ◌<◌, ◌≤◌, ◌^◌, Bool, true, false, not, ◌&&◌, List, [], ◌∷◌, ◌++◌, length, drop, map, get_or, Option, Some, None, Result, Ok, Err, refl, sym, ◌∙◌, ap, arith, length-append, lt-ltb}
-use Rattle.std.specs.Prelude.{nat_lt, is_some, if◌then◌else◌}
-use Rattle.nats_names.specs.declared.failed.NoMemory.{NoMemory}
+use Rattle.std.proofs.Common.{◌≡◌, ℕ, zero, suc, ◌+◌, ◌-◌, ◌<◌, Bool, true, false, not, ◌&&◌, List, [], ◌∷◌, length, drop, map, get_or, None, Ok, refl, sym, ◌∙◌, ap, arith, length-append}
+use Rattle.std.specs.Prelude.{is_some}
 use Rattle.nats_history.specs.declared.config.Config.{Config}
 use Rattle.nats_outboxes.specs.Outboxes.{item_of}
 use Rattle.nats_broker.specs.declared.turn.BrokerTurn.TheVariants.{Join, Feed}
 use Rattle.nats_broker.specs.Peers.{up_peer}
-use Rattle.nats_broker.specs.Playing.{BrokerSeen, due, due_of, is_due, has_due, fed_peer, unread_len, settled_by, is_valid_turn, joined, after_turn, played}
+use Rattle.nats_broker.specs.Playing.{BrokerSeen, due, due_of, is_due, fed_peer, unread_len, settled_by, is_valid_turn, joined, after_turn, played}
 use Rattle.nats_moves.specs.declared.moves.Move.{Move}
-use Rattle.nats_moves.specs.Mesh.{Mesh, join_of, is_up_at, is_valid_move, after_move, moved, out_of_turn_from}
+use Rattle.nats_moves.specs.Mesh.{Mesh, join_of, is_up_at, moved}
 use Rattle.nats_mesh.specs.Meshes.{Moved}
 use Rattle.nats_mesh.proofs.Listed.{next_item}
 
 -- ---- joins
-
--- where none was fed nothing is due
-pub none_due : (b : BrokerSeen) → b.fed ≡ 0 → is_due b ≡ false
-none_due b none = ap (λ k. has_due (up_peer (item_of k b.peers))) none
-
-pub may_join : (b : BrokerSeen) (k : ℕ) (configs : List Config) → b.fed ≡ 0 → length b.peers ≡ k → k < length configs → length configs < 2 ^ 64
-    → is_valid_turn Join b ≡ true
-may_join b k configs none many less small =
-    ap (λ due. not due && nat_lt (length b.peers) (2 ^ 64 - 1)) (none_due b none)
-    ∙ lt-ltb (length b.peers) (2 ^ 64 - 1) (omega (arith, many, less, small))
 
 none_by : (most : ℕ) (b : BrokerSeen) → settled_by most None b ≡ b
 none_by zero b = refl
@@ -54,15 +43,6 @@ more_peers b next k is many = ap (λ (x : BrokerSeen). length x.peers) is ∙ le
 pub fed_stays : (b next : BrokerSeen) → next ≡ joined b → b.fed ≡ 0 → next.fed ≡ 0
 fed_stays b next is none = ap (λ (x : BrokerSeen). x.fed) is ∙ none
 
-pub all_joined : (configs : List Config) (k : ℕ) (b whole : BrokerSeen) → length configs ≤ k → played (map join_of (drop k configs)) b ≡ whole → b ≡ whole
-all_joined [] k b whole past before = before_nothing k before
-  where
-    before_nothing : (k : ℕ) → played (map join_of (drop k [])) b ≡ whole → b ≡ whole
-    before_nothing zero is = is
-    before_nothing (suc k) is = is
-all_joined (c ∷ configs) zero b whole past before = absurd (omega (arith, past))
-all_joined (c ∷ configs) (suc k) b whole past before = all_joined configs k b whole (omega (arith, past)) before
-
 -- ---- feeding
 
 pub may_feed : (b : BrokerSeen) (i : ℕ) (bytes : List ℕ) (up : Bool) → is_due b ≡ false → up ≡ is_up_at i b → up ≡ true → is_valid_turn (Feed i bytes) b ≡ true
@@ -79,40 +59,3 @@ pub moves_on : (moves : List Move) (k : ℕ) (move : Move) (old new whole : Mesh
     → Moved move old (Ok true) new → moved (drop k moves) old ≡ whole → moved (drop (k + 1) moves) new ≡ whole
 moves_on moves k move old new whole less at now before =
     ap (moved (drop (k + 1) moves)) now.1 ∙ sym (ap (λ ms. moved ms old) (move_left moves k move less at)) ∙ before
-
-valid_step : (place : ℕ) (test : Bool) (later : Option ℕ) → test ≡ true → (if test then later else Some place) ≡ later
-valid_step place true later is = refl
-valid_step place false later is = cc
-
-pub places_on : (moves : List Move) (k : ℕ) (move : Move) (old new : Mesh) (whole : Option ℕ) → k < length moves → move ≡ get_or moves k move
-    → Moved move old (Ok true) new → out_of_turn_from (suc k) (drop k moves) old ≡ whole → out_of_turn_from (suc (k + 1)) (drop (k + 1) moves) new ≡ whole
-places_on moves k move old new whole less at now before =
-    let e : suc (k + 1) ≡ suc (suc k) = omega arith in
-    ap (λ j. out_of_turn_from j (drop (k + 1) moves) new) e ∙ ap (out_of_turn_from (suc (suc k)) (drop (k + 1) moves)) now.1
-    ∙ sym (valid_step (suc k) (is_valid_move move old) (out_of_turn_from (suc (suc k)) (drop (k + 1) moves) (after_move move old)) now.0)
-    ∙ sym (ap (λ ms. out_of_turn_from (suc k) ms old) (move_left moves k move less at)) ∙ before
-
-refused_step : (place : ℕ) (test : Bool) (later : Option ℕ) → test ≡ false → (if test then later else Some place) ≡ Some place
-refused_step place true later is = cc
-refused_step place false later is = refl
-
-pub refused_at : (moves : List Move) (k : ℕ) (move : Move) (old new : Mesh) (whole : Option ℕ) → k < length moves → move ≡ get_or moves k move
-    → Moved move old (Ok false) new → out_of_turn_from (suc k) (drop k moves) old ≡ whole → whole ≡ Some (k + 1)
-refused_at moves k move old new whole less at now before =
-    let e : suc k ≡ k + 1 = omega arith in
-    sym before ∙ ap (λ ms. out_of_turn_from (suc k) ms old) (move_left moves k move less at)
-    ∙ refused_step (suc k) (is_valid_move move old) (out_of_turn_from (suc (suc k)) (drop (k + 1) moves) (after_move move old)) now
-    ∙ ap Some e
-
-none_left : (moves : List Move) (k : ℕ) → length moves ≤ k → drop k moves ≡ []
-none_left [] zero past = refl
-none_left [] (suc k) past = refl
-none_left (move ∷ moves) zero past = absurd (omega (arith, past))
-none_left (move ∷ moves) (suc k) past = none_left moves k (omega (arith, past))
-
-pub all_made : (moves : List Move) (k : ℕ) (now whole : Mesh) → length moves ≤ k → moved (drop k moves) now ≡ whole → now ≡ whole
-all_made moves k now whole past before = sym (ap (λ ms. moved ms now) (none_left moves k past)) ∙ before
-
-pub none_refused : (moves : List Move) (k : ℕ) (now : Mesh) (whole : Option ℕ) → length moves ≤ k → out_of_turn_from (suc k) (drop k moves) now ≡ whole
-    → whole ≡ None
-none_refused moves k now whole past before = sym before ∙ ap (λ ms. out_of_turn_from (suc k) ms now) (none_left moves k past)

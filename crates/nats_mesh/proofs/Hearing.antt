@@ -1,16 +1,13 @@
 -- What the rows of the transcripts tell of what is heard.
-use Rattle.std.proofs.Common.{◌≡◌, ℕ, zero, suc, ◌+◌, ◌≤◌, ◌<◌, ◌^◌, Bool, true, false, List, [], ◌∷◌, ◌++◌, map, Option, Some, None, Result, Ok, Err, IsErr, IfOk, Vec, Global, refl, sym, ◌∙◌, ap, subst, arith}
+use Rattle.std.proofs.Common.{◌≡◌, ℕ, zero, suc, ◌+◌, ◌≤◌, ◌<◌, ◌^◌, true, List, [], ◌∷◌, map, Option, Some, None, Result, Ok, Err, IsErr, IfOk, Vec, Global, refl, sym, ◌∙◌, ap, subst, arith}
 use Rattle.std.specs.Result.{result_map_both}
 use Rattle.std.proofs.lemmas.Bool.{false≢true}
 use Rattle.std.specs.Prelude.{slice_get, option_map, IsErrAnd}
 use Rattle.nats_names.specs.Names.{is_token}
-use Rattle.nats_lines.specs.Operations.{operations}
 use Rattle.nats_history.specs.declared.config.Config.{Config}
 use Rattle.nats_history.specs.declared.transcript.SubRow.{SubRow}
 use Rattle.nats_history.specs.declared.transcript.Transcript.{Transcript}
-use Rattle.nats_history.specs.declared.call.TakeReply.{TakeReply}
 use Rattle.nats_history.specs.History.{History, told, given}
-use Rattle.nats_history.specs.Schedule.{steps}
 use Rattle.nats_history.specs.Transcripts.{Answer, answers, sub_row, take_replies, sub_rows}
 use Rattle.nats_tables.specs.Numbers.{count_from}
 use Rattle.nats_info.specs.declared.info.ServerInfo.{ServerInfo}
@@ -20,10 +17,9 @@ use Rattle.nats_broker.specs.declared.turn.RouteError.{RouteError}
 use Rattle.nats_broker.specs.declared.turn.RouteError.TheVariants as refused
 use Rattle.nats_broker.specs.Playing.{BrokerSeen, new_broker, played}
 use Rattle.nats_server_text.specs.Said.{read_hello}
-use Rattle.nats_heard.specs.Heard.{by_place, messages_in}
 use Rattle.nats_moves.specs.declared.moves.Move.{Move}
 use Rattle.nats_moves.specs.Mesh.{Member, Mesh, join_of, new_member, new_mesh, history_of, told_behind, moved, out_of_turn_from, transcript_of, transcripts}
-use Rattle.nats_own_laws.specs.Own.{AreTypedConfigs, AreTypedMoves, AreFirst, HearsTold, MeshHears}
+use Rattle.nats_own_laws.specs.Own.{AreTypedConfigs, AreTypedMoves, HearsTold, MeshHears}
 use Rattle.nats_mesh.specs.Clients.{came_up}
 use Rattle.nats_mesh.specs.Meshes.{mesh_of, PlaysMoves, MeshesFrom, Meshes, RowHears, AllHear, MeshesHear}
 

@@ -1,12 +1,12 @@
 -- One client among the others, by its number.
-use Rattle.std.proofs.Common.{◌≡◌, ℕ, zero, suc, ◌-◌, ◌<◌, ◌≤◌, Bool, true, false, List, [], ◌∷◌, length, take, get_or, slice_set, Option, Some, None, Result, Ok, Err, refl, sym, ◌∙◌, ap, arith}
+use Rattle.std.proofs.Common.{◌≡◌, ℕ, zero, suc, ◌-◌, ◌<◌, ◌≤◌, Bool, true, false, List, [], ◌∷◌, length, get_or, slice_set, Some, None, Result, Ok, Err, refl, sym, ◌∙◌, ap, arith}
 use Rattle.std.specs.Prelude.{slice_get}
 use Rattle.nats_names.specs.declared.failed.NoMemory.{NoMemory}
 use Rattle.nats_history.specs.declared.turn.Turn.{Turn}
-use Rattle.nats_outboxes.specs.Outboxes.{item_of, at_number}
+use Rattle.nats_outboxes.specs.Outboxes.{item_of}
 use Rattle.nats_outboxes.proofs.Changed.{at_its_number, kept_at_number}
 use Rattle.nats_moves.specs.Mesh.{Member}
-use Rattle.nats_mesh.specs.Clients.{with_turn, with_next, left_of, Stepped, Brought, may_step, SteppedAt, may_bring, BroughtAt, left_at}
+use Rattle.nats_mesh.specs.Clients.{with_turn, with_next, Stepped, Brought, may_step, SteppedAt, may_bring, BroughtAt}
 
 get_there : (xs : List Member) (k : ℕ) (d : Member) → k < length xs → slice_get xs k ≡ Some (get_or xs k d)
 get_there [] k d within = absurd (omega (arith, within))
@@ -69,16 +69,3 @@ brings_there text i n xs d new (Ok false) some within brings = (
 brings_there text i n xs d new (Err e) some within brings = tt
 
 -- ---- what waits
-
-pub waits_there : (xs : List Member) (i n : ℕ) (x : Member) (bytes : List ℕ) → (i ≡ 0 → ⊥) → slice_get xs (i - 1) ≡ Some x → bytes ≡ take n (left_of x)
-    → bytes ≡ left_at n (item_of i xs)
-waits_there xs zero n x bytes some at is = absurd (some refl)
-waits_there xs (suc k) n x bytes some at is =
-    let e : suc k - 1 ≡ k = omega arith in
-    is ∙ sym (ap (left_at n) (ap (slice_get xs) (sym e) ∙ at))
-
-pub waits_nowhere : (xs : List Member) (i n : ℕ) (bytes : List ℕ) → (i ≡ 0 → ⊥) → slice_get xs (i - 1) ≡ None → bytes ≡ [] → bytes ≡ left_at n (item_of i xs)
-waits_nowhere xs zero n bytes some at is = absurd (some refl)
-waits_nowhere xs (suc k) n bytes some at is =
-    let e : suc k - 1 ≡ k = omega arith in
-    is ∙ sym (ap (left_at n) (ap (slice_get xs) (sym e) ∙ at))

@@ -1,7 +1,6 @@
 -- Lists whose items are told one by one.
 use Rattle.std.proofs.Common.{◌≡◌, ℕ, suc, ◌+◌, ◌<◌, List, ◌∷◌, length, get_or, drop, sym, ap, ◌∙◌, subst, add-one, drop-cons}
-use Rattle.nats_header.specs.Headers.{Field, Headers}
-use Rattle.nats_client_text.specs.Law.{AreTexts, HaveTexts}
+use Rattle.nats_client_text.specs.Law.{AreTexts}
 use Rattle.nats_history.specs.declared.config.Config.{Config}
 use Rattle.nats_link_text.specs.Typed.{IsText, IsTypedConfig}
 use Rattle.nats_moves.specs.declared.moves.Move.{Move}
@@ -16,10 +15,6 @@ pub values_on : (values : List (List ℕ)) (i : ℕ) (value : List ℕ) → i < 
     → (AreTexts (drop i values) → AreTexts values) → AreTexts (drop (i + 1) values) → AreTexts values
 values_on values i value less at is before rest =
     before (subst AreTexts (sym (next_item values i value less at)) (is, rest))
-
-pub fields_on : (headers left rest : Headers) (field : Field) → left ≡ field ∷ rest → AreTexts field.1
-    → (HaveTexts left → HaveTexts headers) → HaveTexts rest → HaveTexts headers
-fields_on headers left rest field same is before more = before (subst HaveTexts (sym same) (is, more))
 
 pub moves_on : (moves : List Move) (i : ℕ) (step : Move) → i < length moves → step ≡ get_or moves i step → IsTypedMove step
     → (AreTypedMoves (drop i moves) → AreTypedMoves moves) → AreTypedMoves (drop (i + 1) moves) → AreTypedMoves moves

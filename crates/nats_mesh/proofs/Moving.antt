@@ -1,25 +1,23 @@
 -- What each move does to the clients and the broker.
-use Rattle.std.proofs.Common.{◌≡◌, ℕ, zero, suc, ◌+◌, ◌-◌, Bool, true, false, not, ◌&&◌, List, [], ◌∷◌, ◌++◌, length, take, drop, Option, Some, None, Result, Ok, Err, refl, sym, ◌∙◌, ap, subst, arith, length-append}
-use Rattle.std.specs.Prelude.{slice_get, is_some, if◌then◌else◌}
+use Rattle.std.proofs.Common.{◌≡◌, ℕ, ◌+◌, ◌-◌, Bool, true, false, ◌&&◌, List, [], ◌∷◌, ◌++◌, length, take, drop, Option, Some, None, Result, Ok, Err, refl, sym, ◌∙◌, ap, arith, length-append}
+use Rattle.std.specs.Prelude.{slice_get, if◌then◌else◌}
 use Rattle.std.proofs.lemmas.Bool.{false≢true}
 use Rattle.nats_names.specs.declared.failed.NoMemory.{NoMemory}
 use Rattle.nats_history.specs.declared.config.Config.{Config}
 use Rattle.nats_history.specs.declared.call.Call.{Call}
-use Rattle.nats_history.specs.declared.turn.Turn.{Turn}
 use Rattle.nats_history.specs.declared.turn.Turn.TheVariants as turn
 use Rattle.nats_history.specs.declared.transcript.LinkRow.{LinkRow}
 use Rattle.nats_history.specs.declared.transcript.LinkWord.TheVariants as word
-use Rattle.nats_history.specs.History.{History, is_up, link_text, taken_count, waiting_bytes}
+use Rattle.nats_history.specs.History.{History, is_up, link_text, taken_count}
 use Rattle.nats_history.specs.Schedule.{steps}
-use Rattle.nats_history.specs.Transcripts.{link_row, ended_links, up_link}
+use Rattle.nats_history.specs.Transcripts.{link_row, ended_links}
 use Rattle.nats_outboxes.specs.Outboxes.{item_of, at_number}
 use Rattle.nats_broker.specs.declared.turn.BrokerTurn.TheVariants.{Feed}
 use Rattle.nats_broker.specs.Playing.{BrokerSeen, is_due, after_turn, played}
-use Rattle.nats_moves.specs.declared.moves.Move.{Move}
 use Rattle.nats_moves.specs.declared.moves.Move.TheVariants as moves
-use Rattle.nats_moves.specs.Mesh.{Member, Mesh, carried, told_behind, may_play, is_up_at, takes_turn, is_valid_move, feeds_of, fed_by, after_move}
-use Rattle.nats_mesh.specs.Cores.{left_in, last_left, left_bytes}
-use Rattle.nats_mesh.specs.Clients.{with_turn, with_next, left_of, may_step, SteppedAt, may_bring, BroughtAt, left_at}
+use Rattle.nats_moves.specs.Mesh.{Member, carried, told_behind, may_play, is_up_at, takes_turn, is_valid_move, feeds_of}
+use Rattle.nats_mesh.specs.Cores.{left_in, last_left}
+use Rattle.nats_mesh.specs.Clients.{with_turn, with_next, may_step, SteppedAt, may_bring, BroughtAt, left_at}
 use Rattle.nats_mesh.specs.Meshes.{mesh_of, Moved}
 
 -- ---- what waits

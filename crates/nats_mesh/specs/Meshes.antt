@@ -1,5 +1,7 @@
 -- What a list of moves answers, and what subscriptions hear.
-use Rattle.std.specs.Prelude.{◌≡◌, ℕ, ◌≤◌, Bool, true, false, List, Option, Some, None, Result, Ok, Err}
+use Rattle.std.specs.Prelude.{◌≡◌, ℕ, Bool, true, false, List, Some, None, Result, Ok, Err}
+use Rattle.std.specs.Global.{Vec}
+use Rattle.std.specs.Result.{result_map_both}
 use Rattle.nats_names.specs.declared.failed.NoMemory.{NoMemory}
 use Rattle.nats_lines.specs.Operations.{operations}
 use Rattle.nats_history.specs.declared.config.Config.{Config}
@@ -12,7 +14,8 @@ use Rattle.nats_broker.specs.declared.turn.RouteError.TheVariants as refused
 use Rattle.nats_broker.specs.Playing.{BrokerSeen, is_due}
 use Rattle.nats_heard.specs.Heard.{by_place, messages_in}
 use Rattle.nats_moves.specs.declared.moves.Move.{Move}
-use Rattle.nats_moves.specs.Mesh.{Member, Mesh, new_mesh, told_behind, is_valid_move, after_move, moved, out_of_turn_from, transcripts}
+use Rattle.nats_moves.specs.Mesh.{Member, Mesh, new_mesh, told_behind, is_valid_move, after_move}
+use Rattle.nats_moves.specs.Mesh.{moved, out_of_turn_from, transcripts}
 use Rattle.nats_own_laws.specs.Own.{AreFirst}
 
 abbrev pub mesh_of : List Member → BrokerSeen → Mesh
@@ -41,6 +44,10 @@ MeshesFrom start moves (Ok rows) =
     (out_of_turn_from 1 moves start ≡ None) × (rows ≡ transcripts (moved moves start))
 MeshesFrom start moves (Err (refused.OutOfTurn place)) = out_of_turn_from 1 moves start ≡ Some place
 MeshesFrom start moves (Err refused.NoMemory) = Unit {0}
+
+-- the transcripts that a call answers, as a list
+abbrev pub rows_of : Result (Vec Transcript) RouteError → Result (List Transcript) RouteError
+rows_of result = result_map_both (λ rows. rows.items) (λ error. error) result
 
 -- from a new broker on, at which each client came up
 abbrev pub Meshes : List Config → BrokerInfo → List Move → Result (List Transcript) RouteError → Type 0

@@ -1,10 +1,9 @@
 //! Moves, played one after another.
 ghost use Rattle.std.specs.Prelude.{◌≡◌, false, map, IfOk};
-ghost use Rattle.std.specs.Result.{result_map_both};
 ghost use Rattle.nats_broker.specs.Playing.{is_due};
 ghost use Rattle.nats_moves.specs.declared.moves.Move.TheVariants as moves;
 ghost use Rattle.nats_moves.specs.Mesh.{transcript_of};
-ghost use Rattle.nats_mesh.specs.Meshes.{mesh_of, Moved, PlaysMoves, MeshesFrom, Meshes, MeshesHear};
+ghost use Rattle.nats_mesh.specs.Meshes.{mesh_of, Moved, PlaysMoves, MeshesFrom, Meshes, MeshesHear, rows_of};
 
 use crate::begin::{come_up, open_broker};
 use crate::broker::{feed, is_up_at, told_behind};
@@ -127,8 +126,7 @@ fn play_on(
     moves: &[Move],
 ) -> Result<Vec<Transcript>, RouteError>
     requires { is_due broker.old ≡ false }
-    ensures { MeshesFrom (mesh_of clients.old broker.old) moves.now
-        (result_map_both (λ rows. rows.items) (λ error. error) result) }
+    ensures { MeshesFrom (mesh_of clients.old broker.old) moves.now (rows_of result) }
 {
     match play_all(alloc, clients, broker, moves) {
         Ok(()) => Ok(transcripts(alloc, clients)?),
@@ -143,7 +141,7 @@ fn play_mesh(
     info: BrokerInfo,
     moves: &[Move],
 ) -> Result<Vec<Transcript>, RouteError>
-    ensures { Meshes configs.now info moves.now (result_map_both (λ rows. rows.items) (λ error. error) result) }
+    ensures { Meshes configs.now info moves.now (rows_of result) }
 {
     let mut clients = come_up(alloc, configs, &info)?;
     let mut broker = open_broker(alloc, configs, info)?;
@@ -178,8 +176,8 @@ pub fn mesh(
     info: BrokerInfo,
     moves: &[Move],
 ) -> Result<Vec<Transcript>, RouteError>
-    ensures meshes { Meshes configs.now info moves.now (result_map_both (λ rows. rows.items) (λ error. error) result) }
-    ensures hears { MeshesHear configs.now info moves.now (result_map_both (λ rows. rows.items) (λ error. error) result) }
+    ensures meshes { Meshes configs.now info moves.now (rows_of result) }
+    ensures hears { MeshesHear configs.now info moves.now (rows_of result) }
 {
     mesh_hears();
     tell_info(&info);
