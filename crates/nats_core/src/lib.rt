@@ -9,6 +9,7 @@ mod entry;
 mod machine;
 mod notes;
 mod plays;
+mod settled;
 
 pub use answers::{ReadOnce, StepError, WriteOnce};
 pub use entry::{Entry, StepReply};

@@ -14,8 +14,7 @@ mod links;
 
 use crate::answers::StepError;
 use crate::entry::{Entry, StepReply};
-use crate::notes::{play_own, submit_own};
-use crate::plays::play_due;
+use crate::settled::Settled;
 use nats_session::{Call, CallReply, Config, ConnectionHandler, Event, NoMemory, ServerInfo, Turn};
 use std::alloc::Global;
 use std::marker::Model;
@@ -36,7 +35,7 @@ use std::marker::Model;
 /// memory `catch_up` plays what is left, as the next turn does by itself.
 #[derive(Drop)]
 pub struct Core {
-    handler: ConnectionHandler,
+    session: Settled,
     is_kept: bool,
     entries: Vec<Entry>,
 }
@@ -46,9 +45,9 @@ impl Model for Core {
 
     ghost Value = { Logged };
 
-    ghost view = { λ core. core_of core.is_kept core.entries.items core.handler };
+    ghost view = { λ core. core_of core.is_kept core.entries.items core.session };
 
-    ghost invariant = { λ core. IsSound (core_of core.is_kept core.entries.items core.handler) };
+    ghost invariant = { λ core. IsSound (core_of core.is_kept core.entries.items core.session) };
 }
 
 impl Core {
@@ -63,7 +62,7 @@ impl Core {
     {
         let handler = ConnectionHandler::new(alloc, config)?;
         Ok(Core {
-            handler,
+            session: Settled::new(handler),
             is_kept: journal,
             entries: Vec::new(alloc),
         })
@@ -87,18 +86,18 @@ impl Core {
         ensures whole { self.now.is_kept ≡ true → due (parts_in self.now) ≡ None
             → StandsForAll (config_of self.now) (journal_turns self.now) self.now.session }
     {
-        &self.handler
+        self.session.handler()
     }
 
     fn told_since(&self, alloc: Global, seen: u64) -> Result<Option<(u64, ServerInfo)>, NoMemory>
         ensures news { IfOk result (λ news. news ≡ news_since seen (parts_in self.now)) }
         ensures wants { OnErr result ((parts_in self.now).link.infos ≡ seen → ⊥) }
     {
-        let infos = self.handler.infos();
+        let infos = self.session.handler().infos();
         if infos == seen {
             return Ok(None);
         }
-        match self.handler.server_info() {
+        match self.session.handler().server_info() {
             Some(info) => Ok(Some((infos, info.copy(alloc)?))),
             None => Ok(None),
         }
@@ -125,7 +124,7 @@ impl Core {
     pub fn is_behind(&self) -> bool
         ensures { result ≡ is_some (due (parts_in self.now)) }
     {
-        self.handler.is_due()
+        self.session.is_due()
     }
 
     /// Plays all steps that are due.
@@ -139,7 +138,7 @@ impl Core {
         ensures ok { OnOk result (self.new ≡ caught_up self.old) }
         ensures behind { OnErr result (IsTrue (is_some (due (parts_in self.new)))) }
     {
-        play_due(alloc, &mut self.handler)
+        self.session.play_due(alloc)
     }
 
     /// Plays due steps as memory allows.
@@ -150,19 +149,15 @@ impl Core {
     }
 
     /// Plays a turn's own steps, and notes the turn with its reply where the journal is kept.
+    #[inline(always)]
     fn note_turn(&mut self, alloc: Global, turn: Turn) -> Result<StepReply, NoMemory>
         requires { IsTrue (can_play (parts_in self.old) turn) }
         ensures reply { IfOk result (λ reply. reply ≡ reply_to (parts_in self.old) turn) }
         ensures ok { OnOk result (self.new ≡ played turn self.old) }
         ensures err { OnErr result (self.new ≡ self.old) }
     {
-        play_own(
-            alloc,
-            self.is_kept,
-            &mut self.handler,
-            &mut self.entries,
-            turn,
-        )
+        self.session
+            .play_own(alloc, self.is_kept, &mut self.entries, turn)
     }
 
     /// Plays and notes a call, which comes back where memory is wanting.
@@ -173,23 +168,19 @@ impl Core {
         ensures back { IfErr result (λ back. back ≡ call) }
         ensures err { OnErr result (self.new ≡ self.old) }
     {
-        submit_own(
-            alloc,
-            self.is_kept,
-            &mut self.handler,
-            &mut self.entries,
-            call,
-        )
+        self.session
+            .submit_own(alloc, self.is_kept, &mut self.entries, call)
     }
 
     /// Whether a turn may be played: it may come, and no step is due.
     fn may(&self, turn: &Turn) -> bool
         ensures { result ≡ can_play (parts_in self.now) turn.now }
     {
-        self.handler.check(turn)
+        self.session.handler().check(turn)
     }
 
     /// Plays a turn where no step is due, if it may come.
+    #[inline(always)]
     fn play(&mut self, alloc: Global, turn: Turn) -> Result<StepReply, StepError>
         requires { due (parts_in self.old) ≡ None }
         ensures { Plays self.old turn result self.new }
@@ -248,6 +239,7 @@ impl Core {
         self.submit_once(alloc, call)
     }
 
+    #[inline(always)]
     fn step_once(&mut self, alloc: Global, turn: Turn) -> Result<StepReply, StepError>
         ensures { Steps self.old turn result self.new }
     {
@@ -263,6 +255,7 @@ impl Core {
     /// `OutOfTurn` exactly where the turn may not come once no step is due. `NoMemory` for want of memory; it is never
     /// answered for a turn that may not come, once all steps that were due are played. The turn is not played then:
     /// due steps that were played before stay played, and the journal is as it was.
+    #[inline(always)]
     pub fn step(&mut self, alloc: Global, turn: Turn) -> Result<StepReply, StepError>
         ensures steps { Steps self.old turn result self.new }
         ensures journal { IfOk result (λ reply. self.new.entries
@@ -276,18 +269,16 @@ impl Core {
     fn up_number(&self) -> u64
         ensures { result ≡ up_number (parts_in self.now) }
     {
-        if self.handler.is_up() {
-            self.handler.link()
-        } else {
-            0
-        }
+        let session = self.session.handler();
+        if session.is_up() { session.link() } else { 0 }
     }
 
     /// Whether the link of this number is up.
     fn is_on(&self, link: u64) -> bool
         ensures { result ≡ is_on link (parts_in self.now) }
     {
-        self.handler.is_up() && self.handler.link() == link
+        let session = self.session.handler();
+        session.is_up() && session.link() == link
     }
 
     /// The refusal of a link that is not up.
@@ -339,7 +330,7 @@ impl Core {
             ≡ with_session (record self.old.session { events = drop 1 self.old.session.events }) self.old }
         ensures stands { HandsOut self.old.session result self.new.session }
     {
-        self.handler.next_event()
+        self.session.next_event()
     }
 
     /// Hands out the reply by which ticket `t` settled. `None` exactly where it did not settle or its reply was handed
@@ -350,6 +341,6 @@ impl Core {
             ≡ with_session (record self.old.session { ready = without t self.old.session.ready }) self.old }
         ensures stands { HandsReply t self.old.session result self.new.session }
     {
-        self.handler.reply_of(t)
+        self.session.reply_of(t)
     }
 }

@@ -89,6 +89,7 @@ fn play_noted(
 }
 
 /// Plays the own steps of a turn, and notes it where the journal is kept.
+#[inline(always)]
 pub(crate) fn play_own(
     alloc: Global,
     is_kept: bool,

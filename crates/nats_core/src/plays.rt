@@ -11,6 +11,7 @@ use nats_session::{Call, CallReply, ConnectionHandler, NoMemory, Turn};
 use std::alloc::Global;
 
 /// Takes in a call.
+#[inline(always)]
 pub(crate) fn submit(
     alloc: Global,
     handler: &mut ConnectionHandler,
@@ -26,6 +27,7 @@ pub(crate) fn submit(
 }
 
 /// Plays a call as a turn.
+#[inline(always)]
 fn play_call(
     alloc: Global,
     handler: &mut ConnectionHandler,
@@ -52,6 +54,7 @@ fn play_take(handler: &mut ConnectionHandler, sid: u64) -> StepReply
 }
 
 /// Plays the own steps of a turn.
+#[inline(always)]
 pub(crate) fn play_turn(
     alloc: Global,
     handler: &mut ConnectionHandler,

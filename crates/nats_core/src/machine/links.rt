@@ -11,7 +11,6 @@ ghost use Rattle.nats_core.specs.Links.{Gives, Reads, TakesSome, Writes, waiting
 
 use super::Core;
 use crate::answers::{ReadOnce, WriteOnce};
-use crate::notes::piece_own;
 use nats_outside::{Failed, LinkRead, LinkWrite};
 use nats_session::{Bytes, NoMemory, Turn};
 use nats_wire::PIECES_MOST;
@@ -57,13 +56,8 @@ impl Core {
         ensures ok { OnOk result (self.new ≡ played (turns.Piece bytes.now) self.old) }
         ensures err { OnErr result (self.new ≡ self.old) }
     {
-        piece_own(
-            alloc,
-            self.is_kept,
-            &mut self.handler,
-            &mut self.entries,
-            bytes,
-        )
+        self.session
+            .piece_own(alloc, self.is_kept, &mut self.entries, bytes)
     }
 
     /// Plays that the link took so many bytes, and then due steps, as memory allows.
@@ -152,6 +146,6 @@ impl Core {
         ensures wants { OnErr result (0 < length (waiting_in self.old)) }
         ensures same { self.new ≡ self.old }
     {
-        self.handler.pending_pieces(alloc)
+        self.session.pending_pieces(alloc)
     }
 }

@@ -4,12 +4,12 @@ use Rattle.nats_core.proofs.machine.Core.catch_up.Goals as goal
 
 pub invariant_of-self : goal.invariant_of-self
 invariant_of-self c =
-    sound_due c.self.inside.is_kept c.self.inside.entries.items c.self.inside.handler c.play_due.new.handler c.self.invariant c.play_due.ensures.rounds
+    sound_due c.self.inside.is_kept c.self.inside.entries.items c.self.inside.session c.play_due.new.self c.self.invariant c.play_due.ensures.rounds
 
 pub returns-clause-plays : goal.returns-clause-plays
 returns-clause-plays c =
-    plays_due c.self.inside.is_kept c.self.inside.entries.items c.self.inside.handler c.play_due.new.handler c.args.self.now c.self.view_is c.play_due.ensures.rounds
+    plays_due c.self.inside.is_kept c.self.inside.entries.items c.self.inside.session c.play_due.new.self c.args.self.now c.self.view_is c.play_due.ensures.rounds
 
 pub returns-clause-ok : goal.returns-clause-ok
 returns-clause-ok c =
-    catches_up c.play_due.result c.args.self.now _ (plays_due c.self.inside.is_kept c.self.inside.entries.items c.self.inside.handler c.play_due.new.handler c.args.self.now c.self.view_is c.play_due.ensures.rounds) c.play_due.ensures.ok
+    catches_up c.play_due.result c.args.self.now _ (plays_due c.self.inside.is_kept c.self.inside.entries.items c.self.inside.session c.play_due.new.self c.args.self.now c.self.view_is c.play_due.ensures.rounds) c.play_due.ensures.ok

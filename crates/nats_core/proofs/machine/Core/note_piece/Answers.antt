@@ -9,14 +9,14 @@ use Rattle.nats_core.proofs.machine.Core.note_piece.Goals as goal
 
 pub invariant_of-self : goal.invariant_of-self
 invariant_of-self c =
-    sound_noted c.piece_own.result c.self.inside.is_kept c.self.inside.entries.items c.piece_own.new.entries.items c.self.inside.handler c.piece_own.new.handler (turns.Piece c.args.bytes.now) c.self.invariant
+    sound_noted c.piece_own.result c.self.inside.is_kept c.self.inside.entries.items c.piece_own.new.entries.items c.self.inside.session c.piece_own.new.self (turns.Piece c.args.bytes.now) c.self.invariant
     (subst (λ (core : Logged). can_play (parts_in core) (turns.Piece c.args.bytes.now) ≡ true) (sym c.self.view_is) c.requires)
     c.piece_own.ensures.seen c.piece_own.ensures.noted c.piece_own.ensures.same c.piece_own.ensures.stay
 
 pub returns-clause-ok : goal.returns-clause-ok
 returns-clause-ok c =
-    played_noted c.piece_own.result c.self.inside.is_kept c.self.inside.entries.items c.piece_own.new.entries.items c.self.inside.handler c.piece_own.new.handler (turns.Piece c.args.bytes.now) c.args.self.now c.self.view_is c.piece_own.ensures.seen c.piece_own.ensures.noted
+    played_noted c.piece_own.result c.self.inside.is_kept c.self.inside.entries.items c.piece_own.new.entries.items c.self.inside.session c.piece_own.new.self (turns.Piece c.args.bytes.now) c.args.self.now c.self.view_is c.piece_own.ensures.seen c.piece_own.ensures.noted
 
 pub returns-clause-err : goal.returns-clause-err
 returns-clause-err c =
-    stays_noted c.piece_own.result c.self.inside.is_kept c.self.inside.entries.items c.piece_own.new.entries.items c.self.inside.handler c.piece_own.new.handler c.args.self.now c.self.view_is c.piece_own.ensures.same c.piece_own.ensures.stay
+    stays_noted c.piece_own.result c.self.inside.is_kept c.self.inside.entries.items c.piece_own.new.entries.items c.self.inside.session c.piece_own.new.self c.args.self.now c.self.view_is c.piece_own.ensures.same c.piece_own.ensures.stay
