@@ -32,6 +32,12 @@ pub struct Hub<G: Tallies> {
     pub(crate) generator: Mutex<SmallRng>,
 }
 
+/// What a call came to, and whether it leaves a writer to be woken.
+struct Made {
+    answer: Result<Option<u64>, Refusal>,
+    wakes_writer: bool,
+}
+
 /// Whether a call changes nothing for other calls that wait, but for what there is to write.
 fn is_quiet(call: &Call) -> bool {
     matches!(call, Call::Publish(_) | Call::Subscribe { .. })
@@ -56,12 +62,13 @@ impl<G: Tallies> Hub<G> {
         self.came.notify_all();
     }
 
-    /// Wakes who waits for what a call changed: who writes alone, where that is all.
-    fn wake_behind(&self, is_quiet: bool) {
-        if is_quiet {
-            self.bytes.notify_all();
-        } else {
+    /// Wakes who waits for what a call changed: who writes alone, where that is all. A writer that was woken and did
+    /// not come to it yet is not woken once more, as each time is a call of the system.
+    fn wake_behind(&self, is_quiet: bool, wakes_writer: bool) {
+        if !is_quiet {
             self.wake_all();
+        } else if wakes_writer {
+            self.bytes.notify_all();
         }
     }
 
@@ -155,21 +162,20 @@ impl<G: Tallies> Hub<G> {
     }
 
     /// Makes a call once, under the lock.
-    fn make<R: Wait>(
-        &self,
-        rt: &R,
-        alloc: Global,
-        mine: &mut Share<G>,
-        call: Call,
-    ) -> Result<Option<u64>, Refusal>
+    fn make<R: Wait>(&self, rt: &R, alloc: Global, mine: &mut Share<G>, call: Call) -> Made
         requires { 0 < mine.old.parts }
         ensures parts { mine.new.parts ≡ mine.old.parts }
-        ensures made { mine.new.amount ≡ mine.old.amount + counts result }
-        ensures may { MayAnswer false call result }
+        ensures made { mine.new.amount ≡ mine.old.amount + counts result.answer }
+        ensures may { MayAnswer false call result.answer }
     {
         let mut guard = self.locked.lock(rt);
         self.wake_where_behind(guard.is_behind());
-        guard.call(alloc, mine, call)
+        let answer = guard.call(alloc, mine, call);
+        let wakes_writer = guard.take_sleep();
+        Made {
+            answer,
+            wakes_writer,
+        }
     }
 
     /// Makes a call once, and wakes who waits for what it changed.
@@ -186,8 +192,11 @@ impl<G: Tallies> Hub<G> {
         ensures may { MayAnswer false call result }
     {
         let is_quiet = is_quiet(&call);
-        let answer = self.make(rt, alloc, mine, call);
-        self.wake_behind(is_quiet);
+        let Made {
+            answer,
+            wakes_writer,
+        } = self.make(rt, alloc, mine, call);
+        self.wake_behind(is_quiet, wakes_writer);
         answer
     }
 
@@ -198,18 +207,24 @@ impl<G: Tallies> Hub<G> {
         alloc: Global,
         mine: &mut Share<G>,
         call: Call,
-    ) -> Result<Option<u64>, Refusal>
+    ) -> Made
         requires { 0 < mine.old.parts }
         ensures parts { mine.new.parts ≡ mine.old.parts }
-        ensures made { mine.new.amount ≡ mine.old.amount + counts result }
-        ensures may { MayAnswer true call result }
+        ensures made { mine.new.amount ≡ mine.old.amount + counts result.answer }
+        ensures may { MayAnswer true call result.answer }
     {
         let mut waits = call;
         let mut guard = self.locked.lock(rt);
         for _ in rt.forever() {
             self.wake_where_behind(guard.is_behind());
             match guard.call_with_room(alloc, mine, waits) {
-                Tried::Answered(answer) => return answer,
+                Tried::Answered(answer) => {
+                    let wakes_writer = guard.take_sleep();
+                    return Made {
+                        answer,
+                        wakes_writer,
+                    };
+                }
                 Tried::NoRoom(call) => waits = call,
             }
             guard = self.room.wait(rt, guard);
@@ -231,8 +246,11 @@ impl<G: Tallies> Hub<G> {
         ensures may { MayAnswer true call result }
     {
         let is_quiet = is_quiet(&call);
-        let answer = self.call_with_room(rt, alloc, mine, call);
-        self.wake_behind(is_quiet);
+        let Made {
+            answer,
+            wakes_writer,
+        } = self.call_with_room(rt, alloc, mine, call);
+        self.wake_behind(is_quiet, wakes_writer);
         answer
     }
 
@@ -286,6 +304,7 @@ impl<G: Tallies> Hub<G> {
             if !guard.is_idle_on(link) {
                 return;
             }
+            guard.note_sleep();
             guard = self.bytes.wait(rt, guard);
         }
         unreachable!()

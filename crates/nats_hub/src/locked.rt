@@ -19,6 +19,7 @@ use nats_history::refusals::{has_subjects, size_of};
 use nats_refusals::{Refusal, answer};
 use std::alloc::Global;
 use std::marker::Model;
+use std::mem;
 use std::sync::ledger::{Book, Share};
 
 /// A session, the total of the accepted calls that its holders made, and the events that wait. Contracts see the
@@ -28,6 +29,8 @@ pub(crate) struct Locked<G: Tallies> {
     core: Core,
     tallies: Book<G>,
     events: Events,
+    /// Whether who writes to the link sleeps, and no one went to wake them since.
+    writer_sleeps: bool,
 }
 
 /// The journal is kept where the ledger says so, and then the total is the number of its accepted calls.
@@ -104,6 +107,7 @@ impl<G: Tallies> Locked<G> {
             core,
             tallies,
             events,
+            writer_sleeps: false,
         }
     }
 
@@ -212,6 +216,16 @@ impl<G: Tallies> Locked<G> {
         self.is_on(link) && self.core.handler().pending() == 0
     }
 
+    /// Notes that who writes to the link goes to sleep.
+    pub(crate) fn note_sleep(&mut self) {
+        self.writer_sleeps = true;
+    }
+
+    /// Whether who writes to the link sleeps; whoever asks goes to wake them.
+    pub(crate) fn take_sleep(&mut self) -> bool {
+        mem::replace(&mut self.writer_sleeps, false)
+    }
+
     /// The pieces that wait for the link of this number; `None` where it is not the one that is up.
     pub(crate) fn pieces_on(
         &mut self,
@@ -255,6 +269,7 @@ impl<G: Tallies> Locked<G> {
 
     /// Makes a call for a holder, whose tally counts it where it is accepted.
     #[tactic(auto, using(crate::proofs::Rooms::kept_step))]
+    #[inline(always)]
     fn make(
         &mut self,
         alloc: Global,
@@ -278,6 +293,7 @@ impl<G: Tallies> Locked<G> {
 
     /// Makes a call for a holder, whose tally counts it where it is accepted, and leaves its events where they are.
     #[tactic(auto, using(crate::proofs::Rooms::waited, crate::proofs::Rooms::answered))]
+    #[inline(always)]
     fn make_once(
         &mut self,
         alloc: Global,
@@ -299,6 +315,7 @@ impl<G: Tallies> Locked<G> {
     }
 
     /// Makes a call for a holder, whose tally counts it where it is accepted.
+    #[inline(always)]
     pub(crate) fn call(
         &mut self,
         alloc: Global,

@@ -9,10 +9,21 @@ use nats_core::{NoMemory, ReadOnce, Turn, WriteOnce};
 use nats_hub::{Hub, Tallies};
 use nats_outside::{Clock, LinkRead, LinkWrite};
 use std::alloc::Global;
-use std::sync::Wait;
+use std::sync::{Condvar, Wait};
+use std::time::Duration;
 
 /// How many bytes one read of `read_loop` may give. The crate's default.
 pub const READ_BUFFER: usize = 65_535;
+
+/// From how many bytes of one write on a session counts as busy, so that more is let gather before the next. A request
+/// that waits for its reply mostly writes fewer.
+const GATHER_LEAST: u64 = 512;
+
+/// Up to how many bytes of one write more is let gather: beyond, the next write is a large one anyway.
+const GATHER_MOST: u64 = 65_535;
+
+/// How many microseconds more is let gather.
+const GATHER_TIME: u64 = 50;
 
 /// Why a loop beside a link is over. Own type.
 #[derive(Clone, Copy, Debug, PartialEq, Eq)]
@@ -73,8 +84,22 @@ pub fn read_loop<G: Tallies, R: Wait, L: LinkRead>(
     }
 }
 
+/// Lets more gather for the next write, where one took this many bytes: one large write costs less than many small
+/// ones, each of which takes the hub's lock from those who publish.
+fn gather<R: Wait>(rt: &R, count: u64) {
+    if (GATHER_LEAST..=GATHER_MOST).contains(&count) {
+        let moment = Condvar::new();
+        moment.sleep(
+            rt,
+            moment.notifications(),
+            Duration::from_micros(GATHER_TIME),
+        );
+    }
+}
+
 /// Writes to the link of this number what waits for it, and waits while nothing does, until the link is over: `Lost`
-/// only where its faults rose. A link that is gone is shut. Own call.
+/// only where its faults rose. A link that is gone is shut. After a write of 512 to 65,535 bytes it waits for 50
+/// microseconds, in which more gathers. Own call.
 pub fn write_loop<G: Tallies, R: Wait, L: LinkWrite>(
     rt: &R,
     alloc: Global,
@@ -86,7 +111,7 @@ pub fn write_loop<G: Tallies, R: Wait, L: LinkWrite>(
 {
     for _ in rt.forever() {
         match write_once(rt, alloc, hub, link, out) {
-            Ok(WriteOnce::Wrote(_)) => {}
+            Ok(WriteOnce::Wrote(count)) => gather(rt, count),
             Ok(WriteOnce::Idle) => hub.wait_for_bytes(rt, link),
             Ok(WriteOnce::Lost) => return LoopEnd::Lost,
             Ok(WriteOnce::Gone) => {
