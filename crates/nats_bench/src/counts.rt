@@ -1,7 +1,4 @@
 //! What is counted of a transcript.
-ghost use Rattle.std.specs.Prelude.{◌≡◌, ◌-◌, ◌^◌, length, min};
-ghost use Rattle.std.specs.List.{sum_by};
-ghost use Rattle.nats_history.specs.declared.transcript.SubRow.{SubRow};
 
 use nats_session::Transcript;
 use std::fmt;
@@ -24,14 +21,7 @@ pub struct Counts {
 }
 
 /// The counts of the transcript of `turns` turns. A sum that would not fit is cut to the greatest number.
-pub fn counts_of(turns: usize, transcript: &Transcript) -> Counts
-    ensures turns { result.turns ≡ turns }
-    ensures puts { result.puts ≡ min (sum_by (λ (row : SubRow). length row.puts) transcript.now.subs) (2 ^ 64 - 1) }
-    ensures takes { result.takes ≡ min (sum_by (λ (row : SubRow). length row.takes) transcript.now.subs) (2 ^ 64 - 1) }
-    ensures drops { result.drops ≡ min (sum_by (λ (row : SubRow). length row.drops) transcript.now.subs) (2 ^ 64 - 1) }
-    ensures events { result.events ≡ length transcript.now.events }
-    ensures calls { result.calls ≡ length transcript.now.calls }
-{
+pub fn counts_of(turns: usize, transcript: &Transcript) -> Counts {
     let mut counts = Counts {
         turns,
         puts: 0,

@@ -5,10 +5,9 @@
 //! to hand out all; `requests N` makes N requests, a thousand of which wait at a time, and prints how long it took
 //! to answer all; `count N` does both too. `decode MIX N`, `encode MIX N` and `publish MIX N` measure the wire
 //! alone over N operations of a mix, `small`, `large`, `hmsg` or `mixed`; `count N` prints what each of these comes
-//! to, too.
+//! to, too. `core N` has a core read, put and take N messages of 16 bytes, 64 of which come at a time, and prints how
+//! long that took; `count N` prints how many it took, and how many bytes their payloads have.
 #![tactic(auto)]
-
-ghost use Rattle.std.specs.Prelude.{◌≤◌, IfSome};
 
 mod carry;
 mod churn;
@@ -18,6 +17,7 @@ mod mix;
 mod report;
 mod requests;
 mod streams;
+mod through;
 mod wire;
 
 use crate::carry::{Carried, carry};
@@ -28,6 +28,7 @@ use crate::mix::mixed_turns;
 use crate::report::{Counted, Report, Times};
 use crate::requests::{Asked, request};
 use crate::streams::{MIXES, Mix};
+use crate::through::{Taken, through};
 use crate::wire::{Outcome, WORKS, Work, come_to, measure_wire};
 use anyhow::{Result, anyhow};
 use nats_session::{Config, NoMemory, RunError, Subject, Token, Transcript, run};
@@ -61,13 +62,13 @@ enum Command {
     Flushes(usize),
     /// How long it took to answer so many requests.
     Requests(usize),
+    /// How long it took to take so many messages through a core.
+    Core(usize),
     /// How long it took to decode or encode so many operations of a mix.
     Code(Work, Mix, usize),
 }
 
-fn count_of(word: &str) -> Option<usize>
-    ensures { IfSome result (λ n. n ≤ 10000000) }
-{
+fn count_of(word: &str) -> Option<usize> {
     let number = word.parse::<usize>().ok()?;
     (number <= TURN_LIMIT).then_some(number)
 }
@@ -99,6 +100,7 @@ fn playing_of(word: &str, number: &str) -> Option<Command> {
         "links" => Some(Command::Links(count)),
         "flushes" => Some(Command::Flushes(count)),
         "requests" => Some(Command::Requests(count)),
+        "core" => Some(Command::Core(count)),
         _ => None,
     }
 }
@@ -168,6 +170,13 @@ fn play_requests<R: Clock + AllocGlobal>(rt: &R, count: usize) -> Result<(Asked,
     Ok((asked, start.elapsed(rt)?))
 }
 
+/// Takes `count` messages through a core: what they came to, and how long it took.
+fn play_through<R: Clock + AllocGlobal>(rt: &R, count: usize) -> Result<(Taken, Duration)> {
+    let start = Instant::now(rt)?;
+    let taken = through(rt.alloc(), count)?;
+    Ok((taken, start.elapsed(rt)?))
+}
+
 /// What `count` operations of the wire come to, of each kind and mix.
 fn coded(alloc: Global, count: usize) -> Result<Vec<Outcome>> {
     let mut outcomes = Vec::new(alloc);
@@ -185,6 +194,7 @@ fn counted<R: Clock + AllocGlobal>(rt: &R, count: usize) -> Result<Report> {
     let (carried, _) = play_links(rt, count.min(CARRIED))?;
     let (flushed, _) = play_flushes(rt, count)?;
     let (asked, _) = play_requests(rt, count)?;
+    let (taken, _) = play_through(rt, count)?;
     let outcomes = coded(rt.alloc(), count)?;
     Ok(Report::Counted(Counted {
         counts,
@@ -193,6 +203,7 @@ fn counted<R: Clock + AllocGlobal>(rt: &R, count: usize) -> Result<Report> {
         flushed,
         asked,
         outcomes,
+        taken,
     }))
 }
 
@@ -209,6 +220,11 @@ fn settled<R: Clock + AllocGlobal>(rt: &R, count: usize) -> Result<Report> {
 fn answered<R: Clock + AllocGlobal>(rt: &R, count: usize) -> Result<Report> {
     let (asked, elapsed) = play_requests(rt, count)?;
     Ok(Report::Asked(asked, elapsed))
+}
+
+fn taken<R: Clock + AllocGlobal>(rt: &R, count: usize) -> Result<Report> {
+    let (taken, elapsed) = play_through(rt, count)?;
+    Ok(Report::Taken(taken, elapsed))
 }
 
 fn timed<R: Clock + AllocGlobal>(rt: &R, count: usize) -> Result<Report> {
@@ -246,6 +262,7 @@ fn found<R: Clock + AllocGlobal>(rt: &R, command: Command) -> Result<Report> {
         Command::Links(count) => linked(rt, count),
         Command::Flushes(count) => settled(rt, count),
         Command::Requests(count) => answered(rt, count),
+        Command::Core(count) => taken(rt, count),
         Command::Code(work, mix, count) => measured(rt, work, mix, count),
     }
 }
@@ -270,7 +287,7 @@ fn main(rt: HostRuntime) -> ExitCode {
         Ok(Some(report)) => print(&rt, &report),
         Ok(None) => {
             let _ = eprintln!(rt;
-                "usage: nats_bench count|time|links|flushes|requests N, or decode|encode|publish MIX N; \
+                "usage: nats_bench count|time|links|flushes|requests|core N, or decode|encode|publish MIX N; \
                  N is at most {TURN_LIMIT}, MIX small, large, hmsg or mixed"
             );
             UNKNOWN

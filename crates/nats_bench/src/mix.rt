@@ -1,7 +1,5 @@
 //! The list of turns that is played.
-ghost use Rattle.std.specs.Prelude.{◌≡◌, ◌<◌, ◌++◌, length, codes, decimal, IfOk, None};
-ghost use Rattle.nats_history.specs.declared.call.Call.TheVariants as calls;
-ghost use Rattle.nats_history.specs.declared.turn.Turn.TheVariants as turns;
+ghost use Rattle.std.specs.Prelude.{◌<◌, length, IfOk};
 
 use nats_session::{Bytes, Call, NoMemory, ServerInfo, Subject, Turn};
 use std::alloc::Global;
@@ -12,9 +10,7 @@ const SUBSCRIPTIONS: u64 = 100;
 /// How many bytes the link takes at a time.
 const WRITTEN: u64 = 64;
 
-fn subscribe(alloc: Global, number: u64) -> Result<Turn, NoMemory>
-    ensures { IfOk result (λ turn. turn ≡ turns.Do (calls.Subscribe (codes "bench." ++ decimal number) None)) }
-{
+fn subscribe(alloc: Global, number: u64) -> Result<Turn, NoMemory> {
     let subject = format!(in alloc; "bench.{number}")?;
     Ok(Turn::Do(Call::Subscribe {
         subject: Subject::from_text(alloc, subject.as_str())?,
@@ -22,10 +18,7 @@ fn subscribe(alloc: Global, number: u64) -> Result<Turn, NoMemory>
     }))
 }
 
-fn message(alloc: Global, number: u64) -> Result<Turn, NoMemory>
-    ensures { IfOk result (λ turn. turn ≡ turns.Piece
-        (codes "MSG bench." ++ (decimal number ++ (codes " " ++ (decimal number ++ codes " 11\r\nHello World\r\n"))))) }
-{
+fn message(alloc: Global, number: u64) -> Result<Turn, NoMemory> {
     let text = format!(in alloc; "MSG bench.{number} {number} 11\r\nHello World\r\n")?;
     let bytes = Bytes::copy_from_slice(alloc, text.as_bytes())?;
     Ok(Turn::Piece(bytes))
@@ -68,9 +61,7 @@ fn turn_at<'a>(opening: &'a [Turn], round: &'a [Turn], index: usize) -> &'a Turn
 
 /// The mixed list of `count` turns: the opening, then the round again and again, cut where it is long enough. Equal
 /// pieces share their bytes.
-pub fn mixed_turns(alloc: Global, count: usize) -> Result<Vec<Turn>, NoMemory>
-    ensures { IfOk result (λ turns. length turns.items ≡ count) }
-{
+pub fn mixed_turns(alloc: Global, count: usize) -> Result<Vec<Turn>, NoMemory> {
     let opening = opening(alloc)?;
     let round = round(alloc)?;
     let mut turns = Vec::new(alloc);

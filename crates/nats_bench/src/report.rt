@@ -1,12 +1,11 @@
 //! What a command found, as it is printed.
-ghost use Rattle.std.specs.Prelude.{◌≡◌, ◌*◌, ◌/◌, max};
-ghost use Rattle.std.specs.Duration.{as_nanos};
 
 use crate::carry::Carried;
 use crate::churn::Left;
 use crate::counts::Counts;
 use crate::flushes::Flushed;
 use crate::requests::Asked;
+use crate::through::Taken;
 use crate::wire::{Measured, Outcome};
 use std::fmt;
 use std::time::Duration;
@@ -37,9 +36,11 @@ pub struct Counted {
     pub asked: Asked,
     /// What a stream of the wire came to, of each kind and mix.
     pub outcomes: Vec<Outcome>,
+    /// What messages came to that were taken through a core.
+    pub taken: Taken,
 }
 
-/// Prints a line for each count, and one for each stream.
+/// Prints a line for each count, one for each stream, and those of the core.
 impl fmt::Display for Counted {
     fn fmt<W: fmt::Write>(&self, f: &mut fmt::Formatter<W>) -> fmt::Result {
         write!(f, "{}{}{}", self.counts, self.left, self.carried)?;
@@ -47,7 +48,7 @@ impl fmt::Display for Counted {
         for outcome in self.outcomes.as_slice() {
             writeln!(f, "{outcome}")?;
         }
-        Ok(())
+        write!(f, "{}", self.taken)
     }
 }
 
@@ -66,12 +67,12 @@ pub enum Report {
     Flushed(Flushed, Duration),
     /// What requests came to, and how long that took.
     Asked(Asked, Duration),
+    /// What messages came to that were taken through a core, and how long that took.
+    Taken(Taken, Duration),
 }
 
 /// How many of `count` are a second's share; a time of nothing is taken as one nanosecond.
-fn per_second(count: usize, elapsed: Duration) -> u128
-    ensures { result ≡ count * 1000000000 / max 1 (as_nanos elapsed) }
-{
+fn per_second(count: usize, elapsed: Duration) -> u128 {
     count as u128 * 1_000_000_000 / elapsed.as_nanos().max(1)
 }
 
@@ -114,6 +115,10 @@ impl fmt::Display for Report {
             Report::Asked(asked, elapsed) => {
                 let millis = elapsed.as_millis();
                 write!(f, "{asked}in {millis} ms\n")
+            }
+            Report::Taken(taken, elapsed) => {
+                let millis = elapsed.as_millis();
+                write!(f, "{taken}in {millis} ms\n")
             }
         }
     }
