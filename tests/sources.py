@@ -8,6 +8,7 @@ from pathlib import Path
 TOP = Path(__file__).resolve().parent.parent
 CLAUSE = re.compile(r"\b(ensures|requires)\*?\s+(\w+\s+)?\{")
 FUNCTION = re.compile(r"^(\s*)(pub(?:\([^)]*\))? )?(?:final )?(?:const )?(?:unsafe )?fn (\w+)")
+HIDDEN = re.compile(r"^(?:pub\([^)]*\) )?(?:struct|enum) (\w+)", re.M)
 GHOST_USE = re.compile(r"ghost use Rattle\.(\w+)\.specs\.([\w.]+)\.\{([^}]*)\}")
 
 
@@ -60,7 +61,8 @@ def owner_of(line):
 def functions(crate):
     """Yields the functions of a crate but for those of its tests."""
     for file in sorted((TOP / "crates" / crate / "src").rglob("*.rt")):
-        lines = file.read_text(encoding="utf-8").splitlines()
+        text = file.read_text(encoding="utf-8")
+        lines, hidden = text.splitlines(), set(HIDDEN.findall(text))
         owner, in_trait, skip = "", False, False
         for at, line in enumerate(lines):
             if line.startswith("#[cfg(test)]") or line.startswith("#[test]"):
@@ -80,7 +82,8 @@ def functions(crate):
                 head.append(further)
                 if further.rstrip().endswith(";") and further.startswith(m[1] + "    ens"):
                     break
-            public = bool(m[2] and "(" not in m[2]) or (in_trait and bool(m[1]))
+            is_hidden = bool(m[1]) and owner in hidden
+            public = bool(m[2] and "(" not in m[2] and not is_hidden) or (in_trait and bool(m[1]))
             yield Function(file, at + 1, owner if m[1] else "", public, m[3], "\n".join(head))
 
 
