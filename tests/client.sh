@@ -91,6 +91,15 @@ ended() {
     [ "$got" -eq "$2" ] || fail "$1: status $got, wanted $2: $(cat "$folder/$1.err")"
 }
 
+# shown NAME LINE: waits up to ten seconds for a line of what it prints
+shown() {
+    for _ in $(seq 200); do
+        grep -qx -- "$2" "$folder/$1.out" && return 0
+        sleep 0.05
+    done
+    fail "$1: no line '$2'"
+}
+
 # a message with headers and a reply, and one from standard input
 serve -1
 listen plain sub plain.one --count 2
@@ -147,10 +156,12 @@ ended taken 0
 rated "$folder/taken" Sub 1000
 halt
 
-# numbered messages on two links, between which the server is killed: what comes is in order, and none comes twice
+# numbered messages on two links, between which the server is killed once the first half came, since what a killed server still held is lost:
+# what comes is in order, and none comes twice
 serve "$port"
 listen flow sub flow.n --count 200
 for k in $(seq 100); do "$program" pub flow.n "$k" > /dev/null || fail "a publish on the first link"; done
+shown flow 100
 halt
 serve "$port"
 await 'SUB flow.n '
